@@ -1,0 +1,43 @@
+ghost use Rattle.std.specs.Prelude.{◌≡◌, ◌<◌, ◌≤◌, ◌^◌, ◌↔◌, IsSome, IfSome};
+ghost use Rattle.lt_ids.specs.Ticket.{IsNumber};
+
+use crate::{Timestamp, TxnId};
+
+/// What a request means to do with a key.
+#[derive(Clone, Copy, Debug, PartialEq, Eq)]
+pub enum Access {
+    Read,
+    Write,
+}
+
+/// A request of a transaction. Its number says how early it came, and the pass who makes its calls.
+#[derive(Clone, Copy, Debug, PartialEq, Eq)]
+pub struct Request {
+    pub number: u64,
+    pub txn: TxnId,
+    pub ts: Timestamp,
+    pub pass: u32,
+    pub ghost number_in_range: { IsNumber number },
+    pub ghost pass_in_range: { (1 ≤ pass) × (pass ≤ 1024) },
+}
+
+impl Request {
+    /// The request, or `None` unless its number is 1 to 2^40 - 1 and its pass 1 to 1024.
+    pub fn new(number: u64, txn: TxnId, ts: Timestamp, pass: u32) -> Option<Request>
+        ensures some { IsSome result ↔ (IsNumber number × (1 ≤ pass) × (pass ≤ 1024)) }
+        ensures number { IfSome result (λ r. r.number ≡ number) }
+        ensures txn { IfSome result (λ r. r.txn ≡ txn) }
+        ensures ts { IfSome result (λ r. r.ts ≡ ts) }
+        ensures pass { IfSome result (λ r. r.pass ≡ pass) }
+    {
+        if number == 0 || number >= 1 << 40 || pass == 0 || pass > 1024 {
+            return None;
+        }
+        Some(Request {
+            number,
+            txn,
+            ts,
+            pass,
+        })
+    }
+}

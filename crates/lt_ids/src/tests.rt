@@ -1,0 +1,63 @@
+use crate::{IdError, Key, Request, Ticket, Timestamp, TxnId};
+use std::test::Fail;
+
+#[test]
+fn keys_are_up_to_64_printable_bytes(rt: HostRuntime) -> Result<(), Fail> {
+    let longest = Key::from_bytes(rt.alloc(), &[b'k'; 64])?;
+    assert_eq!(rt; longest.as_bytes(), [b'k'; 64].as_slice());
+    let too_long = Key::from_bytes(rt.alloc(), &[b'k'; 65]);
+    assert_eq!(rt; too_long, Err(IdError::KeyTooLong));
+    let too_long_first = Key::from_bytes(rt.alloc(), &[b' '; 65]);
+    assert_eq!(rt; too_long_first, Err(IdError::KeyTooLong));
+    assert_eq!(rt; Key::from_bytes(rt.alloc(), b""), Err(IdError::KeyEmpty));
+    for (bytes, place) in [
+        (b"a b".as_slice(), 1),
+        (b"\x7f".as_slice(), 0),
+        (b"!~\n ".as_slice(), 2),
+    ] {
+        let refused = Key::from_bytes(rt.alloc(), bytes);
+        assert_eq!(rt; refused, Err(IdError::KeyByte(place)));
+    }
+    let key = Key::from_bytes(rt.alloc(), b"ab")?;
+    assert_eq!(rt; key.copy()?, key);
+    Ok(())
+}
+
+#[test]
+fn a_ticket_is_a_number_and_a_wait_in_one_word(rt: HostRuntime) -> Result<(), Fail> {
+    for (number, wait, value) in [
+        (1, 1, Some(16777217)),
+        ((1 << 40) - 1, (1 << 24) - 1, Some(18446744073709551615)),
+        (0, 1, None),
+        (1 << 40, 1, None),
+        (1, 0, None),
+        (1, 1 << 24, None),
+    ] {
+        let parts = Ticket::new(number, wait).map(|t| (t.number(), t.wait(), t.value()));
+        assert_eq!(rt; parts, value.map(|value| (number, wait, value)));
+    }
+    Ok(())
+}
+
+#[test]
+fn transactions_and_requests_keep_their_ranges(rt: HostRuntime) -> Result<(), Fail> {
+    assert_eq!(rt; TxnId::new(0), None);
+    let txn = TxnId::new(u64::MAX).ok_or("the greatest transaction")?;
+    assert_eq!(rt; txn.number(), u64::MAX);
+    let ts = Timestamp {
+        wall: 0,
+        logical: 0,
+    };
+    for (number, pass, is_some) in [
+        (1, 1, true),
+        ((1 << 40) - 1, 1024, true),
+        (0, 1, false),
+        (1 << 40, 1, false),
+        (1, 0, false),
+        (1, 1025, false),
+    ] {
+        let request = Request::new(number, txn, ts, pass);
+        assert_eq!(rt; request.is_some(), is_some);
+    }
+    Ok(())
+}
