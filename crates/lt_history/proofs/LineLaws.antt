@@ -1,0 +1,119 @@
+-- A line that is read is a line, and is written as it stands; each line is read again.
+use Rattle.std.proofs.Common.{◌≡◌, ◌≢◌, ℕ, ◌<◌, List, [], ◌∷◌, ◌++◌, length, Option, Some, None, Result, Ok, Err, eqb, refl, sym, ap, subst, ◌∙◌, append_assoc, arith}
+use Rattle.std.specs.Prelude.{IfOk, IfErr}
+use Rattle.std.specs.List.{slice_split, join_with_byte}
+use Rattle.std.proofs.lemmas.Option.{some_pair_parts}
+use Rattle.std.proofs.lemmas.List.{append_cancel_right, length-append}
+use Rattle.std.proofs.lemmas.List.Splits.{join_with_byte-slice_split}
+use Rattle.lt_history.specs.declared.error.Fault.{Fault}
+use Rattle.lt_history.specs.declared.error.Fault.TheVariants.{Header, Shape, KeyOrder, Index, WrongReply, WrongLets}
+use Rattle.lt_history.specs.declared.error.Refusal.{Refusal}
+use Rattle.lt_history.specs.declared.error.Refusal.TheVariants as refusals
+use Rattle.lt_history.specs.declared.line.Line.{Line}
+use Rattle.lt_text.specs.Words.{cut_of}
+use Rattle.lt_history.specs.Lines.{Parts, IsLine, line_words, line_text, parts_at, parts_of, Reads, IsMisread, IsShapeless}
+use Rattle.lt_history.specs.Text.{Spot, Follows, IsWrong, IsWrongOr, HasFault, HasFaultOr, TakesLine, spot_after}
+use Rattle.lt_text.proofs.Plain.{cut_again, cut_takes, split_join, no_line_end, ArePlain}
+use Rattle.lt_history.proofs.PartsLaws.{parts_takes, parts_again, parts_plain}
+
+text_is : (bytes : List ℕ) (p : Parts) → slice_split (λ b. eqb b 32) bytes ≡ line_words p → line_text p ≡ bytes ++ 10 ∷ []
+unfolding line_text
+text_is bytes p e =
+    ap (λ (ws : List (List ℕ)). join_with_byte 32 ws ++ 10 ∷ []) (sym e) ∙ ap (λ (t : List ℕ). t ++ 10 ∷ []) (join_with_byte-slice_split 32 bytes)
+
+-- ---- what reading a line says
+
+pub read_is_line : (bytes : List ℕ) (r : Result Line Refusal) → Reads parts_of r (parts_at (slice_split (λ b. eqb b 32) bytes)) → IfOk r (λ l. IsLine (parts_of l))
+read_is_line bytes (Ok l) h = (parts_takes (slice_split (λ b. eqb b 32) bytes) (parts_of l) h).1
+read_is_line bytes (Err e) h = tt
+
+pub read_is_text : (bytes : List ℕ) (r : Result Line Refusal) → Reads parts_of r (parts_at (slice_split (λ b. eqb b 32) bytes)) → IfOk r (λ l. line_text (parts_of l) ≡ bytes ++ 10 ∷ [])
+read_is_text bytes (Ok l) h = text_is bytes (parts_of l) (parts_takes (slice_split (λ b. eqb b 32) bytes) (parts_of l) h).0
+read_is_text bytes (Err e) h = tt
+
+-- The words of a line stand in its text.
+same_front : (a b : List ℕ) → a ++ 10 ∷ [] ≡ b ++ 10 ∷ [] → a ≡ b
+same_front a b e = append_cancel_right a b (10 ∷ []) e
+
+words_are : (bytes : List ℕ) (p : Parts) → IsLine p → line_text p ≡ bytes ++ 10 ∷ [] → slice_split (λ b. eqb b 32) bytes ≡ line_words p
+unfolding line_text
+words_are bytes p h e =
+    ap (λ (t : List ℕ). slice_split (λ b. eqb b 32) t) (sym (same_front (join_with_byte 32 (line_words p)) bytes e)) ∙ split_join p.key _ (parts_plain p h)
+
+no_value : (p : Parts) (o : Option Parts) → o ≡ Some p → o ≡ None → ⊥
+no_value p o e f = absurd (let g : ◌≡◌ {A = Option Parts} (Some p) None = sym e ∙ f in cc)
+
+pub unread : (bytes : List ℕ) (r : Result Line Refusal) → Reads parts_of r (parts_at (slice_split (λ b. eqb b 32) bytes)) → IfErr r (λ e. IsShapeless e bytes)
+unread bytes (Ok l) h = tt
+unread bytes (Err refusals.Memory) h = tt
+unread bytes (Err (refusals.Fault Shape)) h = λ p line e. no_value p (parts_at (line_words p)) (parts_again p line) (ap parts_at (sym (words_are bytes p line e)) ∙ h)
+unread bytes (Err (refusals.Fault Header)) h = h
+unread bytes (Err (refusals.Fault KeyOrder)) h = h
+unread bytes (Err (refusals.Fault Index)) h = h
+unread bytes (Err (refusals.Fault WrongReply)) h = h
+unread bytes (Err (refusals.Fault WrongLets)) h = h
+
+-- ---- a line at the front of a text
+
+line_cut : (p : Parts) (more : List ℕ) → IsLine p → cut_of 10 (line_text p ++ more) ≡ Some (join_with_byte 32 (line_words p), more)
+unfolding line_text
+line_cut p more h =
+    ap (λ (t : List ℕ). cut_of 10 t) (append_assoc (join_with_byte 32 (line_words p)) (10 ∷ []) more)
+    ∙ cut_again 10 (join_with_byte 32 (line_words p)) more (no_line_end (line_words p) (parts_plain p h))
+
+nonempty : (text : List ℕ) → 0 < length text → text ≢ []
+nonempty [] lt = absurd (omega arith)
+nonempty (b ∷ bs) lt = λ e. absurd cc
+
+no_pair : (x : List ℕ × List ℕ) → ◌≡◌ {A = Option (List ℕ × List ℕ)} None (Some x) → ⊥
+no_pair x e = absurd cc
+
+pub uncut_is_shapeless : (s : Spot) (text : List ℕ) → 0 < length text → cut_of 10 text ≡ None → HasFault s text Shape
+uncut_is_shapeless s text lt e = (nonempty text lt, λ p more line same. no_pair (join_with_byte 32 (line_words p), more) (sym e ∙ (ap (λ (t : List ℕ). cut_of 10 t) same ∙ line_cut p more line)))
+
+bytes_are : (text bytes rest : List ℕ) (p : Parts) (more : List ℕ) → IsLine p → cut_of 10 text ≡ Some (bytes, rest) → text ≡ line_text p ++ more → line_text p ≡ bytes ++ 10 ∷ []
+unfolding line_text
+bytes_are text bytes rest p more line cut same =
+    let e = some_pair_parts (join_with_byte 32 (line_words p)) bytes more rest (sym (line_cut p more line) ∙ (ap (λ (t : List ℕ). cut_of 10 t) (sym same) ∙ cut)) in
+    ap (λ (t : List ℕ). t ++ 10 ∷ []) e.0
+
+pub shapeless : (s : Spot) (text bytes rest : List ℕ) (e : Refusal) → 0 < length text → cut_of 10 text ≡ Some (bytes, rest) → IsShapeless e bytes → HasFaultOr s text e
+shapeless s text bytes rest refusals.Memory lt cut h = tt
+shapeless s text bytes rest (refusals.Fault Shape) lt cut h = (nonempty text lt, λ p more line same. h p line (bytes_are text bytes rest p more line cut same))
+shapeless s text bytes rest (refusals.Fault Header) lt cut h = h
+shapeless s text bytes rest (refusals.Fault KeyOrder) lt cut h = absurd h
+shapeless s text bytes rest (refusals.Fault Index) lt cut h = absurd h
+shapeless s text bytes rest (refusals.Fault WrongReply) lt cut h = absurd h
+shapeless s text bytes rest (refusals.Fault WrongLets) lt cut h = absurd h
+
+joined_front : (text bytes rest : List ℕ) (p : Parts) → cut_of 10 text ≡ Some (bytes, rest) → line_text p ≡ bytes ++ 10 ∷ [] → text ≡ line_text p ++ rest
+joined_front text bytes rest p cut e =
+    cut_takes 10 text bytes rest cut ∙ (sym (append_assoc bytes (10 ∷ []) rest) ∙ ap (λ (t : List ℕ). t ++ rest) (sym e))
+
+pub wrong : (s : Spot) (text bytes rest : List ℕ) (p : Parts) (e : Refusal) → IsLine p → cut_of 10 text ≡ Some (bytes, rest) → line_text p ≡ bytes ++ 10 ∷ [] → IsWrongOr s p e → HasFaultOr s text e
+wrong s text bytes rest p refusals.Memory line cut same h = tt
+wrong s text bytes rest p (refusals.Fault Header) line cut same h = h
+wrong s text bytes rest p (refusals.Fault Shape) line cut same h = absurd h
+wrong s text bytes rest p (refusals.Fault KeyOrder) line cut same h = (p, rest, line, joined_front text bytes rest p cut same, h)
+wrong s text bytes rest p (refusals.Fault Index) line cut same h = (p, rest, line, joined_front text bytes rest p cut same, h)
+wrong s text bytes rest p (refusals.Fault WrongReply) line cut same h = (p, rest, line, joined_front text bytes rest p cut same, h)
+wrong s text bytes rest p (refusals.Fault WrongLets) line cut same h = (p, rest, line, joined_front text bytes rest p cut same, h)
+
+pub takes : (s next : Spot) (text bytes rest : List ℕ) (p : Parts) → IsLine p → cut_of 10 text ≡ Some (bytes, rest) → line_text p ≡ bytes ++ 10 ∷ [] → Follows s p → next ≡ spot_after s p → TakesLine s text next rest
+takes s next text bytes rest p line cut same follows leads = record { parts = p; line = line; joined = joined_front text bytes rest p cut same; follows = follows; leads = leads }
+
+-- ---- a text has one reading
+
+same_Some : (p q : Parts) → ◌≡◌ {A = Option Parts} (Some p) (Some q) → p ≡ q
+same_Some p q e = cc
+
+pub one_line : (p q : Parts) (x y : List ℕ) → IsLine p → IsLine q → line_text p ++ x ≡ line_text q ++ y → (p ≡ q) × (x ≡ y)
+one_line p q x y hp hq e =
+    let cut = some_pair_parts (join_with_byte 32 (line_words p)) (join_with_byte 32 (line_words q)) x y (sym (line_cut p x hp) ∙ (ap (λ (t : List ℕ). cut_of 10 t) e ∙ line_cut q y hq)) in
+    let words : line_words p ≡ line_words q =
+    sym (split_join p.key _ (parts_plain p hp)) ∙ (ap (λ (t : List ℕ). slice_split (λ b. eqb b 32) t) cut.0 ∙ split_join q.key _ (parts_plain q hq)) in
+    (same_Some p q (sym (parts_again p hp) ∙ (ap parts_at words ∙ parts_again q hq)), cut.1)
+
+pub no_empty_line : (p : Parts) (more : List ℕ) → [] ≡ line_text p ++ more → ⊥
+unfolding line_text
+no_empty_line p more e = absurd (omega (arith, ap length e, length-append {A = ℕ}))

@@ -1,0 +1,33 @@
+-- A list is cut at the first of its bytes.
+use Rattle.std.proofs.Common.{◌≡◌, ℕ, ◌<◌, ◌≤◌, Bool, true, false, cond, eqb, ltb, List, [], ◌∷◌, ◌++◌, ◌+◌, length, get_or, take, drop, Option, Some, None, refl, sym, ap, ◌∙◌, arith}
+use Rattle.std.specs.Prelude.{position}
+use Rattle.std.specs.List.{slice_split, position_or_len, before_first, after_first, All}
+use Rattle.std.proofs.lemmas.Bool.{ltb-true, ltb-false}
+use Rattle.std.proofs.lemmas.Option.{cond_some, some_pair_parts}
+use Rattle.std.proofs.lemmas.List.{drop-drop}
+use Rattle.std.proofs.lemmas.List.Splits.{slice_split_first, slice_split_none, slice_split_at}
+use Rattle.std.proofs.lemmas.List.Sums.{fails_before_first}
+use Rattle.lt_text.specs.Words.{cut_of}
+
+cond_none : {A : Type 0} (b : Bool) (x : A) → cond b (Some x) None ≡ None → b ≡ false
+cond_none true x e = absurd cc
+cond_none false x e = refl
+
+pub cut_of_none : (c : ℕ) (bytes : List ℕ) → position (λ b. eqb b c) bytes ≡ None → cut_of c bytes ≡ None
+cut_of_none c bytes e = rw (cond_none _ _ e) refl
+
+pub cut_of_at : (c : ℕ) (bytes : List ℕ) (i : ℕ) → position (λ b. eqb b c) bytes ≡ Some i → cut_of c bytes ≡ Some (take i bytes, drop (i + 1) bytes)
+cut_of_at c bytes i e =
+    let p = cond_some _ (position_or_len (λ b. eqb b c) bytes) i e in
+    rw (p.0, p.1) refl
+
+pub slice_split_cut : (c : ℕ) (bytes word rest : List ℕ) → cut_of c bytes ≡ Some (word, rest) → slice_split (λ b. eqb b c) bytes ≡ word ∷ slice_split (λ b. eqb b c) rest
+slice_split_cut c bytes word rest e =
+    let p = cond_some _ (before_first (λ b. eqb b c) bytes, after_first (λ b. eqb b c) bytes) (word, rest) e in
+    let lt = ltb-true (position_or_len (λ b. eqb b c) bytes) (length bytes) p.0 in
+    slice_split_first (λ b. eqb b c) bytes 0 lt ∙ ap (λ (t : List ℕ × List ℕ). t.0 ∷ slice_split (λ b. eqb b c) t.1) p.1
+
+pub slice_split_uncut : (c : ℕ) (bytes : List ℕ) → cut_of c bytes ≡ None → slice_split (λ b. eqb b c) bytes ≡ bytes ∷ []
+slice_split_uncut c bytes e =
+    let le = ltb-false _ _ (cond_none _ _ e) in
+    slice_split_none (λ b. eqb b c) bytes (λ i x lt. fails_before_first (λ b. eqb b c) bytes i x (omega arith))

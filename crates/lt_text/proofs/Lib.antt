@@ -1,0 +1,7 @@
+pub mod Numbers
+pub mod Cuts
+pub mod Plain
+pub mod FieldLaws
+pub mod CallLaws
+pub mod ReplyLaws
+pub mod ReplyFits

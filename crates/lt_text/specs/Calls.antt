@@ -1,0 +1,87 @@
+-- The calls as words, and read from words.
+use Rattle.std.specs.Prelude.{ℕ, ◌≡◌, ◌^◌, ◌<◌, ◌≤◌, if◌then◌else◌, List, [], ◌∷◌, Option, Some, None, decimal, codes}
+use Rattle.std.specs.Str.{bytes_eq}
+use Rattle.lt_ids.specs.Ticket.{IsNumber}
+use Rattle.lt_plain.specs.declared.call.Call.{Call}
+use Rattle.lt_plain.specs.declared.call.Call.TheVariants.{Visit, Acquire, Update, Finish, Leave, Look}
+use Rattle.lt_text.specs.Maybe.{◌>>=◌}
+use Rattle.lt_text.specs.Fields.{ticket_word, time_word, access_word, IsTxn, IsTicket, IsTime, number_within, ticket_of, time_of, access_of}
+
+-- the words of a call
+abbrev pub call_words : Call → List (List ℕ)
+call_words (Visit ticket txn ts access) = codes "visit" ∷ ticket_word ticket ∷ decimal txn ∷ time_word ts ∷ access_word access ∷ []
+call_words (Acquire txn ts) = codes "acquire" ∷ decimal txn ∷ time_word ts ∷ []
+call_words (Update txn ts) = codes "update" ∷ decimal txn ∷ time_word ts ∷ []
+call_words (Finish txn) = codes "finish" ∷ decimal txn ∷ []
+call_words (Leave number) = codes "leave" ∷ decimal number ∷ []
+call_words (Look number) = codes "look" ∷ decimal number ∷ []
+
+-- Its numbers are in their ranges.
+abbrev pub IsCall : Call → Type 0
+IsCall (Visit ticket txn ts access) = IsTicket ticket × IsTxn txn × IsTime ts
+IsCall (Acquire txn ts) = IsTxn txn × IsTime ts
+IsCall (Update txn ts) = IsTxn txn × IsTime ts
+IsCall (Finish txn) = IsTxn txn
+IsCall (Leave number) = IsNumber number
+IsCall (Look number) = IsNumber number
+
+-- ---- reading
+
+-- What was read of the words, and left of them, is what reading gives.
+abbrev pub Gives : {A : Type 0} → Option A → List (List ℕ) → Option (A × List (List ℕ)) → Type 0
+Gives None rest read = read ≡ None
+Gives (Some x) rest read = read ≡ Some (x, rest)
+
+-- the first word, read so, and the words after it
+abbrev pub field_at : {A : Type 0} → (List ℕ → Option A) → List (List ℕ) → Option (A × List (List ℕ))
+field_at read [] = None
+field_at read (word ∷ words) = read word >>= λ x. Some (x, words)
+
+unfoldable pub visit_at : List (List ℕ) → Option (Call × List (List ℕ))
+visit_at words = do
+  ticket ← field_at ticket_of words
+  txn ← field_at (number_within 1 (2 ^ 64)) ticket.1
+  ts ← field_at time_of txn.1
+  access ← field_at access_of ts.1
+  Some (Visit ticket.0 txn.0 ts.0 access.0, access.1)
+
+unfoldable pub acquire_at : List (List ℕ) → Option (Call × List (List ℕ))
+acquire_at words = do
+  txn ← field_at (number_within 1 (2 ^ 64)) words
+  ts ← field_at time_of txn.1
+  Some (Acquire txn.0 ts.0, ts.1)
+
+unfoldable pub update_at : List (List ℕ) → Option (Call × List (List ℕ))
+update_at words = do
+  txn ← field_at (number_within 1 (2 ^ 64)) words
+  ts ← field_at time_of txn.1
+  Some (Update txn.0 ts.0, ts.1)
+
+unfoldable pub finish_at : List (List ℕ) → Option (Call × List (List ℕ))
+finish_at words = do
+  txn ← field_at (number_within 1 (2 ^ 64)) words
+  Some (Finish txn.0, txn.1)
+
+unfoldable pub leave_at : List (List ℕ) → Option (Call × List (List ℕ))
+leave_at words = do
+  number ← field_at (number_within 1 (2 ^ 40)) words
+  Some (Leave number.0, number.1)
+
+unfoldable pub look_at : List (List ℕ) → Option (Call × List (List ℕ))
+look_at words = do
+  number ← field_at (number_within 1 (2 ^ 40)) words
+  Some (Look number.0, number.1)
+
+unfoldable pub call_of : List ℕ → List (List ℕ) → Option (Call × List (List ℕ))
+call_of name words =
+    if bytes_eq name (codes "visit") then visit_at words
+    else if bytes_eq name (codes "acquire") then acquire_at words
+    else if bytes_eq name (codes "update") then update_at words
+    else if bytes_eq name (codes "finish") then finish_at words
+    else if bytes_eq name (codes "leave") then leave_at words
+    else if bytes_eq name (codes "look") then look_at words
+    else None
+
+abbrev pub call_at : List (List ℕ) → Option (Call × List (List ℕ))
+call_at [] = None
+call_at (name ∷ words) = call_of name words

@@ -1,0 +1,66 @@
+-- What the words inside a line spell, and how each is written.
+use Rattle.std.specs.Prelude.{ℕ, ◌^◌, ◌<◌, ◌≤◌, ◌&&◌, nat_lt, nat_le, if◌then◌else◌, List, [], ◌∷◌, ◌++◌, Option, Some, None, decimal, codes}
+use Rattle.std.specs.Str.{bytes_eq}
+use Rattle.lt_ids.specs.Ticket.{Wait, IsNumber, IsWaitNumber}
+use Rattle.lt_ids.specs.declared.timestamp.Timestamp.{Timestamp}
+use Rattle.lt_ids.specs.declared.request.Access.{Access}
+use Rattle.lt_ids.specs.declared.request.Access.TheVariants.{Read, Write}
+use Rattle.lt_text.specs.Maybe.{◌>>=◌}
+use Rattle.lt_text.specs.Words.{cut_of}
+use Rattle.lt_text.specs.Number.{number_of}
+
+-- ---- as it is written
+
+-- two numbers with a dot between them
+abbrev pub pair_word : ℕ → ℕ → List ℕ
+pair_word m n = decimal m ++ 46 ∷ decimal n
+
+abbrev pub ticket_word : Wait → List ℕ
+ticket_word t = pair_word t.number t.wait
+
+abbrev pub time_word : Timestamp → List ℕ
+time_word ts = pair_word ts.wall ts.logical
+
+abbrev pub access_word : Access → List ℕ
+access_word Read = codes "r"
+access_word Write = codes "w"
+
+-- ---- what can be written
+
+abbrev pub IsTxn : ℕ → Type 0
+IsTxn n = (1 ≤ n) × (n < 2 ^ 64)
+
+abbrev pub IsTicket : Wait → Type 0
+IsTicket t = IsNumber t.number × IsWaitNumber t.wait
+
+abbrev pub IsTime : Timestamp → Type 0
+IsTime ts = (ts.wall < 2 ^ 64) × (ts.logical < 2 ^ 32)
+
+-- ---- as it is read
+
+-- the number of the word, if it is low or more and below limit
+abbrev pub number_within : ℕ → ℕ → List ℕ → Option ℕ
+number_within low limit word = do
+  n ← number_of word
+  if nat_le low n && nat_lt n limit then Some n else None
+
+-- the numbers before and after the first dot, below these limits
+abbrev pub pair_of : List ℕ → Option (ℕ × ℕ)
+pair_of word = do
+  parts ← cut_of 46 word
+  m ← number_of parts.0
+  n ← number_of parts.1
+  Some (m, n)
+
+unfoldable pub ticket_of : List ℕ → Option Wait
+ticket_of word = do
+  t ← pair_of word
+  if nat_le 1 t.0 && nat_lt t.0 (2 ^ 40) && nat_le 1 t.1 && nat_lt t.1 (2 ^ 24) then Some (record { number = t.0; wait = t.1 }) else None
+
+unfoldable pub time_of : List ℕ → Option Timestamp
+time_of word = do
+  ts ← pair_of word
+  if nat_lt ts.1 (2 ^ 32) then Some (record { wall = ts.0; logical = ts.1 }) else None
+
+unfoldable pub access_of : List ℕ → Option Access
+access_of word = if bytes_eq word (codes "r") then Some Read else (if bytes_eq word (codes "w") then Some Write else None)

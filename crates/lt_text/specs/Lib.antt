@@ -1,0 +1,7 @@
+pub mod Maybe
+pub mod Words
+pub mod Number
+pub mod Fields
+pub mod Calls
+pub mod Replies
+pub mod Compose

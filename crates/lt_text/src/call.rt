@@ -1,0 +1,110 @@
+ghost use Rattle.std.specs.Prelude.{◌≡◌, ◌^◌};
+ghost use Rattle.lt_text.specs.Fields.{number_within};
+ghost use Rattle.lt_text.specs.Calls.{Gives, visit_at, acquire_at, update_at, finish_at, leave_at, look_at, call_of, call_at};
+
+use crate::words::Words;
+use crate::field::{access, ticket, timestamp, txn};
+use crate::number::number;
+use lt_plain::Call;
+
+#[tactic(auto, unfolding(crate::specs::Calls::visit_at))]
+fn visit(words: &mut Words) -> Option<Call>
+    ensures { Gives result words.new (visit_at words.old) }
+{
+    let ticket = ticket(words.next()?)?;
+    let txn = txn(words.next()?)?;
+    let ts = timestamp(words.next()?)?;
+    let access = access(words.next()?)?;
+    Some(Call::Visit {
+        ticket,
+        txn,
+        ts,
+        access,
+    })
+}
+
+#[tactic(auto, unfolding(crate::specs::Calls::acquire_at))]
+fn acquire(words: &mut Words) -> Option<Call>
+    ensures { Gives result words.new (acquire_at words.old) }
+{
+    let txn = txn(words.next()?)?;
+    let ts = timestamp(words.next()?)?;
+    Some(Call::Acquire { txn, ts })
+}
+
+#[tactic(auto, unfolding(crate::specs::Calls::update_at))]
+fn update(words: &mut Words) -> Option<Call>
+    ensures { Gives result words.new (update_at words.old) }
+{
+    let txn = txn(words.next()?)?;
+    let ts = timestamp(words.next()?)?;
+    Some(Call::Update { txn, ts })
+}
+
+/// The number of a request.
+pub fn request_number(word: &[u8]) -> Option<u64>
+    ensures { result ≡ number_within 1 (2 ^ 40) word.now }
+{
+    let n = number(word)?;
+    if n == 0 || n >= 1 << 40 {
+        return None;
+    }
+    Some(n)
+}
+
+#[tactic(auto, unfolding(crate::specs::Calls::finish_at))]
+fn finish(words: &mut Words) -> Option<Call>
+    ensures { Gives result words.new (finish_at words.old) }
+{
+    let txn = txn(words.next()?)?;
+    Some(Call::Finish { txn })
+}
+
+#[tactic(auto, unfolding(crate::specs::Calls::leave_at))]
+fn leave(words: &mut Words) -> Option<Call>
+    ensures { Gives result words.new (leave_at words.old) }
+{
+    let number = request_number(words.next()?)?;
+    Some(Call::Leave { number })
+}
+
+#[tactic(auto, unfolding(crate::specs::Calls::look_at))]
+fn look(words: &mut Words) -> Option<Call>
+    ensures { Gives result words.new (look_at words.old) }
+{
+    let number = request_number(words.next()?)?;
+    Some(Call::Look { number })
+}
+
+#[tactic(auto, unfolding(crate::specs::Calls::call_of))]
+fn call_named(name: &[u8], words: &mut Words) -> Option<Call>
+    ensures { Gives result words.new (call_of name.now words.old) }
+{
+    if name == b"visit".as_slice() {
+        return visit(words);
+    }
+    if name == b"acquire".as_slice() {
+        return acquire(words);
+    }
+    if name == b"update".as_slice() {
+        return update(words);
+    }
+    if name == b"finish".as_slice() {
+        return finish(words);
+    }
+    if name == b"leave".as_slice() {
+        return leave(words);
+    }
+    if name == b"look".as_slice() {
+        return look(words);
+    }
+    None
+}
+
+/// The call that the next words spell.
+pub fn call(words: &mut Words) -> Option<Call>
+    ensures { Gives result words.new (call_at words.old) }
+{
+    let name = words.next()?;
+    call_named(name, words)
+}

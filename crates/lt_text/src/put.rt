@@ -1,0 +1,146 @@
+ghost use Rattle.std.specs.Prelude.{◌≡◌, ◌++◌, ◌∷◌, [], OnOk, decimal};
+ghost use Rattle.lt_text.specs.Replies.{held_word, reply_words};
+ghost use Rattle.lt_text.specs.Fields.{pair_word, access_word};
+ghost use Rattle.lt_text.specs.Calls.{call_words};
+ghost use Rattle.lt_text.specs.Compose.{spaced};
+
+use itoa::Buffer;
+use crate::reply::name;
+use lt_ids::{Access, Ticket, Timestamp, TxnId};
+use lt_plain::{Call, Reply};
+use std::alloc::AllocError;
+
+/// Puts the number at the end.
+pub fn put_number(out: &mut Vec<u8>, n: u64) -> Result<(), AllocError>
+    ensures { OnOk result (out.new.items ≡ out.old.items ++ decimal n) }
+{
+    let mut buffer = Buffer::new();
+    out.extend_from_slice(buffer.format(n).as_bytes())
+}
+
+/// Puts two numbers with a dot between them at the end.
+pub fn put_pair(out: &mut Vec<u8>, first: u64, second: u64) -> Result<(), AllocError>
+    ensures { OnOk result (out.new.items ≡ out.old.items ++ pair_word first second) }
+{
+    put_number(out, first)?;
+    out.push(b'.')?;
+    put_number(out, second)
+}
+
+pub fn put_word(out: &mut Vec<u8>, word: &[u8]) -> Result<(), AllocError>
+    ensures { OnOk result (out.new.items ≡ out.old.items ++ 32 ∷ word.now) }
+{
+    out.push(b' ')?;
+    out.extend_from_slice(word)
+}
+
+pub fn put_number_word(out: &mut Vec<u8>, n: u64) -> Result<(), AllocError>
+    ensures { OnOk result (out.new.items ≡ out.old.items ++ 32 ∷ decimal n) }
+{
+    out.push(b' ')?;
+    put_number(out, n)
+}
+
+pub fn put_pair_word(out: &mut Vec<u8>, first: u64, second: u64) -> Result<(), AllocError>
+    ensures { OnOk result (out.new.items ≡ out.old.items ++ 32 ∷ pair_word first second) }
+{
+    out.push(b' ')?;
+    put_pair(out, first, second)
+}
+
+pub fn put_time(out: &mut Vec<u8>, ts: Timestamp) -> Result<(), AllocError>
+    ensures { OnOk result (out.new.items ≡ out.old.items ++ 32 ∷ pair_word ts.wall ts.logical) }
+{
+    put_pair_word(out, ts.wall, ts.logical as u64)
+}
+
+pub fn put_ticket(out: &mut Vec<u8>, ticket: Ticket) -> Result<(), AllocError>
+    ensures { OnOk result (out.new.items ≡ out.old.items ++ 32 ∷ pair_word ticket.number ticket.wait) }
+{
+    put_pair_word(out, ticket.number(), ticket.wait() as u64)
+}
+
+fn access_name(access: Access) -> &'static [u8]
+    ensures { result.now ≡ access_word access }
+{
+    match access {
+        Access::Read => b"r",
+        Access::Write => b"w",
+    }
+}
+
+/// Puts the words of the call at the end, a space before each.
+pub fn put_call(out: &mut Vec<u8>, call: Call) -> Result<(), AllocError>
+    ensures { OnOk result (out.new.items ≡ out.old.items ++ spaced (call_words call)) }
+{
+    match call {
+        Call::Visit {
+            ticket,
+            txn,
+            ts,
+            access,
+        } => {
+            put_word(out, b"visit")?;
+            put_ticket(out, ticket)?;
+            put_number_word(out, txn.number())?;
+            put_time(out, ts)?;
+            put_word(out, access_name(access))
+        }
+        Call::Acquire { txn, ts } => {
+            put_word(out, b"acquire")?;
+            put_number_word(out, txn.number())?;
+            put_time(out, ts)
+        }
+        Call::Update { txn, ts } => {
+            put_word(out, b"update")?;
+            put_number_word(out, txn.number())?;
+            put_time(out, ts)
+        }
+        Call::Finish { txn } => {
+            put_word(out, b"finish")?;
+            put_number_word(out, txn.number())
+        }
+        Call::Leave { number } => {
+            put_word(out, b"leave")?;
+            put_number_word(out, number)
+        }
+        Call::Look { number } => {
+            put_word(out, b"look")?;
+            put_number_word(out, number)
+        }
+    }
+}
+
+fn held_name(is_held: bool) -> &'static [u8]
+    ensures { result.now ≡ held_word is_held }
+{
+    if is_held { b"held" } else { b"reserved" }
+}
+
+fn put_waits(
+    out: &mut Vec<u8>,
+    name: &[u8],
+    txn: TxnId,
+    is_held: bool,
+) -> Result<(), AllocError>
+    ensures { OnOk result (out.new.items ≡ out.old.items ++ spaced (name.now ∷ decimal txn ∷ held_word is_held ∷ [])) }
+{
+    put_word(out, name)?;
+    put_number_word(out, txn.number())?;
+    put_word(out, held_name(is_held))
+}
+
+/// Puts the words of the reply at the end, a space before each.
+pub fn put_reply(out: &mut Vec<u8>, reply: Reply) -> Result<(), AllocError>
+    ensures { OnOk result (out.new.items ≡ out.old.items ++ spaced (reply_words reply)) }
+{
+    match reply {
+        Reply::WaitFor(txn, is_held) => put_waits(out, b"for", txn, is_held),
+        Reply::WaitFirst(txn, is_held) => put_waits(out, b"first", txn, is_held),
+        Reply::WaitOwn(txn) => {
+            put_word(out, b"own")?;
+            put_number_word(out, txn.number())
+        }
+        reply => put_word(out, name(reply)),
+    }
+}

@@ -1,0 +1,174 @@
+ghost use Rattle.std.specs.Prelude.{◌≡◌};
+ghost use Rattle.lt_text.specs.Calls.{Gives};
+ghost use Rattle.lt_text.specs.Replies.{reply_name, fixed_reply, held_of, waits_at, own_at, reply_of, reply_at, is_reply_of, is_visit_reply, is_acquire_reply, is_update_reply, is_finish_reply, is_leave_reply, is_look_reply};
+
+use crate::words::Words;
+use crate::field::txn;
+use lt_plain::{Call, Reply};
+
+/// The first word of a reply.
+pub fn name(reply: Reply) -> &'static [u8]
+    ensures { result.now ≡ reply_name reply }
+{
+    match reply {
+        Reply::Passed => b"pass",
+        Reply::MustWait => b"wait",
+        Reply::Taken => b"taken",
+        Reply::Kept => b"kept",
+        Reply::Raised => b"raised",
+        Reply::Other => b"other",
+        Reply::Freed => b"freed",
+        Reply::Left => b"left",
+        Reply::Absent => b"absent",
+        Reply::Nothing => b"nothing",
+        Reply::Reserved => b"reserved",
+        Reply::Idle => b"idle",
+        Reply::WaitFor(_, _) => b"for",
+        Reply::WaitFirst(_, _) => b"first",
+        Reply::WaitOwn(_) => b"own",
+    }
+}
+
+/// The replies of one word.
+const FIXED: [Reply; 12] = [
+    Reply::Passed,
+    Reply::MustWait,
+    Reply::Taken,
+    Reply::Kept,
+    Reply::Raised,
+    Reply::Other,
+    Reply::Freed,
+    Reply::Left,
+    Reply::Absent,
+    Reply::Nothing,
+    Reply::Reserved,
+    Reply::Idle,
+];
+
+#[tactic(auto, unfolding(crate::specs::Replies::fixed_reply))]
+fn fixed(word: &[u8]) -> Option<Reply>
+    ensures { result ≡ fixed_reply word.now }
+{
+    FIXED.iter().copied().find(|r| name(*r) == word)
+}
+
+/// Whether the lock is held; else it is reserved.
+fn is_held(word: &[u8]) -> Option<bool>
+    ensures { result ≡ held_of word.now }
+{
+    if word == b"held".as_slice() {
+        return Some(true);
+    }
+    if word == b"reserved".as_slice() {
+        return Some(false);
+    }
+    None
+}
+
+fn wait_for(words: &mut Words) -> Option<Reply>
+    ensures { Gives result words.new (waits_at (λ txn held. Reply.WaitFor txn held) words.old) }
+{
+    let txn = txn(words.next()?)?;
+    let held = is_held(words.next()?)?;
+    Some(Reply::WaitFor(txn, held))
+}
+
+fn wait_first(words: &mut Words) -> Option<Reply>
+    ensures { Gives result words.new (waits_at (λ txn held. Reply.WaitFirst txn held) words.old) }
+{
+    let txn = txn(words.next()?)?;
+    let held = is_held(words.next()?)?;
+    Some(Reply::WaitFirst(txn, held))
+}
+
+fn wait_own(words: &mut Words) -> Option<Reply>
+    ensures { Gives result words.new (own_at words.old) }
+{
+    let txn = txn(words.next()?)?;
+    Some(Reply::WaitOwn(txn))
+}
+
+#[tactic(auto, unfolding(crate::specs::Replies::reply_of))]
+fn reply_named(name: &[u8], words: &mut Words) -> Option<Reply>
+    ensures { Gives result words.new (reply_of name.now words.old) }
+{
+    if name == b"for".as_slice() {
+        return wait_for(words);
+    }
+    if name == b"first".as_slice() {
+        return wait_first(words);
+    }
+    if name == b"own".as_slice() {
+        return wait_own(words);
+    }
+    fixed(name)
+}
+
+/// The reply that the next words spell.
+pub fn reply(words: &mut Words) -> Option<Reply>
+    ensures { Gives result words.new (reply_at words.old) }
+{
+    let name = words.next()?;
+    reply_named(name, words)
+}
+
+fn is_reply_of_visit(reply: Reply) -> bool
+    ensures { result ≡ is_visit_reply reply }
+{
+    matches!(reply, Reply::Passed | Reply::MustWait)
+}
+
+fn is_reply_of_acquire(reply: Reply) -> bool
+    ensures { result ≡ is_acquire_reply reply }
+{
+    matches!(
+        reply,
+        Reply::Taken | Reply::Kept | Reply::Raised | Reply::Other
+    )
+}
+
+fn is_reply_of_update(reply: Reply) -> bool
+    ensures { result ≡ is_update_reply reply }
+{
+    matches!(reply, Reply::Kept | Reply::Raised | Reply::Other)
+}
+
+fn is_reply_of_finish(reply: Reply) -> bool
+    ensures { result ≡ is_finish_reply reply }
+{
+    matches!(reply, Reply::Freed | Reply::Other)
+}
+
+fn is_reply_of_leave(reply: Reply) -> bool
+    ensures { result ≡ is_leave_reply reply }
+{
+    matches!(reply, Reply::Left | Reply::Absent)
+}
+
+fn is_reply_of_look(reply: Reply) -> bool
+    ensures { result ≡ is_look_reply reply }
+{
+    matches!(
+        reply,
+        Reply::Nothing
+            | Reply::Reserved
+            | Reply::Idle
+            | Reply::WaitFor(_, _)
+            | Reply::WaitFirst(_, _)
+            | Reply::WaitOwn(_)
+    )
+}
+
+/// The reply is one of those that the call can have.
+pub fn is_reply_of(call: Call, reply: Reply) -> bool
+    ensures { result ≡ is_reply_of call reply }
+{
+    match call {
+        Call::Visit { .. } => is_reply_of_visit(reply),
+        Call::Acquire { .. } => is_reply_of_acquire(reply),
+        Call::Update { .. } => is_reply_of_update(reply),
+        Call::Finish { .. } => is_reply_of_finish(reply),
+        Call::Leave { .. } => is_reply_of_leave(reply),
+        Call::Look { .. } => is_reply_of_look(reply),
+    }
+}

@@ -1,0 +1,72 @@
+ghost use Rattle.std.specs.Prelude.{◌≡◌, ◌==◌, ◌∷◌, [], List, ℕ, MatchOption, None, Some, position};
+ghost use Rattle.std.specs.List.{slice_split};
+ghost use Rattle.lt_text.specs.Words.{cut_of, words_of};
+ghost use Rattle.std.specs.Option.{option_copied};
+
+use std::marker::Model;
+
+fn place_of(bytes: &[u8], at: u8) -> Option<usize>
+    ensures { result ≡ position (λ b. b == at) bytes.now }
+{
+    bytes.iter().position(|b| *b == at)
+}
+
+/// What stands before the first of these bytes, and what stands after it.
+#[tactic(auto, using(crate::proofs::Cuts::cut_of_none, crate::proofs::Cuts::cut_of_at))]
+pub fn cut(bytes: &[u8], at: u8) -> Option<(&[u8], &[u8])>
+    ensures { MatchOption result (cut_of at bytes.now ≡ None) (λ parts. cut_of at bytes.now ≡ Some (parts.0.now, parts.1.now)) }
+{
+    match place_of(bytes, at) {
+        None => None,
+        Some(place) => {
+            let (before, _) = bytes.split_at(place);
+            let (_, after) = bytes.split_at(place + 1);
+            Some((before, after))
+        }
+    }
+}
+
+/// The first word, and what is left after it and its space.
+#[tactic(auto, using(crate::proofs::Cuts::slice_split_cut, crate::proofs::Cuts::slice_split_uncut))]
+fn first_word(line: &[u8]) -> (&[u8], Option<&[u8]>)
+    ensures { slice_split (λ b. b == 32) line.now ≡ result.0.now ∷ words_of (option_copied result.1) }
+{
+    match cut(line, b' ') {
+        None => (line, None),
+        Some((word, rest)) => (word, Some(rest)),
+    }
+}
+
+/// The words of a line that are left: what stands between single spaces.
+#[derive(Drop)]
+pub struct Words<'a> {
+    rest: Option<&'a [u8]>,
+}
+
+impl<'a> Model for Words<'a> {
+    ghost use Rattle.std.specs.Prelude.{ℕ, List};
+    ghost use Rattle.std.specs.Option.{option_copied};
+    ghost use Rattle.lt_text.specs.Words.{words_of};
+
+    ghost Value = { List (List ℕ) };
+
+    ghost view = { λ w. words_of (option_copied w.rest) };
+}
+
+impl<'a> Words<'a> {
+    pub fn new(line: &'a [u8]) -> Self
+        ensures { result ≡ slice_split (λ b. b == 32) line.now }
+    {
+        Words { rest: Some(line) }
+    }
+
+    /// The next word.
+    pub fn next(&mut self) -> Option<&'a [u8]>
+        ensures { MatchOption result ((self.old ≡ []) × (self.new ≡ [])) (λ word. self.old ≡ word.now ∷ self.new) }
+    {
+        let bytes = self.rest?;
+        let (word, rest) = first_word(bytes);
+        self.rest = rest;
+        Some(word)
+    }
+}
