@@ -60,15 +60,23 @@ pub all_both : {X : Type 0} (P Q : X → Type 0) (xs : List X) → AllByRecursio
 all_both P Q [] a b = tt
 all_both P Q (x ∷ xs) a b = ((a.0, b.0), all_both P Q xs a.1 b.1)
 
+-- a relation of each of these to each of those, from the other side
+pub all_flip : {X Y : Type 0} (R : X → Y → Type 0) (xs : List X) (ys : List Y) → AllByRecursion (λ x. AllByRecursion (R x) ys) xs → AllByRecursion (λ y. AllByRecursion (λ x. R x y) xs) ys
+all_flip R xs [] a = tt
+all_flip R xs (y ∷ ys) a = (
+  all_weaker (λ x. AllByRecursion (R x) (y ∷ ys)) (λ x. R x y) (λ x b. b.0) xs a,
+  all_flip R xs ys (all_weaker (λ x. AllByRecursion (R x) (y ∷ ys)) (λ x. AllByRecursion (R x) ys) (λ x b. b.1) xs a),
+)
+
 -- ---- no number stands twice
 
 abbrev Apart : List ℕ → List ℕ → Type 0
 Apart ms ns = AllByRecursion (λ m. AllByRecursion (λ n. nat_eq m n ≡ false) ns) ms
 
-distinct-append : (ms ns : List ℕ) → IsDistinct nat_eq ms → IsDistinct nat_eq ns → Apart ms ns → IsDistinct nat_eq (ms ++ ns)
+pub distinct_append : {X : Type 0} (e : X → X → Bool) (xs ys : List X) → IsDistinct e xs → IsDistinct e ys → AllByRecursion (λ x. AllByRecursion (λ y. e x y ≡ false) ys) xs → IsDistinct e (xs ++ ys)
 unfolding IsDistinct
-distinct-append [] ns d e a = e
-distinct-append (m ∷ ms) ns d e a = (all_append (λ n. nat_eq m n ≡ false) ms ns d.0 a.0, distinct-append ms ns d.1 e a.1)
+distinct_append e [] ys d c a = c
+distinct_append e (x ∷ xs) ys d c a = (all_append (λ y. e x y ≡ false) xs ys d.0 a.0, distinct_append e xs ys d.1 c a.1)
 
 distinct_back : (ms ns : List ℕ) → IsDistinct nat_eq (ms ++ ns) → IsDistinct nat_eq ns
 unfolding IsDistinct
@@ -80,18 +88,31 @@ unfolding IsDistinct
 distinct_apart [] ns d = tt
 distinct_apart (m ∷ ms) ns d = (all_back (λ n. nat_eq m n ≡ false) ms ns d.0, distinct_apart ms ns d.1)
 
-rises_distinct : (ws : List QueuedWriter) → Rises ws → IsDistinct nat_eq (map number_of (map (λ w. w.request) ws))
+-- what differs by a test of its images has images that differ
+pub distinct_map : {X Y : Type 0} (e : Y → Y → Bool) (f : X → Y) (xs : List X) → IsDistinct (λ x y. e (f x) (f y)) xs → IsDistinct e (map f xs)
+unfolding IsDistinct
+distinct_map e f [] d = tt
+distinct_map e f (x ∷ xs) d = (all_map (λ y. e (f x) y ≡ false) f xs d.0, distinct_map e f xs d.1)
+
+-- two of these writers, or requests, have one number
+abbrev pub same_writer : QueuedWriter → QueuedWriter → Bool
+same_writer v w = nat_eq (writer_number v) (writer_number w)
+
+abbrev pub same_request : QueuedRequest → QueuedRequest → Bool
+same_request p q = nat_eq (number_of p) (number_of q)
+
+pub rises_distinct : (ws : List QueuedWriter) → Rises ws → IsDistinct same_writer ws
 unfolding IsDistinct
 rises_distinct [] r = tt
-rises_distinct (w ∷ ws) r =
-    let above = all_map (λ q. nat_eq (writer_number w) (number_of q) ≡ false) (λ v. v.request) ws (all_weaker (λ v. writer_number w < writer_number v) (λ v. nat_eq (writer_number w) (writer_number v) ≡ false) (λ v lt. grind (arith, nat_tests)) ws r.0) in
-    (all_map (λ n. nat_eq (writer_number w) n ≡ false) number_of (map (λ v. v.request) ws) above, rises_distinct ws r.1)
+rises_distinct (w ∷ ws) r = (all_weaker (λ v. writer_number w < writer_number v) (λ v. same_writer w v ≡ false) (λ v lt. grind (arith, nat_tests)) ws r.0, rises_distinct ws r.1)
 
-differ_distinct : (qs : List QueuedRequest) → Differ qs → IsDistinct nat_eq (map number_of qs)
+pub writers_distinct : (ws : List QueuedWriter) → IsDistinct same_writer ws → IsDistinct nat_eq (map number_of (map (λ w. w.request) ws))
+writers_distinct ws d = distinct_map nat_eq number_of (map (λ w. w.request) ws) (distinct_map same_request (λ w. w.request) ws d)
+
+pub differ_distinct : (qs : List QueuedRequest) → Differ qs → IsDistinct same_request qs
 unfolding IsDistinct
 differ_distinct [] d = tt
-differ_distinct (q ∷ qs) d =
-    (all_map (λ n. nat_eq (number_of q) n ≡ false) number_of qs (all_weaker (λ p. nat_eq (number_of p) (number_of q) ≡ false) (λ p. nat_eq (number_of q) (number_of p) ≡ false) (λ p e. grind (arith, nat_tests)) qs d.0), differ_distinct qs d.1)
+differ_distinct (q ∷ qs) d = (all_weaker (λ p. nat_eq (number_of p) (number_of q) ≡ false) (λ p. same_request q p ≡ false) (λ p e. grind (arith, nat_tests)) qs d.0, differ_distinct qs d.1)
 
 distinct_differ : (qs : List QueuedRequest) → IsDistinct nat_eq (map number_of qs) → Differ qs
 unfolding IsDistinct
@@ -124,25 +145,10 @@ waiting_distinct s ws rs d = rw map-append at (distinct_back (map number_of (opt
 pub lawful_differ : (r : Record) → IsLawful r → Differ r.readers
 lawful_differ r l = distinct_differ r.readers (distinct_back (map number_of (map (λ w. w.request) r.writers)) (map number_of r.readers) (waiting_distinct r.reservation r.writers r.readers l.numbers_differ))
 
--- two lists of numbers that are apart, from the other side
-apart_flips : (ms ns : List ℕ) → Apart ms ns → AllByRecursion (λ n. AllByRecursion (λ m. nat_eq m n ≡ false) ms) ns
-apart_flips ms [] a = tt
-apart_flips ms (n ∷ ns) a = (
-  all_weaker (λ m. AllByRecursion (λ x. nat_eq m x ≡ false) (n ∷ ns)) (λ m. nat_eq m n ≡ false) (λ m b. b.0) ms a,
-  apart_flips ms ns (all_weaker (λ m. AllByRecursion (λ x. nat_eq m x ≡ false) (n ∷ ns)) (λ m. AllByRecursion (λ x. nat_eq m x ≡ false) ns) (λ m b. b.1) ms a),
-)
-
-apart_unflips : (ms ns : List ℕ) → AllByRecursion (λ n. AllByRecursion (λ m. nat_eq m n ≡ false) ms) ns → Apart ms ns
-apart_unflips [] ns a = tt
-apart_unflips (m ∷ ms) ns a = (
-  all_weaker (λ n. AllByRecursion (λ x. nat_eq x n ≡ false) (m ∷ ms)) (λ n. nat_eq m n ≡ false) (λ n b. b.0) ns a,
-  apart_unflips ms ns (all_weaker (λ n. AllByRecursion (λ x. nat_eq x n ≡ false) (m ∷ ms)) (λ n. AllByRecursion (λ x. nat_eq x n ≡ false) ms) (λ n b. b.1) ns a),
-)
-
 pub lawful_apart : (r : Record) → IsLawful r → AreApart r.writers r.readers
 lawful_apart r l =
     let ms = map number_of (map (λ w. w.request) r.writers) in
-    let apart = apart_flips ms (map number_of r.readers) (distinct_apart ms (map number_of r.readers) (waiting_distinct r.reservation r.writers r.readers l.numbers_differ)) in
+    let apart = all_flip (λ m n. nat_eq m n ≡ false) ms (map number_of r.readers) (distinct_apart ms (map number_of r.readers) (waiting_distinct r.reservation r.writers r.readers l.numbers_differ)) in
     all_weaker (λ q. AllByRecursion (λ m. nat_eq m (number_of q) ≡ false) ms) (λ q. AllByRecursion (λ w. nat_eq (writer_number w) (number_of q) ≡ false) r.writers)
     (λ q a. all_unmap (λ w. nat_eq (number_of w) (number_of q) ≡ false) (λ w. w.request) r.writers (all_unmap (λ m. nat_eq m (number_of q) ≡ false) number_of (map (λ w. w.request) r.writers) a))
     r.readers (all_unmap (λ n. AllByRecursion (λ m. nat_eq m n ≡ false) ms) number_of r.readers apart)
@@ -182,7 +188,7 @@ distinct_waiting ws rs r d a =
     let ms = map number_of (map (λ w. w.request) ws) in
     let apart = all_weaker (λ q. AllByRecursion (λ w. nat_eq (writer_number w) (number_of q) ≡ false) ws) (λ q. AllByRecursion (λ m. nat_eq m (number_of q) ≡ false) ms)
     (λ q b. all_map (λ m. nat_eq m (number_of q) ≡ false) number_of (map (λ w. w.request) ws) (all_map (λ w. nat_eq (number_of w) (number_of q) ≡ false) (λ w. w.request) ws b)) rs a in
-    rw map-append (distinct-append ms (map number_of rs) (rises_distinct ws r) (differ_distinct rs d) (apart_unflips ms (map number_of rs) (all_map (λ n. AllByRecursion (λ m. nat_eq m n ≡ false) ms) number_of rs apart)))
+    rw map-append (distinct_append nat_eq ms (map number_of rs) (writers_distinct ws (rises_distinct ws r)) (distinct_map nat_eq number_of rs (differ_distinct rs d)) (all_flip (λ n m. nat_eq m n ≡ false) (map number_of rs) ms (all_map (λ n. AllByRecursion (λ m. nat_eq m n ≡ false) ms) number_of rs apart)))
 
 distinct_of : (holder : Option Holder) (s : Option QueuedRequest) (ws : List QueuedWriter) (rs : List QueuedRequest) → FitsLock holder s ws rs → Rises ws → Differ rs → AreApart ws rs → IsDistinct nat_eq (map number_of (option_to_list s) ++ map number_of (map (λ w. w.request) ws ++ rs))
 unfolding IsDistinct

@@ -1,0 +1,135 @@
+-- A lock that was taken is freed before it is taken again.
+use Rattle.std.proofs.Common.{◌≡◌, ℕ, Bool, true, false, cond, List, [], ◌∷◌, ◌++◌, ◌||◌, Option, Some, None, IsSome, refl, sym, ap, subst, ◌∙◌, nat_eq}
+use Rattle.std.specs.List.{list_any, find}
+use Rattle.std.specs.Prelude.{is_some}
+use Rattle.std.proofs.lemmas.List.{append_assoc}
+use mathlib.Core.Bool.{true≢false}
+use Rattle.std.specs.Ordering.{nat_cmp}
+use Rattle.lt_ids.specs.declared.timestamp.Timestamp.{Timestamp}
+use Rattle.lt_ids.specs.declared.request.Access.{Access}
+use Rattle.lt_ids.specs.declared.request.Access.TheVariants.{Read, Write}
+use Rattle.lt_ids.specs.Timestamp.{is_below}
+use Rattle.lt_plain.specs.declared.queued.Holder.{Holder}
+use Rattle.lt_plain.specs.declared.queued.QueuedRequest.{QueuedRequest}
+use Rattle.lt_plain.specs.declared.call.Call.{Call}
+use Rattle.lt_plain.specs.declared.call.Call.TheVariants.{Visit, Acquire, Update, Finish, Leave, Look}
+use Rattle.lt_plain.specs.declared.queued.QueuedWriter.{QueuedWriter}
+use Rattle.lt_plain.specs.declared.call.Reply.{Reply}
+use Rattle.lt_plain.specs.declared.call.Reply.TheVariants.{Taken}
+use Rattle.lt_plain.specs.Record.{Record, empty, number_of, writer_number}
+use Rattle.lt_plain.specs.Rules.{Outcome, acquire_from, update_from, finish_from, leave, is_reserved_by, is_waiting, stop_reading}
+use Rattle.lt_plain.specs.Visit.{visit, visit_lock, is_queued}
+use Rattle.lt_plain.specs.Step.{Event, step, look, look_waiter, look_writer, look_reader, waits_for, IsLegal, IsLegalFrom, record_after}
+use Rattle.lt_plain.specs.Holding.{is_freed}
+use Rattle.lt_plain.proofs.Holders.{either, one_of_two, one_of_three, rest_legal, visit_keeps, leave_keeps}
+
+-- ---- a held lock stays held until it is freed
+
+abbrev StaysHeld : Outcome → Type 0
+StaysHeld o = is_freed o.reply ≡ false → IsSome o.after.holder
+
+finish_held : (r : Record) (holder : Option Holder) (txn : ℕ) → IsSome r.holder → StaysHeld (finish_from holder r txn)
+finish_held r None txn held = λ e. held
+finish_held r (Some h) txn held = either StaysHeld (nat_eq h.txn txn) _ _ (λ e. absurd (true≢false e)) (λ e. held)
+
+acquire_held : (r : Record) (holder : Option Holder) (h : Holder) → IsSome r.holder → StaysHeld (acquire_from holder r h)
+acquire_held r None h held = λ e. refl
+acquire_held r (Some k) h held = either StaysHeld (nat_eq k.txn h.txn) _ _ (either StaysHeld (is_below k.ts h.ts) _ _ (λ e. refl) (λ e. held)) (λ e. held)
+
+update_held : (r : Record) (holder : Option Holder) (txn : ℕ) (ts : Timestamp) → IsSome r.holder → StaysHeld (update_from holder r txn ts)
+update_held r None txn ts held = λ e. held
+update_held r (Some k) txn ts held = either StaysHeld (nat_eq k.txn txn) _ _ (either StaysHeld (is_below k.ts ts) _ _ (λ e. refl) (λ e. held)) (λ e. held)
+
+step_held : (r : Record) (pass : ℕ) (call : Call) → IsSome r.holder → StaysHeld (step r pass call)
+step_held r pass (Visit ticket txn ts access) held = λ e. subst IsSome (sym (visit_keeps r _ access)) held
+step_held r pass (Acquire txn ts) held = acquire_held r r.holder (record { txn = txn; ts = ts }) held
+step_held r pass (Update txn ts) held = update_held r r.holder txn ts held
+step_held r pass (Finish txn) held = finish_held r r.holder txn held
+step_held r pass (Leave number) held = λ e. subst IsSome (sym (leave_keeps r number)) held
+step_held r pass (Look number) held = λ e. held
+
+either_false : (a b : Bool) → (a || b) ≡ false → (a ≡ false) × (b ≡ false)
+either_false false b e = (refl, e)
+either_false true b e = absurd (true≢false e)
+
+still_held : (r : Record) (between rest : List Event) → IsLegalFrom r (between ++ rest) → IsSome r.holder → list_any (λ g. is_freed g.reply) between ≡ false → IsSome (record_after r between).holder
+still_held r [] rest legal held none = held
+still_held r (g ∷ between) rest legal held none =
+    let parts = either_false (is_freed g.reply) (list_any (λ g. is_freed g.reply) between) none in
+    still_held (step r g.pass g.call).after between rest legal.2 (step_held r g.pass g.call held (ap is_freed (sym legal.0) ∙ parts.0)) parts.1
+
+-- ---- who takes a lock finds it free, and holds it
+
+abbrev TakesFree : Option Holder → Outcome → Type 0
+TakesFree holder o = o.reply ≡ Taken → (holder ≡ None) × IsSome o.after.holder
+
+abbrev NotTaken : Reply → Type 0
+NotTaken reply = reply ≡ Taken → ⊥
+
+visit_not : (holder : Option Holder) (s : Option QueuedRequest) (r : Record) (q : QueuedRequest) (access : Access) → NotTaken (visit_lock holder s r q access).reply
+visit_not None None r q access = λ e. cc
+visit_not None (Some s) r q Read = λ e. cc
+visit_not None (Some s) r q Write = one_of_three (λ o. NotTaken o.reply) (nat_cmp (number_of q) (number_of s)) _ _ _ (λ e. cc) (λ e. cc) (λ e. cc)
+visit_not (Some h) s r q Read =
+    either (λ o. NotTaken o.reply) (nat_eq h.txn q.txn) _ _ (λ e. cc)
+    (either (λ o. NotTaken o.reply) (is_below q.ts h.ts) _ _ (λ e. cc)
+    (either (λ o. NotTaken o.reply) (is_queued r.writers (number_of q)) _ _ (λ e. cc) (λ e. cc)))
+visit_not (Some h) s r q Write = either (λ o. NotTaken o.reply) (nat_eq h.txn q.txn) _ _ (λ e. cc) (λ e. cc)
+
+acquire_takes : (r : Record) (holder : Option Holder) (h : Holder) → TakesFree holder (acquire_from holder r h)
+acquire_takes r None h = λ e. (refl, refl)
+acquire_takes r (Some k) h = either (TakesFree (Some k)) (nat_eq k.txn h.txn) _ _ (either (TakesFree (Some k)) (is_below k.ts h.ts) _ _ (λ e. cc) (λ e. cc)) (λ e. cc)
+
+update_takes : (r : Record) (holder : Option Holder) (txn : ℕ) (ts : Timestamp) → TakesFree holder (update_from holder r txn ts)
+update_takes r None txn ts = λ e. cc
+update_takes r (Some k) txn ts = either (TakesFree (Some k)) (nat_eq k.txn txn) _ _ (either (TakesFree (Some k)) (is_below k.ts ts) _ _ (λ e. cc) (λ e. cc)) (λ e. cc)
+
+finish_takes : (r : Record) (holder : Option Holder) (txn : ℕ) → TakesFree holder (finish_from holder r txn)
+finish_takes r None txn = λ e. cc
+finish_takes r (Some k) txn = either (TakesFree (Some k)) (nat_eq k.txn txn) _ _ (λ e. cc) (λ e. cc)
+
+leave_takes : (r : Record) (n : ℕ) → TakesFree r.holder (leave r n)
+leave_takes r n = either (TakesFree r.holder) (is_reserved_by r.reservation n) _ _ (λ e. cc) (either (TakesFree r.holder) (is_waiting r n) _ _ (λ e. cc) (λ e. cc))
+
+waits_not : (d : Option ℕ) (n txn : ℕ) (held : Bool) → NotTaken (waits_for d n txn held)
+waits_not None n txn held = λ e. cc
+waits_not (Some f) n txn held = one_of_two NotTaken (nat_eq f n) _ _ (λ e. cc) (λ e. cc)
+
+writer_not : (r : Record) (q : QueuedRequest) (holder : Option Holder) (s : Option QueuedRequest) → NotTaken (look_writer r q holder s)
+writer_not r q None None = λ e. cc
+writer_not r q None (Some s) = one_of_two NotTaken (nat_eq q.txn s.txn) _ _ (λ e. cc) (waits_not r.distinguished (number_of q) s.txn false)
+writer_not r q (Some h) s = waits_not r.distinguished (number_of q) h.txn true
+
+reader_not : (r : Record) (n : ℕ) (holder : Option Holder) (s : Option QueuedRequest) → NotTaken (look_reader r n holder s)
+reader_not r n None None = λ e. cc
+reader_not r n None (Some s) = waits_not r.distinguished n s.txn false
+reader_not r n (Some h) s = waits_not r.distinguished n h.txn true
+
+waiter_not : (r : Record) (n : ℕ) (w : Option QueuedWriter) → NotTaken (look_waiter r n w)
+waiter_not r n None = one_of_two NotTaken (list_any (λ q. nat_eq (number_of q) n) r.readers) _ _ (reader_not r n r.holder r.reservation) (λ e. cc)
+waiter_not r n (Some w) = one_of_two NotTaken w.active _ _ (writer_not r w.request r.holder r.reservation) (λ e. cc)
+
+look_not : (r : Record) (n : ℕ) → NotTaken (look r n)
+look_not r n = one_of_two NotTaken (is_reserved_by r.reservation n) _ _ (λ e. cc) (waiter_not r n (find (λ w. nat_eq (writer_number w) n) r.writers))
+
+step_takes : (r : Record) (pass : ℕ) (call : Call) → TakesFree r.holder (step r pass call)
+step_takes r pass (Visit ticket txn ts access) = λ e. absurd (visit_not r.holder r.reservation (stop_reading r ticket.number) (record { ticket = ticket; txn = txn; ts = ts; pass = pass }) access e)
+step_takes r pass (Acquire txn ts) = acquire_takes r r.holder (record { txn = txn; ts = ts })
+step_takes r pass (Update txn ts) = update_takes r r.holder txn ts
+step_takes r pass (Finish txn) = finish_takes r r.holder txn
+step_takes r pass (Leave number) = leave_takes r number
+step_takes r pass (Look number) = λ e. absurd (look_not r number e)
+
+is_true : (b : Bool) → (b ≡ false → ⊥) → b ≡ true
+is_true true fails = refl
+is_true false fails = absurd (fails refl)
+
+pub freed_between : (past between rest : List Event) (e f : Event) → IsLegal (past ++ e ∷ between ++ f ∷ rest) → e.reply ≡ Taken → f.reply ≡ Taken → list_any (λ g. is_freed g.reply) between ≡ true
+freed_between past between rest e f legal taken again =
+    let r = record_after empty past in
+    let here = rest_legal empty past (e ∷ between ++ f ∷ rest) (rw append_assoc at legal) in
+    let s = (step r e.pass e.call).after in
+    let later = rest_legal s between (f ∷ rest) here.2 in
+    let held = (step_takes r e.pass e.call (sym here.0 ∙ taken)).1 in
+    let free = (step_takes (record_after s between) f.pass f.call (sym later.0 ∙ again)).0 in
+    is_true _ (λ none. let still = still_held s between (f ∷ rest) here.2 held none in true≢false (sym still ∙ ap is_some free))
