@@ -1,5 +1,5 @@
 -- A lock that was taken is freed before it is taken again.
-use Rattle.std.proofs.Common.{◌≡◌, ℕ, Bool, true, false, cond, List, [], ◌∷◌, ◌++◌, ◌||◌, Option, Some, None, IsSome, refl, sym, ap, subst, ◌∙◌, nat_eq}
+use Rattle.std.proofs.Common.{◌≡◌, ℕ, Bool, true, false, List, [], ◌∷◌, ◌++◌, ◌||◌, Option, Some, None, IsSome, refl, sym, ap, subst, ◌∙◌, nat_eq}
 use Rattle.std.specs.List.{list_any, find}
 use Rattle.std.specs.Prelude.{is_some}
 use Rattle.std.proofs.lemmas.List.{append_assoc}
@@ -18,7 +18,7 @@ use Rattle.lt_plain.specs.declared.call.Reply.{Reply}
 use Rattle.lt_plain.specs.declared.call.Reply.TheVariants.{Taken}
 use Rattle.lt_plain.specs.Record.{Record, empty, number_of, writer_number}
 use Rattle.lt_plain.specs.Rules.{Outcome, acquire_from, update_from, finish_from, leave, is_reserved_by, is_waiting, stop_reading}
-use Rattle.lt_plain.specs.Visit.{visit, visit_lock, is_queued}
+use Rattle.lt_plain.specs.Visit.{visit_lock, is_queued}
 use Rattle.lt_plain.specs.Step.{Event, step, look, look_waiter, look_writer, look_reader, waits_for, IsLegal, IsLegalFrom, record_after}
 use Rattle.lt_plain.specs.Holding.{is_freed}
 use Rattle.lt_plain.proofs.Holders.{either, one_of_two, one_of_three, rest_legal, visit_keeps, leave_keeps}

@@ -1,5 +1,5 @@
 -- What is true of a lawful record, case by case of its lock: the form that the proofs go by.
-use Rattle.std.proofs.Common.{◌≡◌, ◌≢◌, ◌<◌, ◌⊎◌, ℕ, Bool, true, false, List, [], ◌∷◌, ◌++◌, map, Option, Some, None, IsNone, IfSome, refl, sym, subst, arith, nat_eq, inl, inr}
+use Rattle.std.proofs.Common.{◌≡◌, ◌≢◌, ◌<◌, ◌⊎◌, ℕ, Bool, false, List, [], ◌∷◌, ◌++◌, map, Option, Some, None, IsNone, IfSome, refl, sym, subst, arith, nat_eq, inl, inr}
 use Rattle.std.specs.Prelude.{option_to_list}
 use Rattle.std.proofs.lemmas.List.{map-append}
 use Rattle.std.specs.List.{AllByRecursion, IsDistinct}
@@ -11,7 +11,7 @@ use Rattle.lt_plain.specs.declared.queued.QueuedRequest.{QueuedRequest}
 use Rattle.lt_plain.specs.declared.queued.QueuedWriter.{QueuedWriter}
 use Rattle.lt_plain.specs.Record.{Record, number_of, writer_number}
 use Rattle.lt_plain.specs.Rules.{settle}
-use Rattle.lt_plain.specs.Lawful.{IsLawful, Rises, waiters, numbers}
+use Rattle.lt_plain.specs.Lawful.{IsLawful, Rises}
 
 -- Who may wait at a lock: nobody at one that is free; at a reserved one writers of greater numbers alone;
 -- at a held one requests of other transactions, and of these no reader below the holder's time.

@@ -1,5 +1,5 @@
 -- Who is let through had to wait, and waits no longer.
-use Rattle.std.proofs.Common.{◌≡◌, ◌≢◌, ◌<◌, ◌≤◌, ℕ, Bool, true, false, not, cond, List, [], ◌∷◌, ◌++◌, map, filter, take, drop, Option, Some, None, refl, sym, ap, subst, ◌∙◌, arith, nat_eq}
+use Rattle.std.proofs.Common.{◌≡◌, ◌≢◌, ◌<◌, ℕ, Bool, true, false, not, cond, List, [], ◌∷◌, ◌++◌, map, filter, take, drop, Option, Some, None, refl, sym, ap, subst, ◌∙◌, arith, nat_eq}
 use Rattle.std.specs.List.{AllByRecursion, IsDistinct}
 use mathlib.Core.Bool.{true≢false}
 use Rattle.std.proofs.lemmas.Bool.Decides.{nat_tests}
@@ -20,12 +20,12 @@ use Rattle.lt_plain.specs.declared.call.Call.TheVariants.{Visit, Acquire, Update
 use Rattle.lt_plain.specs.declared.call.Reply.{Reply}
 use Rattle.lt_plain.specs.declared.call.Reply.TheVariants.{MustWait, Freed, Left, Kept, Other, Absent}
 use Rattle.lt_plain.specs.Record.{Record, empty, number_of, writer_number, through_of}
-use Rattle.lt_plain.specs.Rules.{Outcome, unchanged, free, raise_to, take_lock, set_back, is_of, active_requests, acquire_from, update_from, finish_from, leave, is_reserved_by, is_waiting, without_reader, without_writer, stop_reading}
+use Rattle.lt_plain.specs.Rules.{Outcome, unchanged, free, raise_to, take_lock, set_back, is_of, active_requests, acquire_from, update_from, finish_from, leave, is_reserved_by, is_waiting, stop_reading}
 use Rattle.lt_plain.specs.Visit.{visit, visit_lock, is_queued, enqueue}
 use Rattle.lt_plain.specs.Step.{Event, step, look, IsLegal, IsLegalFrom, record_after}
 use Rattle.lt_plain.specs.Lawful.{IsLawful, Rises}
-use Rattle.lt_plain.specs.Laws.{TellsToWait, Spares, IsWaiting}
-use Rattle.lt_plain.proofs.Cases.{all_weaker, all_map, all_append, all_both, all_flip, Differ, AreApart, distinct_append, distinct_map, same_writer, same_request, differ_distinct, rises_distinct, lawful_fits, lawful_differ, lawful_apart, no_readers_of}
+use Rattle.lt_plain.specs.Laws.{Spares, IsWaiting}
+use Rattle.lt_plain.proofs.Cases.{all_weaker, all_map, all_append, all_both, all_flip, Differ, AreApart, distinct_append, distinct_map, same_writer, same_request, differ_distinct, rises_distinct, lawful_differ, lawful_apart}
 use Rattle.lt_plain.proofs.Holders.{either, one_of_three, rest_legal}
 use Rattle.lt_plain.proofs.Orderly.{all_filter, enqueue_all}
 use Rattle.lt_plain.proofs.Lawfulness.{step_keeps_lawful, empty_is_lawful, lawful}

@@ -1,0 +1,365 @@
+use lt_ids::TxnId;
+use lt_plain::Reply;
+use std::alloc::{AllocError, Global};
+
+/// A request that stands at the key, by plain numbers.
+#[derive(Clone, Copy, Debug, PartialEq, Eq)]
+pub struct Stand {
+    pub number: u64,
+    pub txn: u64,
+    pub wall: u64,
+    pub pass: u32,
+    pub wait: u32,
+    pub active: bool,
+}
+
+/// A let: the pass, the number and the wait.
+pub type Let = (u32, u64, u32);
+
+/// One key, by plain numbers: timestamps have a wall part alone.
+#[derive(Drop)]
+pub struct Second {
+    holder: Option<(u64, u64)>,
+    reserved: Option<Stand>,
+    writers: Vec<Stand>,
+    readers: Vec<Stand>,
+    distinguished: Option<u64>,
+    pub lets: Vec<Let>,
+}
+
+/// What an active waiter finds; the `bool` says that the lock is held.
+#[derive(Clone, Copy)]
+enum Finds {
+    For(bool),
+    First(bool),
+    Own,
+}
+
+/// The reply that names this transaction.
+fn reply_of(txn: u64, what: Finds) -> Reply {
+    match TxnId::new(txn) {
+        None => Reply::Nothing,
+        Some(txn) => match what {
+            Finds::For(is_held) => Reply::WaitFor(txn, is_held),
+            Finds::First(is_held) => Reply::WaitFirst(txn, is_held),
+            Finds::Own => Reply::WaitOwn(txn),
+        },
+    }
+}
+
+impl Second {
+    pub fn new(alloc: Global) -> Self {
+        Second {
+            holder: None,
+            reserved: None,
+            writers: Vec::new(alloc),
+            readers: Vec::new(alloc),
+            distinguished: None,
+            lets: Vec::new(alloc),
+        }
+    }
+
+    /// A writer that may be the distinguished waiter.
+    fn may_push(&self, writer: &Stand) -> bool {
+        if !writer.active {
+            return false;
+        }
+        match self.reserved {
+            Some(reserved) => reserved.txn != writer.txn,
+            None => true,
+        }
+    }
+
+    fn first_eligible(&self) -> Option<u64> {
+        if let Some(reader) = self.readers.first() {
+            return Some(reader.number);
+        }
+        for writer in &self.writers {
+            if self.may_push(writer) {
+                return Some(writer.number);
+            }
+        }
+        None
+    }
+
+    fn is_eligible(&self, number: u64) -> bool {
+        for reader in &self.readers {
+            if reader.number == number {
+                return true;
+            }
+        }
+        for writer in &self.writers {
+            if writer.number == number && self.may_push(writer) {
+                return true;
+            }
+        }
+        false
+    }
+
+    fn settle(&mut self) {
+        let stays = match self.distinguished {
+            Some(number) => self.is_eligible(number),
+            None => false,
+        };
+        if !stays {
+            self.distinguished = self.first_eligible();
+        }
+    }
+
+    fn let_through(&mut self, stand: &Stand) -> Result<(), AllocError> {
+        self.lets.push((stand.pass, stand.number, stand.wait))?;
+        Ok(())
+    }
+
+    fn free(&mut self, alloc: Global) -> Result<(), AllocError> {
+        let gone = self.readers.clone()?;
+        for reader in &gone {
+            self.let_through(reader)?;
+        }
+        self.readers = Vec::new(alloc);
+        if !self.writers.is_empty() {
+            let first = self.writers.remove(0);
+            if first.active {
+                self.let_through(&first)?;
+            }
+            self.reserved = Some(first);
+        }
+        self.settle();
+        Ok(())
+    }
+
+    fn is_writer(&self, number: u64) -> bool {
+        let mut found = false;
+        for writer in &self.writers {
+            found = found || writer.number == number;
+        }
+        found
+    }
+
+    fn without_reader(&mut self, number: u64) {
+        self.readers.retain(|r| r.number != number);
+    }
+
+    fn queue_writer(&mut self, alloc: Global, stand: &Stand) -> Result<(), AllocError> {
+        let mut queue = Vec::new(alloc);
+        let mut is_in = false;
+        for writer in &self.writers {
+            if writer.number == stand.number {
+                queue.push(*stand)?;
+                is_in = true;
+            } else {
+                if !is_in && stand.number < writer.number {
+                    queue.push(*stand)?;
+                    is_in = true;
+                }
+                queue.push(*writer)?;
+            }
+        }
+        if !is_in {
+            queue.push(*stand)?;
+        }
+        self.writers = queue;
+        Ok(())
+    }
+
+    fn put_back(&mut self, alloc: Global, reserved: &Stand) -> Result<(), AllocError> {
+        let mut queue = Vec::new(alloc);
+        let mut back = *reserved;
+        back.active = false;
+        queue.push(back)?;
+        for writer in &self.writers {
+            queue.push(*writer)?;
+        }
+        self.writers = queue;
+        Ok(())
+    }
+
+    fn wait_or_pass(
+        &mut self,
+        alloc: Global,
+        stand: &Stand,
+        is_write: bool,
+    ) -> Result<Reply, AllocError> {
+        if let Some((txn, wall)) = self.holder {
+            if txn == stand.txn {
+                return Ok(Reply::Passed);
+            }
+            if !is_write {
+                if stand.wall < wall {
+                    return Ok(Reply::Passed);
+                }
+                if !self.is_writer(stand.number) {
+                    let mut readers = Vec::new(alloc);
+                    readers.push(*stand)?;
+                    for reader in &self.readers {
+                        readers.push(*reader)?;
+                    }
+                    self.readers = readers;
+                    return Ok(Reply::MustWait);
+                }
+            }
+            self.queue_writer(alloc, stand)?;
+            return Ok(Reply::MustWait);
+        }
+        let Some(reserved) = self.reserved else {
+            return Ok(Reply::Passed);
+        };
+        if !is_write || reserved.number == stand.number {
+            return Ok(Reply::Passed);
+        }
+        if reserved.number < stand.number {
+            self.queue_writer(alloc, stand)?;
+            return Ok(Reply::MustWait);
+        }
+        self.put_back(alloc, &reserved)?;
+        self.reserved = Some(*stand);
+        Ok(Reply::Passed)
+    }
+
+    pub fn visit(
+        &mut self,
+        alloc: Global,
+        stand: &Stand,
+        is_write: bool,
+    ) -> Result<Reply, AllocError> {
+        self.without_reader(stand.number);
+        let reply = self.wait_or_pass(alloc, stand, is_write)?;
+        self.settle();
+        Ok(reply)
+    }
+
+    fn raise(&mut self, alloc: Global, txn: u64, old: u64, wall: u64) -> Result<Reply, AllocError> {
+        if wall <= old {
+            return Ok(Reply::Kept);
+        }
+        self.holder = Some((txn, wall));
+        let readers = self.readers.clone()?;
+        self.readers = Vec::new(alloc);
+        for reader in &readers {
+            if reader.wall < wall {
+                self.let_through(reader)?;
+            } else {
+                self.readers.push(*reader)?;
+            }
+        }
+        self.settle();
+        Ok(Reply::Raised)
+    }
+
+    fn take(&mut self, alloc: Global, txn: u64, wall: u64) -> Result<Reply, AllocError> {
+        if let Some(reserved) = self.reserved {
+            if reserved.txn != txn {
+                self.put_back(alloc, &reserved)?;
+            }
+        }
+        self.reserved = None;
+        self.holder = Some((txn, wall));
+        let writers = self.writers.clone()?;
+        self.writers = Vec::new(alloc);
+        for writer in &writers {
+            if writer.txn != txn {
+                self.writers.push(*writer)?;
+            } else if writer.active {
+                self.let_through(writer)?;
+            }
+        }
+        self.settle();
+        Ok(Reply::Taken)
+    }
+
+    pub fn acquire(&mut self, alloc: Global, txn: u64, wall: u64) -> Result<Reply, AllocError> {
+        match self.holder {
+            Some((holder, _)) if holder != txn => Ok(Reply::Other),
+            Some((_, old)) => self.raise(alloc, txn, old, wall),
+            None => self.take(alloc, txn, wall),
+        }
+    }
+
+    pub fn update(&mut self, alloc: Global, txn: u64, wall: u64) -> Result<Reply, AllocError> {
+        match self.holder {
+            Some((holder, old)) if holder == txn => self.raise(alloc, txn, old, wall),
+            _ => Ok(Reply::Other),
+        }
+    }
+
+    pub fn finish(&mut self, alloc: Global, txn: u64) -> Result<Reply, AllocError> {
+        match self.holder {
+            Some((holder, _)) if holder == txn => {
+                self.holder = None;
+                self.free(alloc)?;
+                Ok(Reply::Freed)
+            }
+            _ => Ok(Reply::Other),
+        }
+    }
+
+    pub fn leave(&mut self, alloc: Global, number: u64) -> Result<Reply, AllocError> {
+        if let Some(reserved) = self.reserved {
+            if reserved.number == number {
+                self.reserved = None;
+                self.free(alloc)?;
+                return Ok(Reply::Left);
+            }
+        }
+        let stood = self.writers.len() + self.readers.len();
+        self.writers.retain(|w| w.number != number);
+        self.without_reader(number);
+        if self.writers.len() + self.readers.len() == stood {
+            return Ok(Reply::Absent);
+        }
+        self.settle();
+        Ok(Reply::Left)
+    }
+
+    fn is_reader(&self, number: u64) -> bool {
+        let mut found = false;
+        for reader in &self.readers {
+            found = found || reader.number == number;
+        }
+        found
+    }
+
+    fn writer_of(&self, number: u64) -> Option<Stand> {
+        let mut found = None;
+        for writer in &self.writers {
+            if writer.number == number {
+                found = Some(*writer);
+            }
+        }
+        found
+    }
+
+    pub fn look(&self, number: u64) -> Reply {
+        let is_first = self.distinguished == Some(number);
+        if let Some(reserved) = self.reserved {
+            if reserved.number == number {
+                return Reply::Reserved;
+            }
+        }
+        let writer = self.writer_of(number);
+        if writer.is_none() && !self.is_reader(number) {
+            return Reply::Nothing;
+        }
+        let mut txn = 0;
+        if let Some(writer) = writer {
+            if !writer.active {
+                return Reply::Idle;
+            }
+            txn = writer.txn;
+        }
+        if let Some((holder, _)) = self.holder {
+            let what = if is_first {
+                Finds::First(true)
+            } else {
+                Finds::For(true)
+            };
+            return reply_of(holder, what);
+        }
+        match self.reserved {
+            None => Reply::Nothing,
+            Some(reserved) if reserved.txn == txn => reply_of(reserved.txn, Finds::Own),
+            Some(reserved) if is_first => reply_of(reserved.txn, Finds::First(false)),
+            Some(reserved) => reply_of(reserved.txn, Finds::For(false)),
+        }
+    }
+}
