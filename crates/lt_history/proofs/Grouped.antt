@@ -54,7 +54,7 @@ none_below key (e ∷ es) h k lt =
     let above = before_upto k key e.key lt h.0 in
     part_other k e es (apart_back k e.key above) ∙ none_below e.key es h.1 k above
 
-lines_of_others : (e : Entry) (es : List Entry) (keys : List (List ℕ)) → AllByRecursion (λ k. precedes e.key k ≡ true) keys → lines_of (e ∷ es) keys ≡ lines_of es keys
+pub lines_of_others : (e : Entry) (es : List Entry) (keys : List (List ℕ)) → AllByRecursion (λ k. precedes e.key k ≡ true) keys → lines_of (e ∷ es) keys ≡ lines_of es keys
 lines_of_others e es [] h = refl
 lines_of_others e es (key ∷ keys) h =
     ap (λ (p : List Entry). lines_from 1 p ++ lines_of (e ∷ es) keys) (part_other key e es (apart e.key key h.0)) ∙ ap (λ (ls : List Parts). lines_from 1 (part key es) ++ ls) (lines_of_others e es keys h.1)
@@ -152,10 +152,11 @@ starts es g (f ∷ fs) are = (
   g.lines,
 )
 
+pub sorted_keys : (es : List Entry) → RiseFrom [] es → (keys : List (List ℕ)) × AreKeysOf es keys × (lines_after [] 0 es ≡ lines_of es keys)
+sorted_keys es rise = starts es (grouped [] 0 es rise) (part [] es) refl
+
 pub text_of_sorted : (text : List ℕ) (es : List Entry) → RiseFrom [] es → text ≡ text_of (lines_after [] 0 es) → IsTextOf text es
-text_of_sorted text es rise e =
-    let s = starts es (grouped [] 0 es rise) (part [] es) refl in
-    record { keys = s.0; are_keys = s.1; lines = e ∙ ap text_of s.2 }
+text_of_sorted text es rise e = let k = sorted_keys es rise in record { keys = k.0; are_keys = k.1; lines = e ∙ ap text_of k.2 }
 
 -- ---- the text is that of all entries with the same parts
 

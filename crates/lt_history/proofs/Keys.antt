@@ -1,5 +1,5 @@
 -- Keys in the order of bytes.
-use Rattle.std.proofs.Common.{◌≡◌, ℕ, ◌⊎◌, true, false, List, refl, sym, ap, subst, ◌∙◌, inl, inr}
+use Rattle.std.proofs.Common.{◌≡◌, ℕ, ◌⊎◌, true, false, List, [], ◌∷◌, refl, sym, ap, subst, ◌∙◌, inl, inr}
 use Rattle.std.specs.Str.{bytes_eq}
 use Rattle.std.specs.declared.cmp.Ordering.{Ordering}
 use Rattle.std.specs.declared.cmp.Ordering.TheVariants.{Less, Equal, Greater}
@@ -96,3 +96,7 @@ apart_keys a b e =
         | inr lt ↦ inr lt
       ]
     ] refl
+
+pub never_before_none : (key : List ℕ) → precedes key [] ≡ false
+never_before_none [] = refl
+never_before_none (b ∷ bs) = refl

@@ -13,7 +13,7 @@ use Rattle.std.proofs.lemmas.List.Elements.{filter_agree}
 use Rattle.lt_history.specs.declared.entry.Entry.{Entry}
 use Rattle.lt_history.specs.Histories.{precedes, part}
 use Rattle.lt_history.specs.Sorted.{RiseFrom, HaveSameParts}
-use Rattle.lt_history.proofs.Keys.{same_key}
+use Rattle.lt_history.proofs.Keys.{same_key, never_before_none}
 
 abbrev key_of : Bor Entry → List ℕ
 key_of e = e.now.key
@@ -34,10 +34,6 @@ sorted_rest e es h = λ k d low high.
 rises_after : (e : Bor Entry) (es : List (Bor Entry)) → IsSorted (e ∷ es) → RiseFrom (key_of e) (seen es)
 rises_after e [] h = tt
 rises_after e (f ∷ fs) h = (h 0 e (omega arith) (omega arith), rises_after f fs (sorted_rest e (f ∷ fs) h))
-
-never_before_none : (key : List ℕ) → precedes key [] ≡ false
-never_before_none [] = refl
-never_before_none (b ∷ bs) = refl
 
 pub rises : (es : List (Bor Entry)) → IsSorted es → RiseFrom [] (seen es)
 rises [] h = tt

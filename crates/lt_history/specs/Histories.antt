@@ -7,9 +7,10 @@ use Rattle.std.specs.List.{flat_map, AllByRecursion}
 use Rattle.std.specs.Str.{bytes_eq}
 use Rattle.std.specs.Ordering.{nat_cmp, is_lt}
 use Rattle.std.specs.Cmp.Lexicographic.{slice_cmp}
-use Rattle.lt_ids.specs.Ticket.{IsNumber}
-use Rattle.lt_plain.specs.declared.call.Call.{Call}
-use Rattle.lt_plain.specs.declared.call.Call.TheVariants.{Leave, Look}
+use Rattle.lt_ids.specs.Key.{IsKey}
+use Rattle.lt_text.specs.Fields.{IsTicket}
+use Rattle.lt_text.specs.Calls.{IsCall}
+use Rattle.lt_text.specs.Replies.{IsReply}
 use Rattle.lt_plain.specs.Step.{Event, IsLegal}
 use Rattle.lt_history.specs.declared.entry.Entry.{Entry}
 use Rattle.lt_history.specs.Lines.{Parts}
@@ -29,16 +30,14 @@ part key es = filter (λ e. bytes_eq e.key key) es
 abbrev pub AreLegalKeys : List Entry → Type 0
 AreLegalKeys es = (key : List ℕ) → IsLegal (map event_of (part key es))
 
--- The number that a leave or a look names is one that a request can have.
-abbrev pub NamesNumber : Call → Type 0
-NamesNumber (Leave number) = IsNumber number
-NamesNumber (Look number) = IsNumber number
-NamesNumber _ = Unit {0}
-
--- The pass and the number that an entry names are in their ranges; the types keep the rest.
+-- The numbers that an entry names are in their ranges. Its types keep all but the pass, and the number of a leave or
+-- a look.
 pub record IsInRange (e : Entry) : Type 0 where
+  pub key : IsKey e.key
   pub pass : (1 ≤ e.pass) × (e.pass ≤ 1024)
-  pub number : NamesNumber e.call
+  pub call : IsCall e.call
+  pub reply : IsReply e.reply
+  pub lets : AllByRecursion IsTicket (map (λ t. t.ticket) e.lets)
 
 -- ---- the keys of a history
 
