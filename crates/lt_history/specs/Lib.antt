@@ -1,3 +1,4 @@
+pub mod Fault
 pub mod Lines
 pub mod Text
 pub mod Place

@@ -8,6 +8,7 @@ use crate::line::read_line;
 use crate::place::{Place, follow};
 use lt_text::words::cut;
 use std::alloc::Global;
+use thiserror::Error;
 
 /// How many keys a text has, and how many steps.
 #[derive(Clone, Copy, Debug, PartialEq, Eq)]
@@ -16,10 +17,14 @@ pub struct Report {
     pub steps: usize,
 }
 
-#[derive(Clone, Copy, Debug, PartialEq, Eq)]
+/// Why a text is not taken. It is shown as `line 3: WrongReply`.
+#[derive(Clone, Copy, Debug, PartialEq, Eq, Drop, Error)]
 pub enum CheckError {
     /// The first line with a fault, from 1, and the first fault in it.
+    #[error("line {line}: {fault}")]
     Refused { line: usize, fault: Fault },
+    /// Memory ran out before a faulty line was known. The text may be legal.
+    #[error("out of memory")]
     Memory,
 }
 
