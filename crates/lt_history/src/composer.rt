@@ -15,6 +15,7 @@ use lt_ids::Through;
 use lt_text::put::{put_call, put_number_word, put_reply, put_ticket, put_word};
 use std::alloc::{AllocError, Global};
 
+/// Puts references to the entries of a shard at the end.
 fn push_all<'a>(entries: &mut Vec<&'a Entry>, shard: &'a [Entry]) -> Result<(), AllocError>
     ensures { OnOk result (map (λ e. e.now) entries.new.items ≡ map (λ e. e.now) entries.old.items ++ shard.now) }
 {
@@ -45,7 +46,6 @@ fn sort_by_key(entries: &mut Vec<&Entry>) -> Result<(), AllocError>
 }
 
 /// All entries, in the order of their keys, those of a key in theirs.
-
 fn by_key<'a>(alloc: Global, shards: &'a [Vec<Entry>]) -> Result<Vec<&'a Entry>, AllocError>
     ensures rising { IfOk result (λ v. RiseFrom [] (map (λ e. e.now) v.items)) }
     ensures parts { IfOk result (λ v. HaveSameParts (map (λ e. e.now) v.items) (flat_map (λ v. v.items) shards.now)) }
@@ -55,6 +55,7 @@ fn by_key<'a>(alloc: Global, shards: &'a [Vec<Entry>]) -> Result<Vec<&'a Entry>,
     Ok(entries)
 }
 
+/// Puts the tickets that were let through at the end, a space before each.
 fn put_tickets(out: &mut Vec<u8>, lets: &[Through]) -> Result<(), AllocError>
     ensures { OnOk result (out.new.items ≡ out.old.items ++ flat_map (λ t. 32 ∷ ticket_word t.ticket) lets.now) }
 {
@@ -64,6 +65,7 @@ fn put_tickets(out: &mut Vec<u8>, lets: &[Through]) -> Result<(), AllocError>
     Ok(())
 }
 
+/// Puts `let` and the tickets at the end, a space before each word; nothing where nobody was let through.
 #[tactic(auto, using(crate::proofs::Composed::lets_are))]
 fn put_lets(out: &mut Vec<u8>, lets: &[Through]) -> Result<(), AllocError>
     ensures { OnOk result (out.new.items ≡ out.old.items ++ spaced (lets_words (map (λ t. t.ticket) lets.now))) }
@@ -100,6 +102,7 @@ fn next_index(before: &[u8], index: u64, key: &[u8]) -> u64
     if key == before { index + 1 } else { 1 }
 }
 
+/// Puts the lines of the entries at the end, which stand in the order of their keys.
 fn put_lines(out: &mut Vec<u8>, entries: &[&Entry]) -> Result<(), AllocError>
     ensures { OnOk result (out.new.items ≡ out.old.items ++ flat_map line_text (lines_after [] 0 (map (λ e. e.now) entries.now))) }
 {
@@ -113,7 +116,8 @@ fn put_lines(out: &mut Vec<u8>, entries: &[&Entry]) -> Result<(), AllocError>
     Ok(())
 }
 
-/// The text of the histories: key after key, rising, each key's entries in their order.
+/// The text of the histories of some shards: `locks 1`, and then key after key, rising, each key's entries in the order
+/// in which they stand, shard after shard. It takes a reference for each entry, and time for one sort of these.
 pub fn compose(alloc: Global, shards: &[Vec<Entry>]) -> Result<Vec<u8>, AllocError>
     ensures { IfOk result (λ text. IsTextOf text.items (flat_map (λ shard. shard.items) shards.now)) }
 {
