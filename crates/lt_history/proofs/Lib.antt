@@ -1,7 +1,16 @@
+pub mod Keys
+pub mod Sorting
+pub mod Composed
+pub mod Grouped
+pub mod Fits
+pub mod Legal
+pub mod Counts
+pub mod Steps
 pub mod Tickets
 pub mod Places
 pub mod LetsLaws
 pub mod PartsLaws
 pub mod LineLaws
 pub mod Loop
+pub mod Verdicts
 pub mod Written

@@ -1,19 +1,18 @@
 -- A line that is read is a line, and is written as it stands; each line is read again.
-use Rattle.std.proofs.Common.{◌≡◌, ◌≢◌, ℕ, ◌<◌, List, [], ◌∷◌, ◌++◌, length, Option, Some, None, Result, Ok, Err, eqb, refl, sym, ap, subst, ◌∙◌, append_assoc, arith}
+use Rattle.std.proofs.Common.{◌≡◌, ◌≢◌, ℕ, ◌<◌, List, [], ◌∷◌, ◌++◌, length, Option, Some, None, Result, Ok, Err, eqb, sym, ap, ◌∙◌, append_assoc, arith}
 use Rattle.std.specs.Prelude.{IfOk, IfErr}
 use Rattle.std.specs.List.{slice_split, join_with_byte}
 use Rattle.std.proofs.lemmas.Option.{some_pair_parts}
 use Rattle.std.proofs.lemmas.List.{append_cancel_right, length-append}
 use Rattle.std.proofs.lemmas.List.Splits.{join_with_byte-slice_split}
-use Rattle.lt_history.specs.declared.error.Fault.{Fault}
 use Rattle.lt_history.specs.declared.error.Fault.TheVariants.{Header, Shape, KeyOrder, Index, WrongReply, WrongLets}
 use Rattle.lt_history.specs.declared.error.Refusal.{Refusal}
 use Rattle.lt_history.specs.declared.error.Refusal.TheVariants as refusals
 use Rattle.lt_history.specs.declared.line.Line.{Line}
 use Rattle.lt_text.specs.Words.{cut_of}
-use Rattle.lt_history.specs.Lines.{Parts, IsLine, line_words, line_text, parts_at, parts_of, Reads, IsMisread, IsShapeless}
-use Rattle.lt_history.specs.Text.{Spot, Follows, IsWrong, IsWrongOr, HasFault, HasFaultOr, TakesLine, spot_after}
-use Rattle.lt_text.proofs.Plain.{cut_again, cut_takes, split_join, no_line_end, ArePlain}
+use Rattle.lt_history.specs.Lines.{Parts, IsLine, line_words, line_text, parts_at, parts_of, Reads, IsShapeless}
+use Rattle.lt_history.specs.Text.{Spot, Follows, IsWrongOr, HasFault, HasFaultOr, TakesLine, spot_after}
+use Rattle.lt_text.proofs.Plain.{cut_again, cut_takes, split_join, no_line_end}
 use Rattle.lt_history.proofs.PartsLaws.{parts_takes, parts_again, parts_plain}
 
 text_is : (bytes : List ℕ) (p : Parts) → slice_split (λ b. eqb b 32) bytes ≡ line_words p → line_text p ≡ bytes ++ 10 ∷ []
@@ -78,7 +77,7 @@ bytes_are text bytes rest p more line cut same =
     ap (λ (t : List ℕ). t ++ 10 ∷ []) e.0
 
 pub shapeless : (s : Spot) (text bytes rest : List ℕ) (e : Refusal) → 0 < length text → cut_of 10 text ≡ Some (bytes, rest) → IsShapeless e bytes → HasFaultOr s text e
-shapeless s text bytes rest refusals.Memory lt cut h = tt
+shapeless s text bytes rest refusals.Memory lt cut h = nonempty text lt
 shapeless s text bytes rest (refusals.Fault Shape) lt cut h = (nonempty text lt, λ p more line same. h p line (bytes_are text bytes rest p more line cut same))
 shapeless s text bytes rest (refusals.Fault Header) lt cut h = h
 shapeless s text bytes rest (refusals.Fault KeyOrder) lt cut h = absurd h
@@ -90,14 +89,14 @@ joined_front : (text bytes rest : List ℕ) (p : Parts) → cut_of 10 text ≡ S
 joined_front text bytes rest p cut e =
     cut_takes 10 text bytes rest cut ∙ (sym (append_assoc bytes (10 ∷ []) rest) ∙ ap (λ (t : List ℕ). t ++ rest) (sym e))
 
-pub wrong : (s : Spot) (text bytes rest : List ℕ) (p : Parts) (e : Refusal) → IsLine p → cut_of 10 text ≡ Some (bytes, rest) → line_text p ≡ bytes ++ 10 ∷ [] → IsWrongOr s p e → HasFaultOr s text e
-wrong s text bytes rest p refusals.Memory line cut same h = tt
-wrong s text bytes rest p (refusals.Fault Header) line cut same h = h
-wrong s text bytes rest p (refusals.Fault Shape) line cut same h = absurd h
-wrong s text bytes rest p (refusals.Fault KeyOrder) line cut same h = (p, rest, line, joined_front text bytes rest p cut same, h)
-wrong s text bytes rest p (refusals.Fault Index) line cut same h = (p, rest, line, joined_front text bytes rest p cut same, h)
-wrong s text bytes rest p (refusals.Fault WrongReply) line cut same h = (p, rest, line, joined_front text bytes rest p cut same, h)
-wrong s text bytes rest p (refusals.Fault WrongLets) line cut same h = (p, rest, line, joined_front text bytes rest p cut same, h)
+pub wrong : (s : Spot) (text bytes rest : List ℕ) (p : Parts) (e : Refusal) → 0 < length text → IsLine p → cut_of 10 text ≡ Some (bytes, rest) → line_text p ≡ bytes ++ 10 ∷ [] → IsWrongOr s p e → HasFaultOr s text e
+wrong s text bytes rest p refusals.Memory lt line cut same h = nonempty text lt
+wrong s text bytes rest p (refusals.Fault Header) lt line cut same h = h
+wrong s text bytes rest p (refusals.Fault Shape) lt line cut same h = absurd h
+wrong s text bytes rest p (refusals.Fault KeyOrder) lt line cut same h = (p, rest, line, joined_front text bytes rest p cut same, h)
+wrong s text bytes rest p (refusals.Fault Index) lt line cut same h = (p, rest, line, joined_front text bytes rest p cut same, h)
+wrong s text bytes rest p (refusals.Fault WrongReply) lt line cut same h = (p, rest, line, joined_front text bytes rest p cut same, h)
+wrong s text bytes rest p (refusals.Fault WrongLets) lt line cut same h = (p, rest, line, joined_front text bytes rest p cut same, h)
 
 pub takes : (s next : Spot) (text bytes rest : List ℕ) (p : Parts) → IsLine p → cut_of 10 text ≡ Some (bytes, rest) → line_text p ≡ bytes ++ 10 ∷ [] → Follows s p → next ≡ spot_after s p → TakesLine s text next rest
 takes s next text bytes rest p line cut same follows leads = record { parts = p; line = line; joined = joined_front text bytes rest p cut same; follows = follows; leads = leads }

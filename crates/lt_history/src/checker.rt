@@ -1,14 +1,14 @@
-ghost use Rattle.std.specs.Prelude.{◌≡◌, ◌==◌, ◌<◌, ◌≤◌, ◌+◌, ◌^◌, if◌then◌else◌, List, IfOk, IfErr, length, ◌++◌};
-ghost use Rattle.lt_history.specs.Lines.{Parts};
+ghost use Rattle.std.specs.Prelude.{◌≡◌, ◌==◌, ◌<◌, ◌≤◌, ◌+◌, ◌^◌, ℕ, if◌then◌else◌, List, IfOk, IfErr, length, ◌++◌};
 ghost use Rattle.lt_history.specs.Place.{spot_of, spot};
-ghost use Rattle.lt_history.specs.Text.{header, TakesLine, HasFaultOr, text_of, AreLegal};
-ghost use Rattle.lt_history.specs.Verdict.{located, IsReported, FailsOr, Judges};
+ghost use Rattle.lt_history.specs.Text.{header, TakesLine, HasFaultOr, Fails};
+ghost use Rattle.lt_history.specs.Verdict.{located, Judges, Says, IsLegalText, IsOrMemory};
 
 use crate::error::{Fault, Refusal};
 use crate::line::read_line;
 use crate::place::{Place, follow};
 use lt_text::words::cut;
 use std::alloc::Global;
+use thiserror::Error;
 
 /// How many keys a text has, and how many steps.
 #[derive(Clone, Copy, Debug, PartialEq, Eq)]
@@ -17,10 +17,14 @@ pub struct Report {
     pub steps: usize,
 }
 
-#[derive(Clone, Copy, Debug, PartialEq, Eq)]
+/// Why a text is not taken. It is shown as `line 3: WrongReply`.
+#[derive(Clone, Copy, Debug, PartialEq, Eq, Drop, Error)]
 pub enum CheckError {
     /// The first line with a fault, from 1, and the first fault in it.
+    #[error("line {line}: {fault}")]
     Refused { line: usize, fault: Fault },
+    /// Memory ran out before a faulty line was known. The text may be legal.
+    #[error("out of memory")]
     Memory,
 }
 
@@ -98,15 +102,17 @@ fn judge(alloc: Global, text: &[u8]) -> Result<Report, CheckError>
     }
 }
 
-/// Whether the text is one of legal key histories.
-#[tactic(auto, using(crate::proofs::Loop::legal_is_taken))]
+/// Whether the text is one of legal key histories, line by line. It answers exactly by what is so: the numbers of keys
+/// and steps of a legal text, the first faulty line and the first fault in it of any other, and want of memory only
+/// before a faulty line.
+#[tactic(auto, using(crate::proofs::Verdicts::is_said, crate::proofs::Verdicts::legal_is_said, crate::proofs::Verdicts::fault_is_said))]
 pub fn check(alloc: Global, text: &[u8]) -> Result<Report, CheckError>
-    // What is taken is the text of legal lines, and of so many.
-    ensures ok { IfOk result (λ report. IsReported text.now report) }
-    // The line and the fault that are told are the first ones.
-    ensures err { IfErr result (λ e. FailsOr text.now e) }
-    // A legal text is taken, unless memory runs out.
-    ensures legal { (ps : List Parts) → AreLegal ps → text.now ≡ text_of ps → IfErr result (λ e. e ≡ CheckError.Memory) }
+    // What is said is right.
+    ensures says { Says text.now result }
+    // A legal text is taken, with its numbers of keys and steps.
+    ensures legal { (report : Report) → IsLegalText text.now report → IsOrMemory result (Ok report) }
+    // Any other text is refused, by its first faulty line and the first fault in it.
+    ensures faulty { (line : ℕ) (fault : Fault) → Fails text.now line fault → IsOrMemory result (Err (CheckError.Refused line fault)) }
 {
     judge(alloc, text)
 }

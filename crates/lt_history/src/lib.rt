@@ -1,16 +1,36 @@
-//! The text of key histories: its printer, and its exact checker.
+//! Histories of keys as text: how they are written, and an exact checker of such texts.
+//!
+//! A lock table keeps, for each of its shards, the list of the steps that it made ([`Entry`]): which key, which pass,
+//! which call, which reply, and whom the step let through. [`print`] writes the text of such lists, and [`compose`]
+//! gives it in memory; [`check`] reads a text and says whether it is one of legal histories, that is, whether the
+//! rules of one key (`lt_plain`) give each reply and each let that the text has. So whoever has a text can audit a run
+//! without the table that made it.
+//!
+//! What is promised:
+//!
+//! - `compose` and `print` give the text of all entries: key after key, rising, each key's steps in their order
+//!   (`IsTextOf` in `specs/Histories.antt`). `print` writes nothing without memory, and after a write that failed a
+//!   front of the text.
+//! - `check` answers `Ok` exactly on the texts of legal histories, with their numbers of keys and steps. Any other text
+//!   is refused by its first faulty line and the first fault in it, and no text has two verdicts. Want of memory alone
+//!   can keep it from its verdict, and is told only before a faulty line (`specs/Verdict.antt`).
+//!
+//! `specs/Lines.antt` has the form of a line, `specs/Text.antt` the order of faults; `docs/FORMATS-history.md` tells
+//! the format to a stranger. `src/composer.rt` is the writer's side, `src/checker.rt` the reader's.
 #![tactic(auto)]
 
 mod checker;
+mod composer;
 mod entry;
 mod error;
 mod line;
 mod place;
-mod print;
+mod printer;
 #[cfg(test)]
 mod tests;
 
 pub use checker::{CheckError, Report, check};
+pub use composer::compose;
 pub use entry::{Entry, Lets};
 pub use error::Fault;
-pub use print::PrintError;
+pub use printer::{PrintError, print};

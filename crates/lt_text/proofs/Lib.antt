@@ -4,4 +4,3 @@ pub mod Plain
 pub mod FieldLaws
 pub mod CallLaws
 pub mod ReplyLaws
-pub mod ReplyFits

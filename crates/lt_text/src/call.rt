@@ -2,9 +2,9 @@ ghost use Rattle.std.specs.Prelude.{◌≡◌, ◌^◌};
 ghost use Rattle.lt_text.specs.Fields.{number_within};
 ghost use Rattle.lt_text.specs.Calls.{Gives, visit_at, acquire_at, update_at, finish_at, leave_at, look_at, call_of, call_at};
 
-use crate::words::Words;
 use crate::field::{access, ticket, timestamp, txn};
 use crate::number::number;
+use crate::words::Words;
 use lt_plain::Call;
 
 #[tactic(auto, unfolding(crate::specs::Calls::visit_at))]
@@ -41,7 +41,7 @@ fn update(words: &mut Words) -> Option<Call>
     Some(Call::Update { txn, ts })
 }
 
-/// The number of a request.
+/// The number of a request that the word spells: 1 to 2^40 - 1.
 pub fn request_number(word: &[u8]) -> Option<u64>
     ensures { result ≡ number_within 1 (2 ^ 40) word.now }
 {
@@ -101,7 +101,8 @@ fn call_named(name: &[u8], words: &mut Words) -> Option<Call>
     None
 }
 
-/// The call that the next words spell.
+/// The call that the next words spell, its name first; `None` where they spell none, or a number is out of its range.
+/// The words after the call are left.
 pub fn call(words: &mut Words) -> Option<Call>
     ensures { Gives result words.new (call_at words.old) }
 {

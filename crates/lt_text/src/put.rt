@@ -4,8 +4,8 @@ ghost use Rattle.lt_text.specs.Fields.{pair_word, access_word};
 ghost use Rattle.lt_text.specs.Calls.{call_words};
 ghost use Rattle.lt_text.specs.Compose.{spaced};
 
-use itoa::Buffer;
 use crate::reply::name;
+use itoa::Buffer;
 use lt_ids::{Access, Ticket, Timestamp, TxnId};
 use lt_plain::{Call, Reply};
 use std::alloc::AllocError;
@@ -27,6 +27,7 @@ pub fn put_pair(out: &mut Vec<u8>, first: u64, second: u64) -> Result<(), AllocE
     put_number(out, second)
 }
 
+/// Puts a space and the word at the end.
 pub fn put_word(out: &mut Vec<u8>, word: &[u8]) -> Result<(), AllocError>
     ensures { OnOk result (out.new.items ≡ out.old.items ++ 32 ∷ word.now) }
 {
@@ -34,6 +35,7 @@ pub fn put_word(out: &mut Vec<u8>, word: &[u8]) -> Result<(), AllocError>
     out.extend_from_slice(word)
 }
 
+/// Puts a space and the number at the end.
 pub fn put_number_word(out: &mut Vec<u8>, n: u64) -> Result<(), AllocError>
     ensures { OnOk result (out.new.items ≡ out.old.items ++ 32 ∷ decimal n) }
 {
@@ -41,6 +43,7 @@ pub fn put_number_word(out: &mut Vec<u8>, n: u64) -> Result<(), AllocError>
     put_number(out, n)
 }
 
+/// Puts a space and two numbers with a dot between them at the end.
 pub fn put_pair_word(out: &mut Vec<u8>, first: u64, second: u64) -> Result<(), AllocError>
     ensures { OnOk result (out.new.items ≡ out.old.items ++ 32 ∷ pair_word first second) }
 {
@@ -48,18 +51,21 @@ pub fn put_pair_word(out: &mut Vec<u8>, first: u64, second: u64) -> Result<(), A
     put_pair(out, first, second)
 }
 
+/// Puts a space and the timestamp at the end.
 pub fn put_time(out: &mut Vec<u8>, ts: Timestamp) -> Result<(), AllocError>
     ensures { OnOk result (out.new.items ≡ out.old.items ++ 32 ∷ pair_word ts.wall ts.logical) }
 {
     put_pair_word(out, ts.wall, ts.logical as u64)
 }
 
+/// Puts a space and the ticket at the end.
 pub fn put_ticket(out: &mut Vec<u8>, ticket: Ticket) -> Result<(), AllocError>
     ensures { OnOk result (out.new.items ≡ out.old.items ++ 32 ∷ pair_word ticket.number ticket.wait) }
 {
     put_pair_word(out, ticket.number(), ticket.wait() as u64)
 }
 
+/// The word of the access.
 fn access_name(access: Access) -> &'static [u8]
     ensures { result.now ≡ access_word access }
 {
@@ -111,18 +117,15 @@ pub fn put_call(out: &mut Vec<u8>, call: Call) -> Result<(), AllocError>
     }
 }
 
+/// Whether a lock is held or reserved, as a word.
 fn held_name(is_held: bool) -> &'static [u8]
     ensures { result.now ≡ held_word is_held }
 {
     if is_held { b"held" } else { b"reserved" }
 }
 
-fn put_waits(
-    out: &mut Vec<u8>,
-    name: &[u8],
-    txn: TxnId,
-    is_held: bool,
-) -> Result<(), AllocError>
+/// Puts the words at the end that say for whom one waits.
+fn put_waits(out: &mut Vec<u8>, name: &[u8], txn: TxnId, is_held: bool) -> Result<(), AllocError>
     ensures { OnOk result (out.new.items ≡ out.old.items ++ spaced (name.now ∷ decimal txn ∷ held_word is_held ∷ [])) }
 {
     put_word(out, name)?;

@@ -2,8 +2,8 @@ ghost use Rattle.std.specs.Prelude.{◌≡◌};
 ghost use Rattle.lt_text.specs.Calls.{Gives};
 ghost use Rattle.lt_text.specs.Replies.{reply_name, fixed_reply, held_of, waits_at, own_at, reply_of, reply_at, is_reply_of, is_visit_reply, is_acquire_reply, is_update_reply, is_finish_reply, is_leave_reply, is_look_reply};
 
-use crate::words::Words;
 use crate::field::txn;
+use crate::words::Words;
 use lt_plain::{Call, Reply};
 
 /// The first word of a reply.
@@ -104,7 +104,7 @@ fn reply_named(name: &[u8], words: &mut Words) -> Option<Reply>
     fixed(name)
 }
 
-/// The reply that the next words spell.
+/// The reply that the next words spell, its name first; `None` where they spell none. The words after it are left.
 pub fn reply(words: &mut Words) -> Option<Reply>
     ensures { Gives result words.new (reply_at words.old) }
 {

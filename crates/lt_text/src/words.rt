@@ -11,7 +11,7 @@ fn place_of(bytes: &[u8], at: u8) -> Option<usize>
     bytes.iter().position(|b| *b == at)
 }
 
-/// What stands before the first of these bytes, and what stands after it.
+/// What stands before the first byte that is `at`, and what stands after it; `None` where no byte is.
 #[tactic(auto, using(crate::proofs::Cuts::cut_of_none, crate::proofs::Cuts::cut_of_at))]
 pub fn cut(bytes: &[u8], at: u8) -> Option<(&[u8], &[u8])>
     ensures { MatchOption result (cut_of at bytes.now ≡ None) (λ parts. cut_of at bytes.now ≡ Some (parts.0.now, parts.1.now)) }
@@ -54,13 +54,14 @@ impl<'a> Model for Words<'a> {
 }
 
 impl<'a> Words<'a> {
+    /// The words of the line, whose end is left out. An empty line has one word, which is empty.
     pub fn new(line: &'a [u8]) -> Self
         ensures { result ≡ slice_split (λ b. b == 32) line.now }
     {
         Words { rest: Some(line) }
     }
 
-    /// The next word.
+    /// The next word, or `None` after the last.
     pub fn next(&mut self) -> Option<&'a [u8]>
         ensures { MatchOption result ((self.old ≡ []) × (self.new ≡ [])) (λ word. self.old ≡ word.now ∷ self.new) }
     {
