@@ -1,0 +1,22 @@
+use Rattle.std.proofs.Common.{◌≡◌, Some, None, true, ◌∙◌, sym, ap, refl, subst, List, ℕ, ◌∷◌, ◌++◌}
+use Rattle.std.specs.Prelude.{is_some, slice_get}
+use Rattle.slab.specs.Slab.{get}
+use Rattle.lt_links.specs.Maps.{Maps, IsSound, has_record, queue}
+use Rattle.std.specs.List.{last_or}
+use Rattle.lt_links.specs.Ring.{has}
+use Rattle.lt_links.specs.declared.ids.Queue.{Queue}
+use Rattle.lt_links.proofs.Views.{record_is}
+use Rattle.lt_links.proofs.Steps.{node_there}
+use Rattle.lt_links.proofs.Shows.{IsSound-links, last_is, next_of_node, queue_of_node}
+use Rattle.lt_links.proofs.links.Links.last.Goals as goal
+
+pub queued-ends-requires : goal.queued-ends-requires
+queued-ends-requires c = sym (record_is c.self.inside.nodes c.self.inside.heads c.self.inside.owners c.args.queue.id) ∙ (rw (← c.self.view_is) at c.requires)
+
+pub returns-clause-last : goal.returns-clause-last
+returns-clause-last c =
+    let inv = c.self.invariant in
+    c.at.ensures ∙ ap (λ j. j.prev) c.queued-ends.ensures ∙ last_is c.self.inside.nodes c.self.inside.heads c.self.inside.owners inv.queues inv.numbers inv.links c.args.queue ∙ ap (λ (m : Maps). last_or None (queue m c.args.queue)) c.self.view_is
+
+pub returns-clause-sound : goal.returns-clause-sound
+returns-clause-sound c = let inv = c.self.invariant in subst IsSound c.self.view_is (IsSound-links c.self.inside.nodes c.self.inside.heads c.self.inside.owners inv.queues inv.numbers inv.links)

@@ -1,0 +1,21 @@
+use Rattle.std.proofs.Common.{◌≡◌, Some, None, true, ◌∙◌, sym, ap, refl, subst, List, ℕ, ◌∷◌, ◌++◌}
+use Rattle.std.specs.Prelude.{is_some, slice_get}
+use Rattle.slab.specs.Slab.{get}
+use Rattle.lt_links.specs.Maps.{Maps, IsSound, has_record, queue}
+use Rattle.lt_links.specs.Ring.{has}
+use Rattle.lt_links.specs.declared.ids.Queue.{Queue}
+use Rattle.lt_links.proofs.Views.{record_is}
+use Rattle.lt_links.proofs.Steps.{node_there}
+use Rattle.lt_links.proofs.Shows.{IsSound-links, first_is, prev_of_node, queue_of_node}
+use Rattle.lt_links.proofs.links.Links.prev.Goals as goal
+
+pub index-requires : goal.index-requires
+index-requires c = rw c.key.ensures (node_there c.self.inside.nodes c.self.inside.heads c.self.inside.owners c.args.node (rw (← c.self.view_is) at c.requires))
+
+pub returns-clause-prev : goal.returns-clause-prev
+returns-clause-prev c =
+    let inv = c.self.invariant in
+    rw (c.at.ensures, ← c.self.view_is, ← c.key.ensures) (prev_of_node c.self.inside.nodes c.self.inside.heads c.self.inside.owners inv.queues inv.numbers inv.links c.key.result c.index.result.now c.index.ensures)
+
+pub returns-clause-sound : goal.returns-clause-sound
+returns-clause-sound c = let inv = c.self.invariant in subst IsSound c.self.view_is (IsSound-links c.self.inside.nodes c.self.inside.heads c.self.inside.owners inv.queues inv.numbers inv.links)
