@@ -55,11 +55,10 @@ module _ (nodes nodes1 : Slab Node) (heads : Slab Heads) (owners : Owners) (queu
   next_there = queued_there _ (next_in _ _ _ (in_slab.rings to) a a_in)
 
   -- it is in its queue, and its number has a list
-  module _ (nodes2 : Slab Node) (heads2 : Slab Heads) (owners1 : Owners) (opens : OpensOwner owners owners1 s.number) (last : Option ℕ) (last_is : last ≡ (unwrap_or (ends_of owners s.number) no_joint).prev) (one : LinksQueued nodes1 heads nodes2 heads2 to a (queued_at nodes1 heads to a).next n) where
+  module _ (nodes2 : Slab Node) (heads2 : Slab Heads) (owners1 : Owners) (opens : OpensOwner owners owners1 s.number) (last : Option ℕ) (last_is : last ≡ (unwrap_or (ends_of owners s.number) no_joint).prev) (next : Option ℕ) (next_is : next ≡ (queued_at nodes1 heads to a).next) (one : LinksQueued nodes1 heads nodes2 heads2 to a next n) where
     linked_same : {X : Type 0} (f : Option Node → X) → ((x : Option Node) → f (unqueued x) ≡ f x) → (m : ℕ) → f (get nodes2 m) ≡ f (get nodes1 m)
     linked_same f through m =
-        over (get one.mid_nodes m) (get nodes2 m) (one.second.keeps.nodes_kept m) f through
-        ∙ over (get nodes1 m) (get one.mid_nodes m) (one.first.keeps.nodes_kept m) f through
+        over (get nodes1 m) (get nodes2 m) (one.keeps.nodes_kept m) f through
 
     owned_through : (x : Option Node) → owned_of (unqueued x) ≡ owned_of x
     owned_through None = refl
@@ -97,8 +96,7 @@ module _ (nodes nodes1 : Slab Node) (heads : Slab Heads) (owners : Owners) (queu
     module _ (nodes3 : Slab Node) (owners3 : Owners) (two : LinksOwned nodes2 owners1 nodes3 owners3 s.number last None n) where
       owned_same : {X : Type 0} (f : Option Node → X) → ((x : Option Node) → f (unowned x) ≡ f x) → (m : ℕ) → f (get nodes3 m) ≡ f (get nodes2 m)
       owned_same f through m =
-          under (get two.mid_nodes m) (get nodes3 m) (two.second.keeps.nodes_kept m) f through
-          ∙ under (get nodes2 m) (get two.mid_nodes m) (two.first.keeps.nodes_kept m) f through
+          under (get nodes2 m) (get nodes3 m) (two.keeps.nodes_kept m) f through
 
       pushed_same : {X : Type 0} (f : Option Node → X) → ((x : Option Node) → f (unqueued x) ≡ f x) → ((x : Option Node) → f (unowned x) ≡ f x) → (m : ℕ) → m ≢ n → f (get nodes3 m) ≡ f (get nodes m)
       pushed_same f through through' m off = owned_same f through' m ∙ linked_same f through m ∙ ap f (put.others m off)
@@ -141,20 +139,20 @@ module _ (nodes nodes1 : Slab Node) (heads : Slab Heads) (owners : Owners) (queu
       pushed_numbers k = cond (nat_eq k s.number) (numbers k ++ n ∷ []) (numbers k)
 
       heads_same : (id : ℕ) → is_some (get heads2 id) ≡ is_some (get heads id)
-      heads_same id = one.second.keeps.heads_kept id ∙ one.first.keeps.heads_kept id
+      heads_same id = one.keeps.heads_kept id
 
       owners_same : (k : ℕ) → is_some (ends_of owners3 k) ≡ is_some (ends_of owners1 k)
-      owners_same k = two.second.keeps.owners_kept k ∙ two.first.keeps.owners_kept k
+      owners_same k = two.keeps.owners_kept k
 
       pub Links-pushed : Links nodes3 heads2 owners3 pushed_queues pushed_numbers
       Links-pushed =
           record {
             queues_linked = IsFamily-kept same_queue (queued_at nodes2 heads2) (queued_at nodes3 heads2) (λ m. queue_of (get nodes3 m)) (λ m. queue_of (get nodes3 m)) pushed_queues
-                (IsFamily-put_after same_queue (queued_at nodes1 heads) (queued_at one.mid_nodes one.mid_heads) (queued_at nodes2 heads2) (λ m. queue_of (get nodes m)) (λ m. queue_of (get nodes3 m)) queues pushed_queues to a n
-                in_slab a_in (ap queue_of vacant) one.first.joins one.second.joins (pushed_here queue_of q1 q2) (pushed_same queue_of q1 q2) (rw (is_same to) refl) (λ q off. rw (is_other q to off) refl))
+                (IsFamily-put_after same_queue (queued_at nodes1 heads) (queued_at one.mid_nodes one.mid_ends) (queued_at nodes2 heads2) (λ m. queue_of (get nodes m)) (λ m. queue_of (get nodes3 m)) queues pushed_queues to a n
+                in_slab a_in (ap queue_of vacant) one.first (subst (JoinsIn (queued_at one.mid_nodes one.mid_ends) (queued_at nodes2 heads2) to (Some n)) next_is one.second) (pushed_here queue_of q1 q2) (pushed_same queue_of q1 q2) (rw (is_same to) refl) (λ q off. rw (is_other q to off) refl))
                 kept (λ m. refl);
-            numbers_linked = IsFamily-put_after same_number (owned_at nodes2 owners1) (owned_at two.mid_nodes two.mid_owners) (owned_at nodes3 owners3) (λ m. number_of (get nodes m)) (λ m. number_of (get nodes3 m)) numbers pushed_numbers s.number last n
-                in_queue last_in (ap number_of vacant) two.first.joins (subst (JoinsIn (owned_at two.mid_nodes two.mid_owners) (owned_at nodes3 owners3) s.number (Some n)) (sym last_next) two.second.joins) (pushed_here number_of n1 n2) (pushed_same number_of n1 n2)
+            numbers_linked = IsFamily-put_after same_number (owned_at nodes2 owners1) (owned_at two.mid_nodes two.mid_ends) (owned_at nodes3 owners3) (λ m. number_of (get nodes m)) (λ m. number_of (get nodes3 m)) numbers pushed_numbers s.number last n
+                in_queue last_in (ap number_of vacant) two.first (subst (JoinsIn (owned_at two.mid_nodes two.mid_ends) (owned_at nodes3 owners3) s.number (Some n)) (sym last_next) two.second) (pushed_here number_of n1 n2) (pushed_same number_of n1 n2)
                 (rw (is_itself s.number, ends_are) (sym (put_after_last (next_of (owned_at nodes2 owners1) s.number) (prev_of (owned_at nodes2 owners1) s.number) (numbers s.number) n (in_queue.rings s.number))))
                 (λ k off. elim (same_or_apart k s.number) [ inl e ↦ absurd (off e.0) | inr o ↦ rw o.1 refl ]);
             heads_there = λ m q h. heads_same q.id ∙ elim (same_or_apart m n) [

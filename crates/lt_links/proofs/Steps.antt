@@ -313,12 +313,11 @@ module _ (nodes nodes1 nodes2 : Slab Node) (heads heads1 : Slab Heads) (owners :
           ]
 
 -- a node goes from its queue to the front of one
-module _ (nodes nodes1 nodes2 nodes3 : Slab Node) (heads heads1 heads3 : Slab Heads) (owners : Owners) (queues : Queue → List ℕ) (numbers : ℕ → List ℕ) (n : ℕ) (d e : Node) (to : Queue) (links : Links nodes heads owners queues numbers) (at : get nodes n ≡ Some d) (one : JoinsQueued nodes heads nodes1 heads1 d.queue d.queued.prev d.queued.next) (at1 : get nodes1 n ≡ Some e) (set : Updates nodes1 nodes2 n (Some (record e { queue = to }))) (two : LinksQueued nodes2 heads1 nodes3 heads3 to None (queued_at nodes2 heads1 to None).next n) (there : is_some (get heads to.id) ≡ true) where
+module _ (nodes nodes1 nodes2 nodes3 : Slab Node) (heads heads1 heads3 : Slab Heads) (owners : Owners) (queues : Queue → List ℕ) (numbers : ℕ → List ℕ) (n : ℕ) (d e : Node) (to : Queue) (links : Links nodes heads owners queues numbers) (at : get nodes n ≡ Some d) (one : JoinsQueued nodes heads nodes1 heads1 d.queue d.queued.prev d.queued.next) (at1 : get nodes1 n ≡ Some e) (set : Updates nodes1 nodes2 n (Some (record e { queue = to }))) (first : Option ℕ) (first_is : first ≡ (queued_at nodes2 heads1 to None).next) (two : LinksQueued nodes2 heads1 nodes3 heads3 to None first n) (there : is_some (get heads to.id) ≡ true) where
   -- what is not of queues stays
   moved_same : {X : Type 0} (f : Option Node → X) → ((x : Option Node) → f (unqueued x) ≡ f x) → f (Some (record e { queue = to })) ≡ f (Some e) → (m : ℕ) → f (get nodes3 m) ≡ f (get nodes m)
   moved_same f through same m =
-      over (get two.mid_nodes m) (get nodes3 m) (two.second.keeps.nodes_kept m) f through
-      ∙ over (get nodes2 m) (get two.mid_nodes m) (two.first.keeps.nodes_kept m) f through
+      over (get nodes2 m) (get nodes3 m) (two.keeps.nodes_kept m) f through
       ∙ elim (same_or_apart m n) [
         | inl s ↦ ap (λ i. f (get nodes2 i)) s.0 ∙ ap f set.changed ∙ same ∙ ap f (sym at1) ∙ ap (λ i. f (get nodes1 i)) (sym s.0)
         | inr o ↦ ap f (set.others m o.0)
@@ -327,19 +326,17 @@ module _ (nodes nodes1 nodes2 nodes3 : Slab Node) (heads heads1 heads3 : Slab He
 
   new_home : (m : ℕ) → m ≢ n → queue_of (get nodes3 m) ≡ queue_of (get nodes m)
   new_home m off =
-      q_queue (get two.mid_nodes m) (get nodes3 m) (two.second.keeps.nodes_kept m)
-      ∙ q_queue (get nodes2 m) (get two.mid_nodes m) (two.first.keeps.nodes_kept m)
+      q_queue (get nodes2 m) (get nodes3 m) (two.keeps.nodes_kept m)
       ∙ ap queue_of (set.others m off)
       ∙ q_queue (get nodes m) (get nodes1 m) (one.keeps.nodes_kept m)
 
   comes_home : queue_of (get nodes3 n) ≡ Some to
   comes_home =
-      q_queue (get two.mid_nodes n) (get nodes3 n) (two.second.keeps.nodes_kept n)
-      ∙ q_queue (get nodes2 n) (get two.mid_nodes n) (two.first.keeps.nodes_kept n)
+      q_queue (get nodes2 n) (get nodes3 n) (two.keeps.nodes_kept n)
       ∙ ap queue_of set.changed
 
   heads_same : (id : ℕ) → is_some (get heads3 id) ≡ is_some (get heads id)
-  heads_same id = two.second.keeps.heads_kept id ∙ two.first.keeps.heads_kept id ∙ one.keeps.heads_kept id
+  heads_same id = two.keeps.heads_kept id ∙ one.keeps.heads_kept id
 
   abbrev moved_queues : Queue → List ℕ
   moved_queues q = cond (is_queue q to) (n ∷ without n (queues q)) (without n (queues q))
@@ -347,8 +344,8 @@ module _ (nodes nodes1 nodes2 nodes3 : Slab Node) (heads heads1 heads3 : Slab He
   pub Links-moved : Links nodes3 heads3 owners moved_queues numbers
   Links-moved =
       record {
-        queues_linked = IsFamily-put_after same_queue (queued_at nodes2 heads1) (queued_at two.mid_nodes two.mid_heads) (queued_at nodes3 heads3) (between nodes nodes1 nodes2 heads heads1 owners queues numbers n d e to links at one at1 set there) (λ m. queue_of (get nodes3 m)) (λ q. without n (queues q)) moved_queues to None n
-            (between_family nodes nodes1 nodes2 heads heads1 owners queues numbers n d e to links at one at1 set there) refl (rw (is_itself n) refl) two.first.joins two.second.joins comes_home
+        queues_linked = IsFamily-put_after same_queue (queued_at nodes2 heads1) (queued_at two.mid_nodes two.mid_ends) (queued_at nodes3 heads3) (between nodes nodes1 nodes2 heads heads1 owners queues numbers n d e to links at one at1 set there) (λ m. queue_of (get nodes3 m)) (λ q. without n (queues q)) moved_queues to None n
+            (between_family nodes nodes1 nodes2 heads heads1 owners queues numbers n d e to links at one at1 set there) refl (rw (is_itself n) refl) two.first (subst (JoinsIn (queued_at two.mid_nodes two.mid_ends) (queued_at nodes3 heads3) to (Some n)) first_is two.second) comes_home
             (λ m off. elim (same_or_apart m n) [ inl s ↦ absurd (off s.0) | inr o ↦ new_home m off ∙ rw o.1 refl ])
             (rw (is_same to) refl) (λ q off. rw (is_other q to off) refl);
         numbers_linked = IsFamily-kept same_number (owned_at nodes owners) (owned_at nodes3 owners) (λ m. number_of (get nodes m)) (λ m. number_of (get nodes3 m)) numbers links.numbers_linked

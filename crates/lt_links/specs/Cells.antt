@@ -70,6 +70,26 @@ module _ {K : Type 0} where
     pub here : Joins (next_of old k) (prev_of old k) (next_of new k) (prev_of new k) p s
     pub elsewhere : (i : K) → i ≢ k → (a : Option ℕ) → ((a ≢ p) × (a ≢ s)) ⊎ (a ≡ None) → new i a ≡ old i a
 
+  -- of the nodes, and what a family keeps beside them, which is written in what is said below
+  module _ {E : Type 0} (joints : Slab Node → E → Joints K) (Keeps : Slab Node → E → Slab Node → E → Type 0) (nodes : Slab Node) (ends : E) (nodes' : Slab Node) (ends' : E) where
+    -- one joint is written
+    pub record SetsJoint (k : K) (at : Option ℕ) (j : Joint) : Type 0 where
+      pub sets : Sets (joints nodes ends) (joints nodes' ends') k at j
+      pub keeps : Keeps nodes ends nodes' ends'
+
+    -- two places of a list are made neighbours
+    pub record JoinsPlaces (k : K) (p s : Option ℕ) : Type 0 where
+      pub joins : JoinsIn (joints nodes ends) (joints nodes' ends') k p s
+      pub keeps : Keeps nodes ends nodes' ends'
+
+    -- a node comes into a list, between two places
+    pub record LinksNode (k : K) (at next : Option ℕ) (n : ℕ) : Type 0 where
+      pub mid_nodes : Slab Node
+      pub mid_ends : E
+      pub first : JoinsIn (joints nodes ends) (joints mid_nodes mid_ends) k at (Some n)
+      pub second : JoinsIn (joints mid_nodes mid_ends) (joints nodes' ends') k (Some n) next
+      pub keeps : Keeps nodes ends nodes' ends'
+
   abbrev pub IsFamily : Joints K → (ℕ → Option K) → (K → List ℕ) → Type 0
   IsFamily joints home lists = Family (next_of joints) (prev_of joints) home lists
 
@@ -78,13 +98,11 @@ pub record KeepsQueued (nodes : Slab Node) (heads : Slab Heads) (nodes' : Slab N
   pub nodes_kept : (n : ℕ) → unqueued (get nodes' n) ≡ unqueued (get nodes n)
   pub heads_kept : (id : ℕ) → is_some (get heads' id) ≡ is_some (get heads id)
 
-pub record SetsQueued (nodes : Slab Node) (heads : Slab Heads) (nodes' : Slab Node) (heads' : Slab Heads) (q : Queue) (at : Option ℕ) (j : Joint) : Type 0 where
-  pub sets : Sets (queued_at nodes heads) (queued_at nodes' heads') q at j
-  pub keeps : KeepsQueued nodes heads nodes' heads'
+abbrev pub JoinsQueued : Slab Node → Slab Heads → Slab Node → Slab Heads → Queue → Option ℕ → Option ℕ → Type 0
+JoinsQueued = JoinsPlaces queued_at KeepsQueued
 
-pub record JoinsQueued (nodes : Slab Node) (heads : Slab Heads) (nodes' : Slab Node) (heads' : Slab Heads) (q : Queue) (p s : Option ℕ) : Type 0 where
-  pub joins : JoinsIn (queued_at nodes heads) (queued_at nodes' heads') q p s
-  pub keeps : KeepsQueued nodes heads nodes' heads'
+abbrev pub LinksQueued : Slab Node → Slab Heads → Slab Node → Slab Heads → Queue → Option ℕ → Option ℕ → ℕ → Type 0
+LinksQueued = LinksNode queued_at KeepsQueued
 
 abbrev pub owned_of : Option Node → Joint
 owned_of None = no_joint
@@ -115,27 +133,11 @@ pub record KeepsOwned (nodes : Slab Node) (owners : Owners) (nodes' : Slab Node)
   pub nodes_kept : (n : ℕ) → unowned (get nodes' n) ≡ unowned (get nodes n)
   pub owners_kept : (number : ℕ) → is_some (ends_of owners' number) ≡ is_some (ends_of owners number)
 
-pub record SetsOwned (nodes : Slab Node) (owners : Owners) (nodes' : Slab Node) (owners' : Owners) (number : ℕ) (at : Option ℕ) (j : Joint) : Type 0 where
-  pub sets : Sets (owned_at nodes owners) (owned_at nodes' owners') number at j
-  pub keeps : KeepsOwned nodes owners nodes' owners'
+abbrev pub JoinsOwned : Slab Node → Owners → Slab Node → Owners → ℕ → Option ℕ → Option ℕ → Type 0
+JoinsOwned = JoinsPlaces owned_at KeepsOwned
 
-pub record JoinsOwned (nodes : Slab Node) (owners : Owners) (nodes' : Slab Node) (owners' : Owners) (number : ℕ) (p s : Option ℕ) : Type 0 where
-  pub joins : JoinsIn (owned_at nodes owners) (owned_at nodes' owners') number p s
-  pub keeps : KeepsOwned nodes owners nodes' owners'
-
--- a node comes into a queue, between two places
-pub record LinksQueued (nodes : Slab Node) (heads : Slab Heads) (nodes' : Slab Node) (heads' : Slab Heads) (q : Queue) (at next : Option ℕ) (n : ℕ) : Type 0 where
-  pub mid_nodes : Slab Node
-  pub mid_heads : Slab Heads
-  pub first : JoinsQueued nodes heads mid_nodes mid_heads q at (Some n)
-  pub second : JoinsQueued mid_nodes mid_heads nodes' heads' q (Some n) next
-
--- a node comes into a number's list, between two places
-pub record LinksOwned (nodes : Slab Node) (owners : Owners) (nodes' : Slab Node) (owners' : Owners) (number : ℕ) (at next : Option ℕ) (n : ℕ) : Type 0 where
-  pub mid_nodes : Slab Node
-  pub mid_owners : Owners
-  pub first : JoinsOwned nodes owners mid_nodes mid_owners number at (Some n)
-  pub second : JoinsOwned mid_nodes mid_owners nodes' owners' number (Some n) next
+abbrev pub LinksOwned : Slab Node → Owners → Slab Node → Owners → ℕ → Option ℕ → Option ℕ → ℕ → Type 0
+LinksOwned = LinksNode owned_at KeepsOwned
 
 -- the number has a list, which is empty if it is new
 pub record OpensOwner (owners owners' : Owners) (number : ℕ) : Type 0 where

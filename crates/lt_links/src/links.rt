@@ -1,9 +1,10 @@
 //! Queues of stands, seen as three maps.
 ghost use Rattle.std.specs.Prelude.{◌≡◌};
 
-use crate::join::{join_queued, link_queued, queued};
+use crate::ends::{join, link};
 use crate::node::{Heads, Joint, Node};
-use crate::own::{append_owned, open_owner, owner_ends, unlink_owned};
+use crate::owners::{open_owner, owner_ends, unlink_owned};
+use crate::queues::queued;
 use crate::{NodeId, Queue, RecordId, Stand};
 use slab::Slab;
 use std::alloc::{AllocError, Global};
@@ -160,16 +161,16 @@ impl Links {
     {
         let key = node.key();
         let place = self.nodes[key];
-        join_queued(
-            &mut self.nodes,
+        join(
             &mut self.heads,
+            &mut self.nodes,
             &place.queue,
             place.queued.prev,
             place.queued.next,
         );
         unlink_owned(
-            &mut self.nodes,
             &mut self.owners,
+            &mut self.nodes,
             place.stand.number,
             place.owned.prev,
             place.owned.next,
@@ -185,15 +186,23 @@ impl Links {
     {
         let key = node.key();
         let place = self.nodes[key];
-        join_queued(
-            &mut self.nodes,
+        join(
             &mut self.heads,
+            &mut self.nodes,
             &place.queue,
             place.queued.prev,
             place.queued.next,
         );
         self.nodes[key].queue = queue;
-        link_queued(&mut self.nodes, &mut self.heads, &queue, None, key);
+        let first = queued(&self.nodes, &self.heads, &queue, None).next;
+        link(
+            &mut self.heads,
+            &mut self.nodes,
+            &queue,
+            None,
+            first,
+            key,
+        );
     }
 
     /// Puts a stand at the front of a queue, and last into its number's list. After an error nothing has changed.
@@ -236,8 +245,9 @@ impl Links {
         let number = stand.number;
         let last = open_owner(&mut self.owners, number)?;
         let key = self.nodes.insert_reserved(Node::new(queue, stand));
-        link_queued(&mut self.nodes, &mut self.heads, queue, at, key);
-        append_owned(&mut self.nodes, &mut self.owners, number, last, key);
+        let next = queued(&self.nodes, &self.heads, queue, at).next;
+        link(&mut self.heads, &mut self.nodes, queue, at, next, key);
+        link(&mut self.owners, &mut self.nodes, &number, last, None, key);
         Ok(NodeId::new(key))
     }
 }

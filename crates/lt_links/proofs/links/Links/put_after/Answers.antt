@@ -40,8 +40,8 @@ pub returns-in_err-last-clause-err : goal.returns-in_err-last-clause-err
 returns-in_err-last-clause-err c =
     on_err _ (maps-unchanged c.self.inside.nodes c.reserve.new.self c.self.inside.heads c.self.inside.owners c.open_owner.new.owners (ap (λ s. s.slots) c.reserve.ensures.rest_kept) c.in_err-last.ensures.err ∙ c.self.view_is)
 
-pub link_queued-requires-clause-at : goal.link_queued-requires-clause-at
-link_queued-requires-clause-at c =
+pub queued-next-requires : goal.queued-next-requires
+queued-next-requires c =
     let inv = c.self.invariant in
     let has : has_record c.args.self.now c.args.queue.now.id ≡ true = c.requires.record in
     let place : is_in (queue c.args.self.now c.args.queue.now) c.args.at ≡ true = c.requires.at in
@@ -51,19 +51,30 @@ link_queued-requires-clause-at c =
     (sym (record_is c.self.inside.nodes c.self.inside.heads c.self.inside.owners c.args.queue.now.id) ∙ (rw (← c.self.view_is) at has))
     c.args.at (sym (ap (λ l. is_in l c.args.at) (queue_is c.self.inside.nodes c.self.inside.heads c.self.inside.owners inv.queues inv.numbers inv.links c.args.queue.now)) ∙ (rw (← c.self.view_is) at place))
 
-pub link_queued-requires-clause-next : goal.link_queued-requires-clause-next
-link_queued-requires-clause-next c =
+pub link-requires-clause-before : goal.link-requires-clause-before
+link-requires-clause-before c =
     let inv = c.self.invariant in
     let has : has_record c.args.self.now c.args.queue.now.id ≡ true = c.requires.record in
     let place : is_in (queue c.args.self.now c.args.queue.now) c.args.at ≡ true = c.requires.at in
-    next_there c.reserve.new.self c.insert_reserved-key.new.self c.self.inside.heads c.self.inside.owners inv.queues inv.numbers c.insert_reserved-key.result c.args.stand c.args.queue.now
+    at_there c.reserve.new.self c.insert_reserved-key.new.self c.self.inside.heads c.self.inside.owners inv.queues inv.numbers c.insert_reserved-key.result c.args.stand c.args.queue.now
     (Links-slots c.self.inside.nodes c.reserve.new.self c.self.inside.heads c.self.inside.owners inv.queues inv.numbers (ap (λ s. s.slots) c.reserve.ensures.rest_kept) inv.links)
     c.insert_reserved-key.ensures.was_vacant (rw c.new.ensures at c.insert_reserved-key.ensures.updates)
     (sym (record_is c.self.inside.nodes c.self.inside.heads c.self.inside.owners c.args.queue.now.id) ∙ (rw (← c.self.view_is) at has))
     c.args.at (sym (ap (λ l. is_in l c.args.at) (queue_is c.self.inside.nodes c.self.inside.heads c.self.inside.owners inv.queues inv.numbers inv.links c.args.queue.now)) ∙ (rw (← c.self.view_is) at place))
 
-pub append_owned-requires-clause-last : goal.append_owned-requires-clause-last
-append_owned-requires-clause-last c =
+pub link-requires-clause-after : goal.link-requires-clause-after
+link-requires-clause-after c =
+    let inv = c.self.invariant in
+    let has : has_record c.args.self.now c.args.queue.now.id ≡ true = c.requires.record in
+    let place : is_in (queue c.args.self.now c.args.queue.now) c.args.at ≡ true = c.requires.at in
+    rw c.queued-next.ensures (next_there c.reserve.new.self c.insert_reserved-key.new.self c.self.inside.heads c.self.inside.owners inv.queues inv.numbers c.insert_reserved-key.result c.args.stand c.args.queue.now
+    (Links-slots c.self.inside.nodes c.reserve.new.self c.self.inside.heads c.self.inside.owners inv.queues inv.numbers (ap (λ s. s.slots) c.reserve.ensures.rest_kept) inv.links)
+    c.insert_reserved-key.ensures.was_vacant (rw c.new.ensures at c.insert_reserved-key.ensures.updates)
+    (sym (record_is c.self.inside.nodes c.self.inside.heads c.self.inside.owners c.args.queue.now.id) ∙ (rw (← c.self.view_is) at has))
+    c.args.at (sym (ap (λ l. is_in l c.args.at) (queue_is c.self.inside.nodes c.self.inside.heads c.self.inside.owners inv.queues inv.numbers inv.links c.args.queue.now)) ∙ (rw (← c.self.view_is) at place)))
+
+pub link-requires-2-clause-before : goal.link-requires-2-clause-before
+link-requires-2-clause-before c =
     let inv = c.self.invariant in
     let has : has_record c.args.self.now c.args.queue.now.id ≡ true = c.requires.record in
     let place : is_in (queue c.args.self.now c.args.queue.now) c.args.at ≡ true = c.requires.at in
@@ -72,10 +83,10 @@ append_owned-requires-clause-last c =
     c.insert_reserved-key.ensures.was_vacant (rw c.new.ensures at c.insert_reserved-key.ensures.updates)
     (sym (record_is c.self.inside.nodes c.self.inside.heads c.self.inside.owners c.args.queue.now.id) ∙ (rw (← c.self.view_is) at has))
     c.args.at (sym (ap (λ l. is_in l c.args.at) (queue_is c.self.inside.nodes c.self.inside.heads c.self.inside.owners inv.queues inv.numbers inv.links c.args.queue.now)) ∙ (rw (← c.self.view_is) at place))
-    c.link_queued.new.nodes c.link_queued.new.heads c.open_owner.new.owners c.in_ok-last.ensures.ok c.in_ok-last.last c.in_ok-last.ensures.last c.link_queued.ensures
+    c.link.new.nodes c.link.new.ends c.open_owner.new.owners c.in_ok-last.ensures.ok c.in_ok-last.last c.in_ok-last.ensures.last c.queued-next.result.next (ap (λ j. j.next) c.queued-next.ensures) c.link.ensures
 
-pub append_owned-requires-clause-ends : goal.append_owned-requires-clause-ends
-append_owned-requires-clause-ends c = c.in_ok-last.ensures.ok.opened
+pub link-requires-2-clause-after : goal.link-requires-2-clause-after
+link-requires-2-clause-after c = c.in_ok-last.ensures.ok.opened
 
 pub invariant_of-self-2 : goal.invariant_of-self-2
 invariant_of-self-2 c =
@@ -90,8 +101,8 @@ invariant_of-self-2 c =
     c.insert_reserved-key.ensures.was_vacant (rw c.new.ensures at c.insert_reserved-key.ensures.updates)
     (sym (record_is c.self.inside.nodes c.self.inside.heads c.self.inside.owners c.args.queue.now.id) ∙ (rw (← c.self.view_is) at has))
     c.args.at (sym (ap (λ l. is_in l c.args.at) (queue_is c.self.inside.nodes c.self.inside.heads c.self.inside.owners inv.queues inv.numbers inv.links c.args.queue.now)) ∙ (rw (← c.self.view_is) at place))
-    c.link_queued.new.nodes c.link_queued.new.heads c.open_owner.new.owners c.in_ok-last.ensures.ok c.in_ok-last.last c.in_ok-last.ensures.last c.link_queued.ensures
-          c.append_owned.new.nodes c.append_owned.new.owners c.append_owned.ensures;
+    c.link.new.nodes c.link.new.ends c.open_owner.new.owners c.in_ok-last.ensures.ok c.in_ok-last.last c.in_ok-last.ensures.last c.queued-next.result.next (ap (λ j. j.next) c.queued-next.ensures) c.link.ensures
+          c.link-2.new.nodes c.link-2.new.ends c.link-2.ensures;
     }
 
 pub returns-clause-fresh : goal.returns-clause-fresh
@@ -104,12 +115,12 @@ returns-clause-puts c =
     let has : has_record c.args.self.now c.args.queue.now.id ≡ true = c.requires.record in
     let place : is_in (queue c.args.self.now c.args.queue.now) c.args.at ≡ true = c.requires.at in
     rw (c.new-2.ensures, ← c.self.view_is)
-    (subst (λ (m : Maps). PutsAfter m (maps_of c.append_owned.new.nodes c.link_queued.new.heads c.append_owned.new.owners) c.args.queue.now c.args.at c.insert_reserved-key.result c.args.stand)
+    (subst (λ (m : Maps). PutsAfter m (maps_of c.link-2.new.nodes c.link.new.ends c.link-2.new.ends) c.args.queue.now c.args.at c.insert_reserved-key.result c.args.stand)
     (maps-unchanged c.self.inside.nodes c.reserve.new.self c.self.inside.heads c.self.inside.owners c.self.inside.owners (ap (λ s. s.slots) c.reserve.ensures.rest_kept) refl)
     (PutsAfter-pushed c.reserve.new.self c.insert_reserved-key.new.self c.self.inside.heads c.self.inside.owners inv.queues inv.numbers c.insert_reserved-key.result c.args.stand c.args.queue.now
     (Links-slots c.self.inside.nodes c.reserve.new.self c.self.inside.heads c.self.inside.owners inv.queues inv.numbers (ap (λ s. s.slots) c.reserve.ensures.rest_kept) inv.links)
     c.insert_reserved-key.ensures.was_vacant (rw c.new.ensures at c.insert_reserved-key.ensures.updates)
     (sym (record_is c.self.inside.nodes c.self.inside.heads c.self.inside.owners c.args.queue.now.id) ∙ (rw (← c.self.view_is) at has))
     c.args.at (sym (ap (λ l. is_in l c.args.at) (queue_is c.self.inside.nodes c.self.inside.heads c.self.inside.owners inv.queues inv.numbers inv.links c.args.queue.now)) ∙ (rw (← c.self.view_is) at place))
-    c.link_queued.new.nodes c.link_queued.new.heads c.open_owner.new.owners c.in_ok-last.ensures.ok c.in_ok-last.last c.in_ok-last.ensures.last c.link_queued.ensures
-    c.append_owned.new.nodes c.append_owned.new.owners c.append_owned.ensures))
+    c.link.new.nodes c.link.new.ends c.open_owner.new.owners c.in_ok-last.ensures.ok c.in_ok-last.last c.in_ok-last.ensures.last c.queued-next.result.next (ap (λ j. j.next) c.queued-next.ensures) c.link.ensures
+    c.link-2.new.nodes c.link-2.new.ends c.link-2.ensures))
