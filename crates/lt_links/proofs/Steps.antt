@@ -236,12 +236,15 @@ HasOwned-queued nodes nodes' owners k (Some m) same h = over (get nodes m) (get 
     by_case None = refl
     by_case (Some d) = refl
 
-pub node_there : (nodes : Slab Node) (heads : Slab Heads) (owners : Owners) (n : ℕ) → HasNode (maps_of nodes heads owners) n → is_some (get nodes n) ≡ true
-node_there nodes heads owners n h = sym (by_case (get nodes n)) ∙ ap is_some (sym (stand_is nodes heads owners n)) ∙ h
+pub node_is : (nodes : Slab Node) (heads : Slab Heads) (owners : Owners) (n : ℕ) → is_some (stand (maps_of nodes heads owners) n) ≡ is_some (get nodes n)
+node_is nodes heads owners n = ap is_some (stand_is nodes heads owners n) ∙ by_case (get nodes n)
   where
     by_case : (x : Option Node) → is_some (stand_of x) ≡ is_some x
     by_case None = refl
     by_case (Some d) = refl
+
+pub node_there : (nodes : Slab Node) (heads : Slab Heads) (owners : Owners) (n : ℕ) → HasNode (maps_of nodes heads owners) n → is_some (get nodes n) ≡ true
+node_there nodes heads owners n h = sym (node_is nodes heads owners n) ∙ h
 
 pub stand_found : (nodes : Slab Node) (heads : Slab Heads) (owners : Owners) (n : ℕ) (d : Node) → get nodes n ≡ Some d → stand (maps_of nodes heads owners) n ≡ Some d.stand
 stand_found nodes heads owners n d at = stand_is nodes heads owners n ∙ ap stand_of at

@@ -11,6 +11,9 @@ use std::alloc::{AllocError, Global};
 use std::collections::BTreeMap;
 use std::marker::Model;
 
+#[cfg(test)]
+mod tests;
+
 /// The nodes of all queues. Each stands in one queue and, by its number, in the list of that number.
 #[derive(Drop)]
 pub struct Links {
@@ -40,6 +43,7 @@ impl Links {
     ghost use Rattle.lt_links.specs.declared.ids.Queue.{Queue};
     ghost use Rattle.std.specs.Prelude.{Some, None, true, false, IfOk, OnErr, ℕ, List, ◌∷◌, ◌++◌, slice_get};
 
+    /// No records and no nodes.
     pub fn new(alloc: Global) -> Self
         ensures { result ≡ no_maps }
     {
