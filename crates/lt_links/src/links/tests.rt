@@ -1,4 +1,5 @@
-ghost use Rattle.std.specs.Prelude.{◌≡◌, ◌<◌, ◌↔◌, IsTrue};
+ghost use Rattle.std.specs.Prelude.{◌≡◌, ◌<◌, ◌↔◌, IsTrue, true};
+ghost use Rattle.lt_links.specs.Maps.{HasNode, has_record as is_record};
 
 use super::*;
 use crate::QueueKind;
@@ -6,21 +7,16 @@ use lt_ids::{Timestamp, TxnId};
 use std::process::Abort;
 use std::test::Fail;
 
-impl Links {
-    ghost use Rattle.std.specs.Prelude.{true};
-    ghost use Rattle.lt_links.specs.Maps.{HasNode, has_record};
+fn has_node(links: &Links, node: NodeId) -> bool
+    ensures { IsTrue result ↔ HasNode links.now node }
+{
+    links.nodes.contains(node.key())
+}
 
-    fn has_node(&self, node: NodeId) -> bool
-        ensures { IsTrue result ↔ HasNode self.now node }
-    {
-        self.nodes.contains(node.key())
-    }
-
-    fn has_record(&self, id: RecordId) -> bool
-        ensures { IsTrue result ↔ (has_record self.now id ≡ true) }
-    {
-        self.heads.contains(id.key())
-    }
+fn has_record(links: &Links, id: RecordId) -> bool
+    ensures { IsTrue result ↔ (is_record links.now id ≡ true) }
+{
+    links.heads.contains(id.key())
 }
 
 fn stand_of(rt: &impl Abort, number: u64, wait: u32) -> Stand {
@@ -39,11 +35,11 @@ fn stand_of(rt: &impl Abort, number: u64, wait: u32) -> Stand {
 
 /// Asks that these nodes are in the queue, in this order, by way of `next` and of `prev`.
 fn expect_queue(rt: &impl Abort, links: &Links, queue: &Queue, nodes: &[NodeId]) {
-    assert!(rt; links.has_record(queue.id));
+    assert!(rt; has_record(links, queue.id));
     let mut at = links.first(*queue);
     for node in nodes {
         assert_eq!(rt; at, Some(*node));
-        assert!(rt; links.has_node(*node));
+        assert!(rt; has_node(links, *node));
         assert_eq!(rt; links.queue_of(*node), *queue);
         at = links.next(*node);
     }
@@ -51,7 +47,7 @@ fn expect_queue(rt: &impl Abort, links: &Links, queue: &Queue, nodes: &[NodeId])
     let mut at = links.last(*queue);
     for node in nodes.iter().rev() {
         assert_eq!(rt; at, Some(*node));
-        assert!(rt; links.has_node(*node));
+        assert!(rt; has_node(links, *node));
         at = links.prev(*node);
     }
     assert_eq!(rt; at, None);
@@ -62,7 +58,7 @@ fn expect_owned(rt: &impl Abort, links: &Links, number: u64, nodes: &[NodeId]) {
     let mut at = links.owner_first(number);
     for node in nodes {
         assert_eq!(rt; at, Some(*node));
-        assert!(rt; links.has_node(*node));
+        assert!(rt; has_node(links, *node));
         assert_eq!(rt; links.stand(*node).number, number);
         at = links.owner_next(*node);
     }
@@ -82,19 +78,19 @@ fn nodes_are_found_from_both_ends_and_by_their_number(rt: HostRuntime) -> Result
         kind: QueueKind::Reservation,
     };
     let n1 = links.push_front(writers, stand_of(&rt, 5, 1))?;
-    assert!(rt; links.has_node(n1));
+    assert!(rt; has_node(&links, n1));
     let n2 = links.insert_after(n1, stand_of(&rt, 9, 1))?;
-    assert!(rt; links.has_record(id));
+    assert!(rt; has_record(&links, id));
     let n3 = links.push_front(writers, stand_of(&rt, 2, 1))?;
     expect_queue(&rt, &links, &writers, &[n3, n1, n2]);
 
-    assert!(rt; links.has_node(n1) && links.has_record(id));
+    assert!(rt; has_node(&links, n1) && has_record(&links, id));
     links.move_front(n1, reservation);
     expect_queue(&rt, &links, &writers, &[n3, n2]);
     expect_queue(&rt, &links, &reservation, &[n1]);
     expect_owned(&rt, &links, 5, &[n1]);
 
-    assert!(rt; links.has_node(n1));
+    assert!(rt; has_node(&links, n1));
     assert_eq!(rt; links.remove(n1), stand_of(&rt, 5, 1));
     expect_queue(&rt, &links, &writers, &[n3, n2]);
     expect_queue(&rt, &links, &reservation, &[]);
@@ -235,7 +231,7 @@ impl Plain {
         }
         for (key, stand) in self.stands.iter() {
             let node = NodeId::new(*key);
-            assert!(rt; links.has_node(node));
+            assert!(rt; has_node(links, node));
             assert_eq!(rt; links.stand(node), *stand);
         }
     }
@@ -278,7 +274,7 @@ fn random_calls_do_what_three_plain_maps_do(rt: HostRuntime) -> Result<(), Fail>
             kind: kind_of(random.below(3) as usize),
         };
         let stand = stand_of(&rt, random.below(NUMBERS), turn);
-        assert!(rt; links.has_record(id));
+        assert!(rt; has_record(&links, id));
         if nodes.is_empty() || random.below(4) == 0 {
             let node = links.push_front(to, stand)?;
             plain.put(&to, None, node, &stand)?;
@@ -286,7 +282,7 @@ fn random_calls_do_what_three_plain_maps_do(rt: HostRuntime) -> Result<(), Fail>
         } else {
             let place = random.below(nodes.len() as u64) as usize;
             let node = nodes[place];
-            assert!(rt; links.has_node(node));
+            assert!(rt; has_node(&links, node));
             let from = links.queue_of(node);
             match random.below(6) {
                 0 => {
@@ -320,11 +316,11 @@ fn random_calls_do_what_three_plain_maps_do(rt: HostRuntime) -> Result<(), Fail>
 /// Who stands in a queue and who is the first of each number, in an array, so that looking takes no memory.
 fn seen(rt: &impl Abort, links: &Links, queue: &Queue) -> [usize; 48] {
     let mut seen = [usize::MAX; 48];
-    assert!(rt; links.has_record(queue.id));
+    assert!(rt; has_record(links, queue.id));
     let mut at = links.first(*queue);
     for place in 0..16 {
         if let Some(node) = at {
-            assert!(rt; links.has_node(node));
+            assert!(rt; has_node(links, node));
             seen[place] = node.key();
             seen[place + 16] = links.stand(node).wait as usize;
             at = links.next(node);
@@ -347,11 +343,11 @@ fn put(
 ) -> Result<NodeId, AllocError> {
     let before = seen(rt, links, queue);
     for _ in 0..2 {
-        assert!(rt; links.has_record(queue.id));
+        assert!(rt; has_record(links, queue.id));
         let put = match at {
             None => links.push_front(*queue, *stand),
             Some(node) => {
-                assert!(rt; links.has_node(node));
+                assert!(rt; has_node(links, node));
                 links.insert_after(node, *stand)
             }
         };
