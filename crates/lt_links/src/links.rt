@@ -81,8 +81,7 @@ impl Links {
         ensures first { result ≡ slice_get (queue_of self.now queue) 0 }
         ensures sound { IsSound self.now }
     {
-        let ends = queued(&self.nodes, &self.heads, &queue, None);
-        NodeId::at(ends.next)
+        NodeId::at(queued(&self.nodes, &self.heads, &queue, None).next)
     }
 
     /// The last node of a queue.
@@ -91,8 +90,7 @@ impl Links {
         ensures last { result ≡ last_or None (queue_of self.now queue) }
         ensures sound { IsSound self.now }
     {
-        let ends = queued(&self.nodes, &self.heads, &queue, None);
-        NodeId::at(ends.prev)
+        NodeId::at(queued(&self.nodes, &self.heads, &queue, None).prev)
     }
 
     /// The node behind a node of a queue.
@@ -118,8 +116,7 @@ impl Links {
         ensures first { result ≡ slice_get (owned_by self.now number) 0 }
         ensures sound { IsSound self.now }
     {
-        let ends = owner_ends(&self.owners, number);
-        NodeId::at(ends.next)
+        NodeId::at(owner_ends(&self.owners, number).next)
     }
 
     /// The node behind a node of the same number.
@@ -137,7 +134,8 @@ impl Links {
         ensures queue { has node (queue_of self.now result) ≡ true }
         ensures sound { IsSound self.now }
     {
-        self.nodes[node.key()].queue
+        let found = &self.nodes[node.key()];
+        found.queue
     }
 
     /// The stand at a node.
@@ -146,7 +144,8 @@ impl Links {
         ensures stand { stand self.now node ≡ Some result }
         ensures sound { IsSound self.now }
     {
-        self.nodes[node.key()].stand
+        let found = &self.nodes[node.key()];
+        found.stand
     }
 
     /// Writes another stand of the same number at a node.

@@ -10,13 +10,13 @@ use Rattle.lt_links.proofs.Steps.{node_there}
 use Rattle.lt_links.proofs.Shows.{IsSound-links, last_is, next_of_node, queue_of_node}
 use Rattle.lt_links.proofs.links.Links.last.Goals as goal
 
-pub queued-ends-requires : goal.queued-ends-requires
-queued-ends-requires c = sym (record_is c.self.inside.nodes c.self.inside.heads c.self.inside.owners c.args.queue.id) ∙ (rw (← c.self.view_is) at c.requires)
+pub queued-requires : goal.queued-requires
+queued-requires c = sym (record_is c.self.inside.nodes c.self.inside.heads c.self.inside.owners c.args.queue.id) ∙ (rw (← c.self.view_is) at c.requires)
 
 pub returns-clause-last : goal.returns-clause-last
 returns-clause-last c =
     let inv = c.self.invariant in
-    c.at.ensures ∙ ap (λ j. j.prev) c.queued-ends.ensures ∙ last_is c.self.inside.nodes c.self.inside.heads c.self.inside.owners inv.queues inv.numbers inv.links c.args.queue ∙ ap (λ (m : Maps). last_or None (queue m c.args.queue)) c.self.view_is
+    c.at.ensures ∙ ap (λ j. j.prev) c.queued.ensures ∙ last_is c.self.inside.nodes c.self.inside.heads c.self.inside.owners inv.queues inv.numbers inv.links c.args.queue ∙ ap (λ (m : Maps). last_or None (queue m c.args.queue)) c.self.view_is
 
 pub returns-clause-sound : goal.returns-clause-sound
 returns-clause-sound c = let inv = c.self.invariant in subst IsSound c.self.view_is (IsSound-links c.self.inside.nodes c.self.inside.heads c.self.inside.owners inv.queues inv.numbers inv.links)
