@@ -3,7 +3,7 @@ use Rattle.std.proofs.Common.{◌≡◌, ℕ, Bool, true, false, Option, Some, N
 use Rattle.std.specs.Ordering.{nat_cmp}
 use Rattle.std.specs.BTreeMap.{is_at}
 use Rattle.std.specs.Map.{lookup}
-use Rattle.std.specs.Prelude.{is_some, slice_get}
+use Rattle.std.specs.Prelude.{is_some, slice_get, IfSome}
 use Rattle.slab.specs.Slab.{Slab, get}
 use Rattle.lt_links.specs.declared.node.Joint.{Joint}
 use Rattle.lt_links.specs.declared.node.Node.{Node}
@@ -15,7 +15,7 @@ use Rattle.lt_links.specs.Cells.{next_of, prev_of, queued_of, owned_of, queued_a
 use Rattle.lt_links.specs.Maps.{Maps, queue, owned, stand, has_record, HasNode, IsSound}
 use Rattle.lt_links.specs.View.{maps_of, queue_of, number_of, stand_of, Links, IsLinked}
 use Rattle.lt_links.proofs.Views.{stand_is, record_is, number_is, queue_is, owned_is, has_queue, has_number}
-use Rattle.lt_links.proofs.Rings.{prev_behind, prev_end}
+use Rattle.lt_links.proofs.Rings.{prev_behind, prev_end, next_in, prev_in}
 use Rattle.lt_links.proofs.Steps.{node_there}
 use Rattle.std.specs.List.{last_or}
 use mathlib.Core.Bool.{true≢false}
@@ -82,6 +82,37 @@ module _ (nodes : Slab Node) (heads : Slab Heads) (owners : Owners) (queues : Qu
       there : (o : Option Node) → is_some o ≡ true → is_some (stand_of o) ≡ true
       there None e = absurd (cc)
       there (Some d) e = refl
+
+  -- what a queue or a number's list leads to is there
+  queued_there : (q : Queue) (a : Option ℕ) → is_in (queues q) a ≡ true → IfSome a (HasNode maps)
+  queued_there q None i = tt
+  queued_there q (Some m) i = IsSound-links.queued_there q m (ap (has m) (q_is q) ∙ i)
+
+  owned_there : (k : ℕ) (a : Option ℕ) → is_in (numbers k) a ≡ true → IfSome a (HasNode maps)
+  owned_there k None i = tt
+  owned_there k (Some m) i = ap is_some (IsSound-links.owned_number k m (ap (has m) (k_is k) ∙ i)).1
+
+  pub first_there : (q : Queue) → IfSome (queued_at nodes heads q None).next (HasNode maps)
+  first_there q = queued_there q _ (next_in _ _ _ (links.queues_linked.rings q) None refl)
+
+  pub last_there : (q : Queue) → IfSome (queued_at nodes heads q None).prev (HasNode maps)
+  last_there q = queued_there q _ (prev_in _ _ _ (links.queues_linked.rings q) None refl)
+
+  pub owner_first_there : (k : ℕ) → IfSome (owned_at nodes owners k None).next (HasNode maps)
+  owner_first_there k = owned_there k _ (next_in _ _ _ (links.numbers_linked.rings k) None refl)
+
+  module _ (n : ℕ) (d : Node) (at : get nodes n ≡ Some d) where
+    in_queue : has n (queues d.queue) ≡ true
+    in_queue = links.queues_linked.housed d.queue n (ap queue_of at)
+
+    pub next_there : IfSome d.queued.next (HasNode maps)
+    next_there = subst (λ (j : Joint). IfSome j.next (HasNode maps)) (ap queued_of at) (queued_there d.queue _ (next_in _ _ _ (links.queues_linked.rings d.queue) (Some n) in_queue))
+
+    pub prev_there : IfSome d.queued.prev (HasNode maps)
+    prev_there = subst (λ (j : Joint). IfSome j.prev (HasNode maps)) (ap queued_of at) (queued_there d.queue _ (prev_in _ _ _ (links.queues_linked.rings d.queue) (Some n) in_queue))
+
+    pub owner_next_there : IfSome d.owned.next (HasNode maps)
+    owner_next_there = subst (λ (j : Joint). IfSome j.next (HasNode maps)) (ap owned_of at) (owned_there d.stand.number _ (next_in _ _ _ (links.numbers_linked.rings d.stand.number) (Some n) (links.numbers_linked.housed d.stand.number n (ap number_of at))))
 
   -- a node's neighbour in its queue
   pub next_of_node : (n : ℕ) (d : Node) → get nodes n ≡ Some d → (q : Queue) (xs ys : List ℕ) → queue maps q ≡ xs ++ n ∷ ys → d.queued.next ≡ slice_get ys 0

@@ -41,7 +41,7 @@ impl Links {
     ghost use Rattle.lt_links.specs.Ring.{has, is_in};
     ghost use Rattle.std.specs.List.{last_or};
     ghost use Rattle.lt_links.specs.declared.ids.Queue.{Queue};
-    ghost use Rattle.std.specs.Prelude.{Some, None, true, false, IfOk, OnErr, ℕ, List, ◌∷◌, ◌++◌, slice_get};
+    ghost use Rattle.std.specs.Prelude.{Some, None, true, false, IfOk, IfSome, OnErr, ℕ, List, ◌∷◌, ◌++◌, slice_get};
 
     /// No records and no nodes.
     pub fn new(alloc: Global) -> Self
@@ -79,6 +79,7 @@ impl Links {
     pub fn first(&self, queue: Queue) -> Option<NodeId>
         requires { has_record self.now queue.id ≡ true }
         ensures first { result ≡ slice_get (queue_of self.now queue) 0 }
+        ensures there { IfSome result (HasNode self.now) }
         ensures sound { IsSound self.now }
     {
         NodeId::at(queued(&self.nodes, &self.heads, &queue, None).next)
@@ -88,6 +89,7 @@ impl Links {
     pub fn last(&self, queue: Queue) -> Option<NodeId>
         requires { has_record self.now queue.id ≡ true }
         ensures last { result ≡ last_or None (queue_of self.now queue) }
+        ensures there { IfSome result (HasNode self.now) }
         ensures sound { IsSound self.now }
     {
         NodeId::at(queued(&self.nodes, &self.heads, &queue, None).prev)
@@ -97,6 +99,7 @@ impl Links {
     pub fn next(&self, node: NodeId) -> Option<NodeId>
         requires { HasNode self.now node }
         ensures next { (q : Queue) (xs ys : List ℕ) → queue_of self.now q ≡ xs ++ node ∷ ys → result ≡ slice_get ys 0 }
+        ensures there { IfSome result (HasNode self.now) }
         ensures sound { IsSound self.now }
     {
         NodeId::at(self.nodes[node.key()].queued.next)
@@ -106,6 +109,7 @@ impl Links {
     pub fn prev(&self, node: NodeId) -> Option<NodeId>
         requires { HasNode self.now node }
         ensures prev { (q : Queue) (xs ys : List ℕ) → queue_of self.now q ≡ xs ++ node ∷ ys → result ≡ last_or None xs }
+        ensures there { IfSome result (HasNode self.now) }
         ensures sound { IsSound self.now }
     {
         NodeId::at(self.nodes[node.key()].queued.prev)
@@ -114,6 +118,7 @@ impl Links {
     /// The first node of a number.
     pub fn owner_first(&self, number: u64) -> Option<NodeId>
         ensures first { result ≡ slice_get (owned_by self.now number) 0 }
+        ensures there { IfSome result (HasNode self.now) }
         ensures sound { IsSound self.now }
     {
         NodeId::at(owner_ends(&self.owners, number).next)
@@ -123,6 +128,7 @@ impl Links {
     pub fn owner_next(&self, node: NodeId) -> Option<NodeId>
         requires { HasNode self.now node }
         ensures next { (k : ℕ) (xs ys : List ℕ) → owned_by self.now k ≡ xs ++ node ∷ ys → result ≡ slice_get ys 0 }
+        ensures there { IfSome result (HasNode self.now) }
         ensures sound { IsSound self.now }
     {
         NodeId::at(self.nodes[node.key()].owned.next)

@@ -6,7 +6,7 @@ use Rattle.lt_links.specs.Ring.{has}
 use Rattle.lt_links.specs.declared.ids.Queue.{Queue}
 use Rattle.lt_links.proofs.Views.{record_is}
 use Rattle.lt_links.proofs.Steps.{node_there}
-use Rattle.lt_links.proofs.Shows.{IsSound-links, first_is, prev_of_node, queue_of_node}
+use Rattle.lt_links.proofs.Shows.{IsSound-links, prev_there, first_is, prev_of_node, queue_of_node}
 use Rattle.lt_links.proofs.links.Links.prev.Goals as goal
 
 pub index-requires : goal.index-requires
@@ -19,3 +19,8 @@ returns-clause-prev c =
 
 pub returns-clause-sound : goal.returns-clause-sound
 returns-clause-sound c = let inv = c.self.invariant in subst IsSound c.self.view_is (IsSound-links c.self.inside.nodes c.self.inside.heads c.self.inside.owners inv.queues inv.numbers inv.links)
+
+pub returns-clause-there : goal.returns-clause-there
+returns-clause-there c =
+    let inv = c.self.invariant in
+    rw (c.at.ensures, ← c.self.view_is) (prev_there c.self.inside.nodes c.self.inside.heads c.self.inside.owners inv.queues inv.numbers inv.links c.key.result c.index.result.now c.index.ensures)
