@@ -10,8 +10,8 @@ use std::env;
 
 fn main(rt: HostRuntime) -> anyhow::Result<()> {
     for word in env::args(&rt)? {
-        if word == "links" {
-            links::report(&rt)?;
+        if word.as_str() == "links" {
+            links::report(&rt, rt.alloc())?;
         }
     }
     Ok(())
