@@ -1,11 +1,10 @@
 -- Records come and go, and stands are written.
-use Rattle.std.proofs.Common.{◌≡◌, ◌≢◌, ◌⊎◌, ℕ, Bool, true, false, cond, Option, Some, None, List, [], ◌∷◌, refl, sym, ap, ◌∙◌, inl, inr, subst}
+use Rattle.std.proofs.Common.{◌≡◌, ℕ, Bool, true, false, cond, Option, Some, None, List, [], refl, sym, ap, ◌∙◌, inl, inr, subst}
 use Rattle.std.specs.Prelude.{nat_eq, is_some, unwrap_or}
 use Rattle.std.specs.Option.{option_map}
 use Rattle.std.specs.FinMap as map
 use mathlib.Core.Bool.{true≢false}
 use Rattle.slab.specs.Slab.{Slab, get, Updates}
-use Rattle.lt_links.specs.declared.node.Joint.{Joint}
 use Rattle.lt_links.specs.declared.node.Node.{Node}
 use Rattle.lt_links.specs.declared.node.Heads.{Heads}
 use Rattle.lt_links.specs.declared.stand.Stand.{Stand}
@@ -13,7 +12,7 @@ use Rattle.lt_links.specs.declared.ids.Queue.{Queue}
 use Rattle.lt_links.specs.declared.ids.QueueKind.{QueueKind}
 use Rattle.lt_links.specs.declared.ids.QueueKind.TheVariants.{Writers, Readers, Reservation}
 use Rattle.lt_links.specs.Ring.{has, is_in, Path}
-use Rattle.lt_links.specs.Cells.{no_joint, head_of, queued_of, owned_of, next_of, prev_of, queued_at, owned_at, Owners, ends_of}
+use Rattle.lt_links.specs.Cells.{no_joint, head_of, queued_of, owned_of, next_of, prev_of, queued_at, owned_at, Owners}
 use Rattle.lt_links.specs.Maps.{Maps, Lists, no_lists, list_of, has_record, IsEmpty, AddsRecord, DropsRecord, SetsStand, queue, number_at}
 use Rattle.lt_links.specs.View.{maps_of, queue_of, number_of, stand_of, Links}
 use Rattle.lt_links.proofs.Rings.{same_or_apart}

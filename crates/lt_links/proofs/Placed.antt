@@ -1,9 +1,9 @@
 -- A new node comes right behind another.
-use Rattle.std.proofs.Common.{◌≡◌, ◌≢◌, ℕ, Bool, true, false, Option, Some, None, List, refl, sym, ap, ◌∙◌, inl, inr}
+use Rattle.std.proofs.Common.{◌≡◌, ◌≢◌, ℕ, true, false, Some, refl, sym, ◌∙◌, inl, inr}
 use Rattle.lt_links.specs.declared.stand.Stand.{Stand}
 use Rattle.lt_links.specs.declared.ids.Queue.{Queue}
-use Rattle.lt_links.specs.Ring.{has, put_after}
-use Rattle.lt_links.specs.Maps.{Maps, IsSound, queue, is_queue, PutsAfter, InsertsAfter}
+use Rattle.lt_links.specs.Ring.{has}
+use Rattle.lt_links.specs.Maps.{Maps, IsSound, queue, PutsAfter, InsertsAfter}
 use Rattle.lt_links.proofs.Rings.{put_after_absent}
 use Rattle.lt_links.proofs.Joints.{same_queue}
 use Rattle.lt_links.proofs.Steps.{is_same, is_other}

@@ -1,24 +1,23 @@
 -- A new node comes into a queue and into its number's list.
-use Rattle.std.proofs.Common.{◌≡◌, ◌≢◌, ◌⊎◌, ℕ, Bool, true, false, cond, Option, Some, None, List, [], ◌∷◌, ◌++◌, refl, sym, ap, ◌∙◌, inl, inr, subst, unwrap_or, map, length}
+use Rattle.std.proofs.Common.{◌≡◌, ◌≢◌, ℕ, true, cond, Option, Some, None, List, [], ◌∷◌, ◌++◌, refl, sym, ap, ◌∙◌, inl, inr, subst, unwrap_or, map, length}
 use Rattle.std.specs.Ordering.{nat_cmp}
 use Rattle.std.specs.FinMap.{from_entries}
 use Rattle.std.specs.BTreeMap.{is_at}
 use Rattle.std.specs.Map.{lookup}
 use Rattle.std.specs.Prelude.{nat_eq, is_some}
 use Rattle.slab.specs.Slab.{Slab, get, Updates}
-use Rattle.lt_links.specs.declared.node.Joint.{Joint}
 use Rattle.lt_links.specs.declared.node.Node.{Node}
 use Rattle.lt_links.specs.declared.node.Heads.{Heads}
 use Rattle.lt_links.specs.declared.stand.Stand.{Stand}
 use Rattle.lt_links.specs.declared.ids.Queue.{Queue}
 use Rattle.lt_links.specs.Ring.{has, is_in, put_after}
-use Rattle.lt_links.specs.Cells.{no_joint, queued_of, owned_of, unqueued, unowned, Joints, next_of, prev_of, queued_at, owned_at, Owners, ends_of, JoinsIn, IsFamily, LinksQueued, LinksOwned, OpensOwner, HasQueued, HasOwned}
-use Rattle.lt_links.specs.Maps.{PutsAfter, with_last, with_stand, stand, is_queue}
+use Rattle.lt_links.specs.Cells.{no_joint, queued_of, owned_of, unqueued, unowned, next_of, prev_of, queued_at, owned_at, Owners, ends_of, JoinsIn, IsFamily, LinksQueued, LinksOwned, OpensOwner, HasQueued, HasOwned}
+use Rattle.lt_links.specs.Maps.{PutsAfter, is_queue}
 use Rattle.lt_links.specs.View.{maps_of, walk, queue_of, number_of, stand_of, Links}
 use Rattle.lt_links.proofs.Rings.{same_or_apart, is_itself, prev_in, next_in, forth, put_after_last}
 use Rattle.lt_links.proofs.Joints.{same_queue, IsFamily-put_after, IsFamily-kept}
-use Rattle.lt_links.proofs.Views.{stand_is, has_queue, has_number}
-use Rattle.lt_links.proofs.Steps.{Are-links, none≢some, over, under, q_owned, q_queue, q_number, q_stand, o_queued, o_queue, o_number, o_stand, same_number, is_same, is_other}
+use Rattle.lt_links.proofs.Views.{has_queue, has_number}
+use Rattle.lt_links.proofs.Steps.{Are-links, none≢some, over, under, same_number, is_same, is_other}
 
 -- The links are a matter of the slots alone.
 pub Links-slots : (nodes nodes' : Slab Node) (heads : Slab Heads) (owners : Owners) (queues : Queue → List ℕ) (numbers : ℕ → List ℕ) → nodes'.slots ≡ nodes.slots → Links nodes heads owners queues numbers → Links nodes' heads owners queues numbers

@@ -1,5 +1,5 @@
 -- What the links say of the maps.
-use Rattle.std.proofs.Common.{◌≡◌, ℕ, Bool, true, false, Option, Some, None, List, [], ◌∷◌, ◌++◌, refl, sym, ap, ◌∙◌, subst, get_or, unwrap_or}
+use Rattle.std.proofs.Common.{◌≡◌, ℕ, true, Option, Some, None, List, [], ◌∷◌, ◌++◌, refl, sym, ap, ◌∙◌, subst, get_or, unwrap_or}
 use Rattle.std.specs.Ordering.{nat_cmp}
 use Rattle.std.specs.BTreeMap.{is_at}
 use Rattle.std.specs.Map.{lookup}
@@ -12,9 +12,9 @@ use Rattle.lt_links.specs.declared.stand.Stand.{Stand}
 use Rattle.lt_links.specs.declared.ids.Queue.{Queue}
 use Rattle.lt_links.specs.Ring.{has, is_in, Distinct, Link, Path, Ring}
 use Rattle.lt_links.specs.Cells.{next_of, prev_of, queued_of, owned_of, queued_at, owned_at, Owners, head_of, no_joint}
-use Rattle.lt_links.specs.Maps.{Maps, queue, owned, stand, has_record, HasNode, IsSound}
+use Rattle.lt_links.specs.Maps.{Maps, queue, owned, HasNode, IsSound}
 use Rattle.lt_links.specs.View.{maps_of, queue_of, number_of, stand_of, Links, IsLinked}
-use Rattle.lt_links.proofs.Views.{stand_is, record_is, number_is, queue_is, owned_is, has_queue, has_number}
+use Rattle.lt_links.proofs.Views.{stand_is, record_is, number_is, queue_is, owned_is, has_queue}
 use Rattle.lt_links.proofs.Rings.{prev_behind, prev_end, next_in, prev_in}
 use Rattle.lt_links.proofs.Steps.{node_there}
 use Rattle.std.specs.List.{last_or}

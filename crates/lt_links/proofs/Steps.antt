@@ -1,4 +1,4 @@
-use Rattle.std.proofs.Common.{◌≡◌, ◌≢◌, ◌⊎◌, ℕ, Bool, true, false, cond, Option, Some, None, List, [], ◌∷◌, ◌++◌, refl, sym, ap, ◌∙◌, inl, inr, subst}
+use Rattle.std.proofs.Common.{◌≡◌, ◌≢◌, ◌⊎◌, ℕ, Bool, true, false, cond, Option, Some, None, List, [], ◌∷◌, refl, sym, ap, ◌∙◌, inl, inr, subst}
 use Rattle.std.specs.Prelude.{nat_eq, is_some}
 use mathlib.Core.Bool.{true≢false}
 use Rattle.slab.specs.Slab.{Slab, get, Updates}
@@ -9,10 +9,10 @@ use Rattle.lt_links.specs.declared.stand.Stand.{Stand}
 use Rattle.lt_links.specs.declared.ids.Queue.{Queue}
 use Rattle.lt_links.specs.declared.ids.QueueKind.{QueueKind}
 use Rattle.lt_links.specs.declared.ids.QueueKind.TheVariants.{Writers, Readers, Reservation}
-use Rattle.lt_links.specs.Ring.{has, is_in, without, put_after}
-use Rattle.lt_links.specs.Cells.{queued_of, owned_of, unqueued, unowned, Joints, next_of, prev_of, queued_at, owned_at, Owners, ends_of, JoinsIn, IsFamily, KeepsQueued, JoinsQueued, KeepsOwned, JoinsOwned, LinksQueued, LinksOwned, UnlinksOwned, OpensOwner, HasQueued, HasOwned}
-use Rattle.lt_links.specs.Maps.{Maps, queue, owned, stand, has_record, HasNode, Are, Removes, MovesFront, is_queue, is_kind}
-use Rattle.lt_links.specs.View.{maps_of, queue_of, number_of, stand_of, Links, IsLinked}
+use Rattle.lt_links.specs.Ring.{has, is_in, without}
+use Rattle.lt_links.specs.Cells.{queued_of, owned_of, unqueued, unowned, next_of, prev_of, queued_at, owned_at, Owners, ends_of, JoinsIn, IsFamily, JoinsQueued, LinksQueued, UnlinksOwned, HasQueued, HasOwned}
+use Rattle.lt_links.specs.Maps.{queue, owned, stand, has_record, HasNode, Are, Removes, MovesFront, is_queue, is_kind}
+use Rattle.lt_links.specs.View.{maps_of, queue_of, number_of, stand_of, Links}
 use Rattle.lt_links.proofs.Rings.{same_or_apart, is_itself, alone, not_alone, without_absent, has-without, prev_in, next_in}
 use Rattle.lt_links.proofs.Joints.{same_queue, same_parts, IsFamily-without, IsFamily-put_after, IsFamily-kept}
 use Rattle.lt_links.proofs.Views.{stand_is, record_is, queue_is, owned_is, has_queue, has_number}

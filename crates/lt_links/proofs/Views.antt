@@ -1,5 +1,5 @@
-use Rattle.std.proofs.Common.{◌≡◌, ◌≢◌, ◌⊎◌, ℕ, zero, suc, ◌+◌, ◌<◌, ◌≤◌, length, map, Bool, true, false, cond, Option, Some, None, List, [], ◌∷◌, refl, sym, ap, ◌∙◌, inl, inr, arith, subst, get_or, unwrap_or}
-use Rattle.std.specs.Prelude.{nat_eq, is_some}
+use Rattle.std.proofs.Common.{◌≡◌, ◌≢◌, ℕ, zero, suc, ◌+◌, ◌<◌, ◌≤◌, length, map, true, false, cond, Option, Some, None, List, [], ◌∷◌, refl, sym, ap, ◌∙◌, inl, inr, arith, get_or, unwrap_or}
+use Rattle.std.specs.Prelude.{is_some}
 use mathlib.Core.Bool.{true≢false}
 use Rattle.std.specs.Ordering.{nat_cmp, eq_by_cmp}
 use Rattle.std.specs.FinMap.{find, from_entries, get-from_entries}
@@ -13,13 +13,12 @@ use Rattle.slab.proofs.SlabLemmas.{ContainsKey-within}
 use Rattle.lt_links.specs.declared.node.Joint.{Joint}
 use Rattle.lt_links.specs.declared.node.Node.{Node}
 use Rattle.lt_links.specs.declared.node.Heads.{Heads}
-use Rattle.lt_links.specs.declared.stand.Stand.{Stand}
 use Rattle.lt_links.specs.declared.ids.Queue.{Queue}
 use Rattle.lt_links.specs.declared.ids.QueueKind.{QueueKind}
 use Rattle.lt_links.specs.declared.ids.QueueKind.TheVariants.{Writers, Readers, Reservation}
-use Rattle.lt_links.specs.Ring.{has, is_in, Distinct, without, Link, Path, Ring, Family}
-use Rattle.lt_links.specs.Cells.{no_joint, head_of, Joints, next_of, prev_of, queued_at, owned_at, Owners, ends_of, IsFamily}
-use Rattle.lt_links.specs.Maps.{Maps, Lists, no_lists, list_of, queue, owned, stand, has_record, has_list}
+use Rattle.lt_links.specs.Ring.{has, Distinct, without, Link, Path}
+use Rattle.lt_links.specs.Cells.{no_joint, head_of, Joints, next_of, queued_at, owned_at, Owners, ends_of, IsFamily}
+use Rattle.lt_links.specs.Maps.{Maps, no_lists, list_of, queue, owned, stand, has_record, has_list}
 use Rattle.lt_links.specs.View.{walk, list_at, lists_at, maps_of, queue_of, number_of, stand_of, Links}
 use Rattle.lt_links.proofs.Rings.{same_or_apart, has-without, without_absent, Distinct-without}
 

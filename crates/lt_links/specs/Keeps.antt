@@ -1,5 +1,5 @@
 -- What is kept is kept by two changes, one after the other, and places that are there stay there.
-use Rattle.std.specs.Prelude.{◌≡◌, ℕ, true, Option, Some, None, is_some, refl}
+use Rattle.std.specs.Prelude.{◌≡◌, ℕ, Option, Some, None, is_some, refl}
 use Rattle.std.proofs.Common.{◌∙◌, sym, ap}
 use Rattle.slab.specs.Slab.{Slab, get}
 use Rattle.lt_links.specs.declared.node.Node.{Node}

@@ -1,7 +1,6 @@
 -- How the fields of `Links` are seen as three maps, and what is true of the fields.
 use Rattle.std.specs.Prelude.{◌≡◌, ◌≢◌, ℕ, zero, suc, true, List, [], ◌∷◌, length, map, Option, Some, None, is_some}
-use Rattle.std.specs.Ordering.{nat_cmp}
-use Rattle.std.specs.FinMap.{FinMap, from_entries}
+use Rattle.std.specs.FinMap.{from_entries}
 use Rattle.slab.specs.Slab.{Slab, get, entries}
 use Rattle.lt_links.specs.declared.node.Node.{Node}
 use Rattle.lt_links.specs.declared.node.Heads.{Heads}

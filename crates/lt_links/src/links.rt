@@ -204,14 +204,7 @@ impl Links {
         );
         self.nodes[key].queue = queue;
         let first = queued(&self.nodes, &self.heads, &queue, None).next;
-        link(
-            &mut self.heads,
-            &mut self.nodes,
-            &queue,
-            None,
-            first,
-            key,
-        );
+        link(&mut self.heads, &mut self.nodes, &queue, None, first, key);
     }
 
     /// Puts a stand at the front of a queue, and last into its number's list. After an error nothing has changed.

@@ -2,7 +2,7 @@
 ghost use Rattle.std.specs.Prelude.{◌≡◌, OnOk, OnErr, IfOk, unwrap_or};
 ghost use Rattle.lt_links.specs.Cells.{ends_of, no_joint, HasOwned, UnlinksOwned, OpensOwner};
 
-use crate::ends::{join, Ends};
+use crate::ends::{Ends, join};
 use crate::node::{Joint, Node};
 use slab::Slab;
 use std::alloc::AllocError;

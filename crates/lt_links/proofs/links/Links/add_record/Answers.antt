@@ -1,8 +1,8 @@
-use Rattle.std.proofs.Common.{◌≡◌, Some, None, true, false, ◌∙◌, sym, ap, refl, subst, List, Option}
+use Rattle.std.proofs.Common.{◌∙◌, sym, ap, subst, List, Option}
 use Rattle.std.specs.Prelude.{is_some}
-use Rattle.slab.specs.Slab.{get, Updates}
+use Rattle.slab.specs.Slab.{get}
 use Rattle.lt_links.specs.declared.node.Heads.{Heads}
-use Rattle.lt_links.specs.Maps.{Maps, AddsRecord, has_record}
+use Rattle.lt_links.specs.Maps.{Maps, AddsRecord}
 use Rattle.lt_links.proofs.Views.{record_is}
 use Rattle.lt_links.proofs.Edits.{Links-head_slots, maps-head_slots, Links-added, AddsRecord-added, IsEmpty-added}
 use Rattle.lt_links.specs.View.{maps_of}

@@ -1,7 +1,5 @@
-use Rattle.std.proofs.Common.{◌≡◌, true, ◌∙◌, sym, ap}
-use Rattle.std.specs.Prelude.{is_some}
-use Rattle.slab.specs.Slab.{get, Updates}
-use Rattle.lt_links.specs.Maps.{Maps, IsEmpty, DropsRecord, has_record}
+use Rattle.std.proofs.Common.{◌≡◌, true, ◌∙◌, sym}
+use Rattle.lt_links.specs.Maps.{IsEmpty, has_record}
 use Rattle.lt_links.proofs.Views.{record_is}
 use Rattle.lt_links.proofs.Edits.{Links-dropped, DropsRecord-dropped}
 use Rattle.lt_links.proofs.links.Links.drop_record.Goals as goal

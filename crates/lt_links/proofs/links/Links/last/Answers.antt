@@ -1,13 +1,8 @@
-use Rattle.std.proofs.Common.{◌≡◌, Some, None, true, ◌∙◌, sym, ap, refl, subst, List, ℕ, ◌∷◌, ◌++◌}
-use Rattle.std.specs.Prelude.{is_some, slice_get}
-use Rattle.slab.specs.Slab.{get}
-use Rattle.lt_links.specs.Maps.{Maps, IsSound, has_record, queue}
+use Rattle.std.proofs.Common.{None, ◌∙◌, sym, ap, subst}
+use Rattle.lt_links.specs.Maps.{Maps, IsSound, queue}
 use Rattle.std.specs.List.{last_or}
-use Rattle.lt_links.specs.Ring.{has}
-use Rattle.lt_links.specs.declared.ids.Queue.{Queue}
 use Rattle.lt_links.proofs.Views.{record_is}
-use Rattle.lt_links.proofs.Steps.{node_there}
-use Rattle.lt_links.proofs.Shows.{IsSound-links, last_there, last_is, next_of_node, queue_of_node}
+use Rattle.lt_links.proofs.Shows.{IsSound-links, last_there, last_is}
 use Rattle.lt_links.proofs.links.Links.last.Goals as goal
 
 pub queued-requires : goal.queued-requires

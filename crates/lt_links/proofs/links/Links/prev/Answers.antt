@@ -1,12 +1,7 @@
-use Rattle.std.proofs.Common.{◌≡◌, Some, None, true, ◌∙◌, sym, ap, refl, subst, List, ℕ, ◌∷◌, ◌++◌}
-use Rattle.std.specs.Prelude.{is_some, slice_get}
-use Rattle.slab.specs.Slab.{get}
-use Rattle.lt_links.specs.Maps.{Maps, IsSound, has_record, queue}
-use Rattle.lt_links.specs.Ring.{has}
-use Rattle.lt_links.specs.declared.ids.Queue.{Queue}
-use Rattle.lt_links.proofs.Views.{record_is}
+use Rattle.std.proofs.Common.{subst}
+use Rattle.lt_links.specs.Maps.{IsSound}
 use Rattle.lt_links.proofs.Steps.{node_there}
-use Rattle.lt_links.proofs.Shows.{IsSound-links, prev_there, first_is, prev_of_node, queue_of_node}
+use Rattle.lt_links.proofs.Shows.{IsSound-links, prev_there, prev_of_node}
 use Rattle.lt_links.proofs.links.Links.prev.Goals as goal
 
 pub index-requires : goal.index-requires

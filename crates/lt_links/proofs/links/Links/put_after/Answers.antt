@@ -1,14 +1,12 @@
-use Rattle.std.proofs.Common.{◌≡◌, Some, None, true, ◌∙◌, sym, ap, refl, subst}
-use Rattle.std.specs.Prelude.{is_some}
-use Rattle.slab.specs.Slab.{get, Updates}
-use Rattle.lt_links.specs.Maps.{Maps, PutsAfter, has_record, stand}
-use Rattle.lt_links.specs.View.{Links, maps_of, stand_of}
+use Rattle.std.proofs.Common.{◌≡◌, true, ◌∙◌, sym, ap, refl, subst}
+use Rattle.slab.specs.Slab.{get}
+use Rattle.lt_links.specs.Maps.{Maps, PutsAfter, has_record}
+use Rattle.lt_links.specs.View.{maps_of, stand_of}
 use Rattle.lt_links.proofs.Views.{record_is, stand_is}
 use Rattle.lt_links.proofs.Pushes.{Links-slots, Links-unchanged, maps-unchanged, at_there, next_there, last_there, Links-pushed, PutsAfter-pushed}
-use Rattle.std.proofs.Common.{List, Option, Result, Ok, Err, ℕ}
+use Rattle.std.proofs.Common.{List, Option, Result, Ok, Err}
 use Rattle.std.specs.Result.{OnErr}
 use Rattle.lt_links.specs.declared.node.Node.{Node}
-use Rattle.lt_links.specs.declared.ids.Queue.{Queue}
 use Rattle.lt_links.specs.Maps.{queue}
 use Rattle.lt_links.specs.Ring.{is_in}
 use Rattle.lt_links.proofs.Views.{queue_is}
@@ -97,11 +95,11 @@ invariant_of-self-2 c =
       queues = _;
       numbers = _;
       links = Links-pushed c.reserve.new.self c.insert_reserved-key.new.self c.self.inside.heads c.self.inside.owners inv.queues inv.numbers c.insert_reserved-key.result c.args.stand c.args.queue.now
-    (Links-slots c.self.inside.nodes c.reserve.new.self c.self.inside.heads c.self.inside.owners inv.queues inv.numbers (ap (λ s. s.slots) c.reserve.ensures.rest_kept) inv.links)
-    c.insert_reserved-key.ensures.was_vacant (rw c.new.ensures at c.insert_reserved-key.ensures.updates)
-    (sym (record_is c.self.inside.nodes c.self.inside.heads c.self.inside.owners c.args.queue.now.id) ∙ (rw (← c.self.view_is) at has))
-    c.args.at (sym (ap (λ l. is_in l c.args.at) (queue_is c.self.inside.nodes c.self.inside.heads c.self.inside.owners inv.queues inv.numbers inv.links c.args.queue.now)) ∙ (rw (← c.self.view_is) at place))
-    c.link.new.nodes c.link.new.ends c.open_owner.new.owners c.in_ok-last.ensures.ok c.in_ok-last.last c.in_ok-last.ensures.last c.queued-next.result.next (ap (λ j. j.next) c.queued-next.ensures) c.link.ensures
+          (Links-slots c.self.inside.nodes c.reserve.new.self c.self.inside.heads c.self.inside.owners inv.queues inv.numbers (ap (λ s. s.slots) c.reserve.ensures.rest_kept) inv.links)
+          c.insert_reserved-key.ensures.was_vacant (rw c.new.ensures at c.insert_reserved-key.ensures.updates)
+          (sym (record_is c.self.inside.nodes c.self.inside.heads c.self.inside.owners c.args.queue.now.id) ∙ (rw (← c.self.view_is) at has))
+          c.args.at (sym (ap (λ l. is_in l c.args.at) (queue_is c.self.inside.nodes c.self.inside.heads c.self.inside.owners inv.queues inv.numbers inv.links c.args.queue.now)) ∙ (rw (← c.self.view_is) at place))
+          c.link.new.nodes c.link.new.ends c.open_owner.new.owners c.in_ok-last.ensures.ok c.in_ok-last.last c.in_ok-last.ensures.last c.queued-next.result.next (ap (λ j. j.next) c.queued-next.ensures) c.link.ensures
           c.link-2.new.nodes c.link-2.new.ends c.link-2.ensures;
     }
 

@@ -1,8 +1,7 @@
-use Rattle.std.proofs.Common.{◌≡◌, Some, true, ◌∙◌, sym, ap}
+use Rattle.std.proofs.Common.{◌≡◌, Some, ap}
 use Rattle.std.specs.Prelude.{is_some}
-use Rattle.slab.specs.Slab.{get, Updates}
 use Rattle.slab.proofs.SlabLemmas.{Updates-with_value}
-use Rattle.lt_links.specs.Maps.{Maps, SetsStand, number_at}
+use Rattle.lt_links.specs.Maps.{number_at}
 use Rattle.lt_links.proofs.Edits.{Links-set, SetsStand-set, number_there, number_same}
 use Rattle.lt_links.proofs.links.Links.set_stand.Goals as goal
 
@@ -19,8 +18,8 @@ invariant_of-self c =
       queues = inv.queues;
       numbers = inv.numbers;
       links = Links-set c.self.inside.nodes _ c.self.inside.heads c.self.inside.owners inv.queues inv.numbers inv.links c.key.result c.index_mut.result.now c.args.stand c.index_mut.ensures.value
-    (number_same c.self.inside.nodes c.self.inside.heads c.self.inside.owners c.key.result c.args.stand.number (rw c.key.ensures (rw (← c.self.view_is) at number)) c.index_mut.result.now c.index_mut.ensures.value)
-    (Updates-with_value c.self.inside.nodes c.key.result _ (ap is_some c.index_mut.ensures.value));
+          (number_same c.self.inside.nodes c.self.inside.heads c.self.inside.owners c.key.result c.args.stand.number (rw c.key.ensures (rw (← c.self.view_is) at number)) c.index_mut.result.now c.index_mut.ensures.value)
+          (Updates-with_value c.self.inside.nodes c.key.result _ (ap is_some c.index_mut.ensures.value));
     }
 
 pub returns : goal.returns

@@ -1,5 +1,5 @@
 use Rattle.std.proofs.Common.{subst}
-use Rattle.lt_links.specs.Maps.{HasNode, stand, IsSound}
+use Rattle.lt_links.specs.Maps.{IsSound}
 use Rattle.lt_links.proofs.Shows.{IsSound-links}
 use Rattle.lt_links.proofs.Steps.{node_there, stand_found}
 use Rattle.lt_links.proofs.links.Links.stand.Goals as goal
