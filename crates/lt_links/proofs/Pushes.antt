@@ -1,0 +1,238 @@
+-- A new node comes into a queue and into its number's list.
+use Rattle.std.proofs.Common.{◌≡◌, ◌≢◌, ℕ, true, cond, Option, Some, None, List, [], ◌∷◌, ◌++◌, refl, sym, ap, ◌∙◌, inl, inr, subst, unwrap_or, map, length}
+use Rattle.std.specs.Ordering.{nat_cmp}
+use Rattle.std.specs.FinMap.{from_entries}
+use Rattle.std.specs.BTreeMap.{is_at}
+use Rattle.std.specs.Map.{lookup}
+use Rattle.std.specs.Prelude.{nat_eq, is_some}
+use Rattle.slab.specs.Slab.{Slab, get, Updates}
+use Rattle.lt_links.specs.declared.node.Node.{Node}
+use Rattle.lt_links.specs.declared.node.Heads.{Heads}
+use Rattle.lt_links.specs.declared.stand.Stand.{Stand}
+use Rattle.lt_links.specs.declared.ids.Queue.{Queue}
+use Rattle.lt_links.specs.Ring.{has, is_in, put_after}
+use Rattle.lt_links.specs.Cells.{no_joint, queued_of, owned_of, unqueued, unowned, next_of, prev_of, queued_at, owned_at, Owners, ends_of, JoinsIn, IsFamily, LinksQueued, LinksOwned, OpensOwner, HasQueued, HasOwned}
+use Rattle.lt_links.specs.Maps.{PutsAfter, is_queue}
+use Rattle.lt_links.specs.View.{maps_of, walk, queue_of, number_of, stand_of, Links}
+use Rattle.lt_links.proofs.Rings.{same_or_apart, is_itself, prev_in, next_in, forth, put_after_last}
+use Rattle.lt_links.proofs.Joints.{same_queue, IsFamily-put_after, IsFamily-kept}
+use Rattle.lt_links.proofs.Views.{has_queue, has_number}
+use Rattle.lt_links.proofs.Steps.{Are-links, none≢some, over, under, same_number, is_same, is_other}
+
+-- The links are a matter of the slots alone.
+pub Links-slots : (nodes nodes' : Slab Node) (heads : Slab Heads) (owners : Owners) (queues : Queue → List ℕ) (numbers : ℕ → List ℕ) → nodes'.slots ≡ nodes.slots → Links nodes heads owners queues numbers → Links nodes' heads owners queues numbers
+Links-slots nodes nodes' heads owners queues numbers e links =
+    subst (λ (l : List (Option Node)). Links (record nodes' { slots = l }) heads owners queues numbers) (sym e)
+    (record { queues_linked = links.queues_linked; numbers_linked = links.numbers_linked; heads_there = links.heads_there; owners_there = links.owners_there; owners_needed = links.owners_needed })
+
+abbrev pub new_node : Stand → Queue → Node
+new_node s to = record { stand = s; queue = to; queued = no_joint; owned = no_joint }
+
+-- the node is in the slab, and linked with none
+module _ (nodes nodes1 : Slab Node) (heads : Slab Heads) (owners : Owners) (queues : Queue → List ℕ) (numbers : ℕ → List ℕ) (n : ℕ) (s : Stand) (to : Queue) (links : Links nodes heads owners queues numbers) (vacant : get nodes n ≡ None) (put : Updates nodes nodes1 n (Some (new_node s to))) (there : is_some (get heads to.id) ≡ true) (a : Option ℕ) (a_in : is_in (queues to) a ≡ true) where
+  queued_off : (q : Queue) (m : ℕ) → has m (queues q) ≡ true → m ≢ n
+  queued_off q m h e = none≢some q (sym (ap (λ i. queue_of (get nodes i)) e ∙ ap queue_of vacant) ∙ links.queues_linked.homes q m h)
+
+  owned_off : (k m : ℕ) → has m (numbers k) ≡ true → m ≢ n
+  owned_off k m h e = none≢some k (sym (ap (λ i. number_of (get nodes i)) e ∙ ap number_of vacant) ∙ links.numbers_linked.homes k m h)
+
+  in_slab : IsFamily (queued_at nodes1 heads) (λ m. queue_of (get nodes m)) queues
+  in_slab = IsFamily-kept same_queue (queued_at nodes heads) (queued_at nodes1 heads) (λ m. queue_of (get nodes m)) (λ m. queue_of (get nodes m)) queues links.queues_linked kept (λ m. refl)
+    where
+      kept : (q : Queue) (a : Option ℕ) → is_in (queues q) a ≡ true → queued_at nodes1 heads q a ≡ queued_at nodes heads q a
+      kept q None h = refl
+      kept q (Some m) h = ap queued_of (put.others m (queued_off q m h))
+
+  queued_there : (b : Option ℕ) → is_in (queues to) b ≡ true → HasQueued nodes1 heads to b
+  queued_there None h = there
+  queued_there (Some m) h = ap is_some (put.others m (queued_off to m h)) ∙ has_queue nodes heads owners queues numbers links m to (links.queues_linked.homes to m h)
+
+  pub at_there : HasQueued nodes1 heads to a
+  at_there = queued_there a a_in
+
+  pub next_there : HasQueued nodes1 heads to (queued_at nodes1 heads to a).next
+  next_there = queued_there _ (next_in _ _ _ (in_slab.rings to) a a_in)
+
+  -- it is in its queue, and its number has a list
+  module _ (nodes2 : Slab Node) (heads2 : Slab Heads) (owners1 : Owners) (opens : OpensOwner owners owners1 s.number) (last : Option ℕ) (last_is : last ≡ (unwrap_or (ends_of owners s.number) no_joint).prev) (next : Option ℕ) (next_is : next ≡ (queued_at nodes1 heads to a).next) (one : LinksQueued nodes1 heads nodes2 heads2 to a next n) where
+    linked_same : {X : Type 0} (f : Option Node → X) → ((x : Option Node) → f (unqueued x) ≡ f x) → (m : ℕ) → f (get nodes2 m) ≡ f (get nodes1 m)
+    linked_same f through m =
+        over (get nodes1 m) (get nodes2 m) (one.keeps.nodes_kept m) f through
+
+    owned_through : (x : Option Node) → owned_of (unqueued x) ≡ owned_of x
+    owned_through None = refl
+    owned_through (Some d) = refl
+
+    some_through : (x : Option Node) → is_some (unqueued x) ≡ is_some x
+    some_through None = refl
+    some_through (Some d) = refl
+
+    in_queue : IsFamily (owned_at nodes2 owners1) (λ m. number_of (get nodes m)) numbers
+    in_queue = IsFamily-kept same_number (owned_at nodes owners) (owned_at nodes2 owners1) (λ m. number_of (get nodes m)) (λ m. number_of (get nodes m)) numbers links.numbers_linked kept (λ m. refl)
+      where
+        kept : (k : ℕ) (a : Option ℕ) → is_in (numbers k) a ≡ true → owned_at nodes2 owners1 k a ≡ owned_at nodes owners k a
+        kept k None h = opens.ends k
+        kept k (Some m) h = linked_same owned_of owned_through m ∙ ap owned_of (put.others m (owned_off k m h))
+
+    owned_there : (a : Option ℕ) → is_in (numbers s.number) a ≡ true → HasOwned nodes2 owners1 s.number a
+    owned_there None h = opens.opened
+    owned_there (Some m) h = linked_same is_some some_through m ∙ ap is_some (put.others m (owned_off s.number m h)) ∙ has_number nodes heads owners queues numbers links m s.number (links.numbers_linked.homes s.number m h)
+
+    ends_are : last ≡ (owned_at nodes2 owners1 s.number None).prev
+    ends_are = last_is ∙ ap (λ j. j.prev) (sym (opens.ends s.number))
+
+    last_in : is_in (numbers s.number) last ≡ true
+    last_in = ap (is_in (numbers s.number)) ends_are ∙ prev_in _ _ _ (in_queue.rings s.number) None refl
+
+    pub last_there : HasOwned nodes2 owners1 s.number last
+    last_there = owned_there _ last_in
+
+    -- nothing follows the last
+    last_next : (owned_at nodes2 owners1 s.number last).next ≡ None
+    last_next = ap (next_of (owned_at nodes2 owners1) s.number) ends_are ∙ forth _ _ _ (in_queue.rings s.number) None refl
+
+    -- it is in both
+    module _ (nodes3 : Slab Node) (owners3 : Owners) (two : LinksOwned nodes2 owners1 nodes3 owners3 s.number last None n) where
+      owned_same : {X : Type 0} (f : Option Node → X) → ((x : Option Node) → f (unowned x) ≡ f x) → (m : ℕ) → f (get nodes3 m) ≡ f (get nodes2 m)
+      owned_same f through m =
+          under (get nodes2 m) (get nodes3 m) (two.keeps.nodes_kept m) f through
+
+      pushed_same : {X : Type 0} (f : Option Node → X) → ((x : Option Node) → f (unqueued x) ≡ f x) → ((x : Option Node) → f (unowned x) ≡ f x) → (m : ℕ) → m ≢ n → f (get nodes3 m) ≡ f (get nodes m)
+      pushed_same f through through' m off = owned_same f through' m ∙ linked_same f through m ∙ ap f (put.others m off)
+
+      pushed_here : {X : Type 0} (f : Option Node → X) → ((x : Option Node) → f (unqueued x) ≡ f x) → ((x : Option Node) → f (unowned x) ≡ f x) → f (get nodes3 n) ≡ f (Some (new_node s to))
+      pushed_here f through through' = owned_same f through' n ∙ linked_same f through n ∙ ap f put.changed
+
+      q1 : (x : Option Node) → queue_of (unqueued x) ≡ queue_of x
+      q1 None = refl
+      q1 (Some d) = refl
+
+      q2 : (x : Option Node) → queue_of (unowned x) ≡ queue_of x
+      q2 None = refl
+      q2 (Some d) = refl
+
+      n1 : (x : Option Node) → number_of (unqueued x) ≡ number_of x
+      n1 None = refl
+      n1 (Some d) = refl
+
+      n2 : (x : Option Node) → number_of (unowned x) ≡ number_of x
+      n2 None = refl
+      n2 (Some d) = refl
+
+      s1 : (x : Option Node) → stand_of (unqueued x) ≡ stand_of x
+      s1 None = refl
+      s1 (Some d) = refl
+
+      s2 : (x : Option Node) → stand_of (unowned x) ≡ stand_of x
+      s2 None = refl
+      s2 (Some d) = refl
+
+      queued_through : (x : Option Node) → queued_of (unowned x) ≡ queued_of x
+      queued_through None = refl
+      queued_through (Some d) = refl
+
+      abbrev pub pushed_queues : Queue → List ℕ
+      pushed_queues q = cond (is_queue q to) (put_after a n (queues q)) (queues q)
+
+      abbrev pub pushed_numbers : ℕ → List ℕ
+      pushed_numbers k = cond (nat_eq k s.number) (numbers k ++ n ∷ []) (numbers k)
+
+      heads_same : (id : ℕ) → is_some (get heads2 id) ≡ is_some (get heads id)
+      heads_same id = one.keeps.heads_kept id
+
+      owners_same : (k : ℕ) → is_some (ends_of owners3 k) ≡ is_some (ends_of owners1 k)
+      owners_same k = two.keeps.owners_kept k
+
+      pub Links-pushed : Links nodes3 heads2 owners3 pushed_queues pushed_numbers
+      Links-pushed =
+          record {
+            queues_linked = IsFamily-kept same_queue (queued_at nodes2 heads2) (queued_at nodes3 heads2) (λ m. queue_of (get nodes3 m)) (λ m. queue_of (get nodes3 m)) pushed_queues
+                (IsFamily-put_after same_queue (queued_at nodes1 heads) (queued_at one.mid_nodes one.mid_ends) (queued_at nodes2 heads2) (λ m. queue_of (get nodes m)) (λ m. queue_of (get nodes3 m)) queues pushed_queues to a n
+                in_slab a_in (ap queue_of vacant) one.first (subst (JoinsIn (queued_at one.mid_nodes one.mid_ends) (queued_at nodes2 heads2) to (Some n)) next_is one.second) (pushed_here queue_of q1 q2) (pushed_same queue_of q1 q2) (rw (is_same to) refl) (λ q off. rw (is_other q to off) refl))
+                kept (λ m. refl);
+            numbers_linked = IsFamily-put_after same_number (owned_at nodes2 owners1) (owned_at two.mid_nodes two.mid_ends) (owned_at nodes3 owners3) (λ m. number_of (get nodes m)) (λ m. number_of (get nodes3 m)) numbers pushed_numbers s.number last n
+                in_queue last_in (ap number_of vacant) two.first (subst (JoinsIn (owned_at two.mid_nodes two.mid_ends) (owned_at nodes3 owners3) s.number (Some n)) (sym last_next) two.second) (pushed_here number_of n1 n2) (pushed_same number_of n1 n2)
+                (rw (is_itself s.number, ends_are) (sym (put_after_last (next_of (owned_at nodes2 owners1) s.number) (prev_of (owned_at nodes2 owners1) s.number) (numbers s.number) n (in_queue.rings s.number))))
+                (λ k off. elim (same_or_apart k s.number) [ inl e ↦ absurd (off e.0) | inr o ↦ rw o.1 refl ]);
+            heads_there = λ m q h. heads_same q.id ∙ elim (same_or_apart m n) [
+              | inl e ↦
+                  let same : Some to ≡ Some q = sym (pushed_here queue_of q1 q2) ∙ ap (λ i. queue_of (get nodes3 i)) (sym e.0) ∙ h in
+                  queue_there q (cc)
+              | inr o ↦ links.heads_there m q (sym (pushed_same queue_of q1 q2 m o.0) ∙ h)
+            ];
+            owners_there = λ m k h. owners_same k ∙ elim (same_or_apart m n) [
+              | inl e ↦
+                  let same : Some s.number ≡ Some k = sym (pushed_here number_of n1 n2) ∙ ap (λ i. number_of (get nodes3 i)) (sym e.0) ∙ h in
+                  number_there k (cc)
+              | inr o ↦ opened_too k (links.owners_there m k (sym (pushed_same number_of n1 n2 m o.0) ∙ h))
+            ];
+            owners_needed = λ k h. needed k (sym (owners_same k) ∙ h);
+          }
+        where
+          kept : (q : Queue) (a : Option ℕ) → is_in (pushed_queues q) a ≡ true → queued_at nodes3 heads2 q a ≡ queued_at nodes2 heads2 q a
+          kept q None h = refl
+          kept q (Some m) h = owned_same queued_of queued_through m
+
+          opened_too : (k : ℕ) → is_some (ends_of owners k) ≡ true → is_some (ends_of owners1 k) ≡ true
+          opened_too k h = elim (same_or_apart k s.number) [
+            | inl e ↦ ap (λ i. is_some (ends_of owners1 i)) e.0 ∙ opens.opened
+            | inr o ↦ opens.others k o.0 ∙ h
+          ]
+
+          some_more : (l : List ℕ) → l ++ n ∷ [] ≢ []
+          some_more [] = λ e. cc
+          some_more (x ∷ xs) = λ e. cc
+
+          needed : (k : ℕ) → is_some (ends_of owners1 k) ≡ true → pushed_numbers k ≢ []
+          needed k h = elim (same_or_apart k s.number) [
+            | inl e ↦ rw e.1 (some_more (numbers k))
+            | inr o ↦ rw o.1 (links.owners_needed k (sym (opens.others k o.0) ∙ h))
+          ]
+
+          queue_there : (q : Queue) → to ≡ q → is_some (get heads q.id) ≡ true
+          queue_there q e = ap (λ (r : Queue). is_some (get heads r.id)) (sym e) ∙ there
+
+          number_there : (k : ℕ) → s.number ≡ k → is_some (ends_of owners1 k) ≡ true
+          number_there k e = ap (λ i. is_some (ends_of owners1 i)) (sym e) ∙ opens.opened
+
+      pub PutsAfter-pushed : PutsAfter (maps_of nodes heads owners) (maps_of nodes3 heads2 owners3) to a n s
+      PutsAfter-pushed =
+          Are-links nodes nodes3 heads heads2 owners owners3 queues pushed_queues numbers pushed_numbers
+          (λ q l. cond (is_queue q to) (put_after a n l) l) (λ k l. cond (nat_eq k s.number) (l ++ n ∷ []) l) (λ m o. cond (nat_eq m n) (Some s) o) (λ id b. b) links Links-pushed (λ q. refl) (λ k. refl)
+          (λ m. elim (same_or_apart m n) [
+            | inl e ↦ ap (λ i. stand_of (get nodes3 i)) e.0 ∙ pushed_here stand_of s1 s2 ∙ rw e.1 refl
+            | inr o ↦ rw o.1 (pushed_same stand_of s1 s2 m o.0)
+          ])
+          heads_same
+
+-- The maps are a matter of the slots and of the entries alone.
+module _ (nodes nodes' : Slab Node) (heads : Slab Heads) (owners owners' : Owners) (slots : nodes'.slots ≡ nodes.slots) (entries : owners'.entries ≡ owners.entries) where
+  ends_same : (k : ℕ) → ends_of owners' k ≡ ends_of owners k
+  ends_same k = ap (lookup (is_at (nat_cmp k))) entries
+
+  owned_unchanged : (k : ℕ) (a : Option ℕ) → owned_at nodes owners' k a ≡ owned_at nodes owners k a
+  owned_unchanged k None = ap (λ o. unwrap_or o no_joint) (ends_same k)
+  owned_unchanged k (Some m) = refl
+
+  pub Links-unchanged : (queues : Queue → List ℕ) (numbers : ℕ → List ℕ) → Links nodes heads owners queues numbers → Links nodes' heads owners' queues numbers
+  Links-unchanged queues numbers links =
+      Links-slots nodes nodes' heads owners' queues numbers slots (record {
+        queues_linked = links.queues_linked;
+        numbers_linked = IsFamily-kept same_number (owned_at nodes owners) (owned_at nodes owners') (λ m. number_of (get nodes m)) (λ m. number_of (get nodes m)) numbers links.numbers_linked (λ k a h. owned_unchanged k a) (λ m. refl);
+        heads_there = links.heads_there;
+        owners_there = λ m k h. ap is_some (ends_same k) ∙ links.owners_there m k h;
+        owners_needed = λ k h. links.owners_needed k (ap is_some (sym (ends_same k)) ∙ h);
+      })
+
+  slots_only : maps_of nodes' heads owners' ≡ maps_of nodes heads owners'
+  slots_only = λ t. maps_of (record nodes' { slots = slots t }) heads owners'
+
+  entries_only : maps_of nodes heads owners' ≡ maps_of nodes heads owners
+  entries_only = λ t. record {
+    records = (maps_of nodes heads owners).records;
+    numbers = from_entries (map (λ e. (e.0, walk (λ a. (owned_unchanged e.0 a t).next) (length nodes.slots) None)) (entries t));
+    stands = (maps_of nodes heads owners).stands;
+  }
+
+  pub maps-unchanged : maps_of nodes' heads owners' ≡ maps_of nodes heads owners
+  maps-unchanged = slots_only ∙ entries_only

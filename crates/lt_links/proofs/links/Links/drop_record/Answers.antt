@@ -1,0 +1,29 @@
+use Rattle.std.proofs.Common.{◌≡◌, true, ◌∙◌, sym}
+use Rattle.lt_links.specs.Maps.{IsEmpty, has_record}
+use Rattle.lt_links.proofs.Views.{record_is}
+use Rattle.lt_links.proofs.Edits.{Links-dropped, DropsRecord-dropped}
+use Rattle.lt_links.proofs.links.Links.drop_record.Goals as goal
+
+pub remove-requires : goal.remove-requires
+remove-requires c =
+    let there : has_record c.args.self.now c.args.id ≡ true = c.requires.record in
+    rw c.key.ensures (sym (record_is c.self.inside.nodes c.self.inside.heads c.self.inside.owners c.args.id) ∙ (rw (← c.self.view_is) at there))
+
+pub invariant_of-self : goal.invariant_of-self
+invariant_of-self c =
+    let inv = c.self.invariant in
+    let empty : IsEmpty c.args.self.now c.args.id = c.requires.empty in
+    record {
+      queues = inv.queues;
+      numbers = inv.numbers;
+      links = Links-dropped c.self.inside.nodes c.self.inside.heads c.remove.new.self c.self.inside.owners inv.queues inv.numbers inv.links c.args.id
+          (rw (← c.self.view_is) at empty) (rw c.key.ensures at c.remove.ensures.updates);
+    }
+
+pub returns : goal.returns
+returns c =
+    let inv = c.self.invariant in
+    let empty : IsEmpty c.args.self.now c.args.id = c.requires.empty in
+    rw (← c.self.view_is)
+    (DropsRecord-dropped c.self.inside.nodes c.self.inside.heads c.remove.new.self c.self.inside.owners inv.queues inv.numbers inv.links c.args.id
+    (rw (← c.self.view_is) at empty) (rw c.key.ensures at c.remove.ensures.updates))

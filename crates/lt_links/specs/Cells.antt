@@ -1,0 +1,152 @@
+-- What the slabs' nodes and the ends of the lists say of neighbours.
+use Rattle.std.specs.Prelude.{◌≡◌, ◌≢◌, ◌⊎◌, ℕ, true, false, Option, Some, None, is_some, List, unwrap_or}
+use Rattle.std.specs.Ordering.{nat_cmp}
+use Rattle.std.specs.BTreeMap as tree
+use Rattle.std.specs.BTreeMap.{BTreeMap}
+use Rattle.slab.specs.Slab.{Slab, get}
+use Rattle.lt_links.specs.declared.node.Joint.{Joint}
+use Rattle.lt_links.specs.declared.node.Node.{Node}
+use Rattle.lt_links.specs.declared.node.Heads.{Heads}
+use Rattle.lt_links.specs.declared.ids.Queue.{Queue}
+use Rattle.lt_links.specs.declared.ids.QueueKind.{QueueKind}
+use Rattle.lt_links.specs.declared.ids.QueueKind.TheVariants.{Writers, Readers, Reservation}
+use Rattle.lt_links.specs.Ring.{Link, Joins, Family}
+
+abbrev pub no_joint : Joint
+no_joint = record { prev = None; next = None }
+
+abbrev pub head_at : Heads → QueueKind → Joint
+head_at h Writers = h.writers
+head_at h Readers = h.readers
+head_at h Reservation = h.reservation
+
+abbrev pub with_head : Heads → QueueKind → Joint → Heads
+with_head h Writers j = record h { writers = j }
+with_head h Readers j = record h { readers = j }
+with_head h Reservation j = record h { reservation = j }
+
+abbrev pub head_of : Option Heads → QueueKind → Joint
+head_of None kind = no_joint
+head_of (Some h) kind = head_at h kind
+
+abbrev pub queued_of : Option Node → Joint
+queued_of None = no_joint
+queued_of (Some d) = d.queued
+
+-- a node but for its neighbours in its queue
+abbrev pub unqueued : Option Node → Option Node
+unqueued None = None
+unqueued (Some d) = Some (record d { queued = no_joint })
+
+-- what stands beside a node in its queue, and at the ends of a queue
+abbrev pub queued_at : Slab Node → Slab Heads → Queue → Option ℕ → Joint
+queued_at nodes heads q None = head_of (get heads q.id) q.kind
+queued_at nodes heads q (Some n) = queued_of (get nodes n)
+
+-- the place has a joint
+abbrev pub HasQueued : Slab Node → Slab Heads → Queue → Option ℕ → Type 0
+HasQueued nodes heads q None = is_some (get heads q.id) ≡ true
+HasQueued nodes heads q (Some n) = is_some (get nodes n) ≡ true
+
+-- for each list of a family, what stands beside each place
+abbrev pub Joints : Type 0 → Type 0
+Joints K = K → Option ℕ → Joint
+
+module _ {K : Type 0} where
+  abbrev pub next_of : Joints K → K → Link
+  next_of joints k a = (joints k a).next
+
+  abbrev pub prev_of : Joints K → K → Link
+  prev_of joints k a = (joints k a).prev
+
+  -- one joint is written, and nothing else changes
+  pub record Sets (old new : Joints K) (k : K) (at : Option ℕ) (j : Joint) : Type 0 where
+    pub here : new k at ≡ j
+    pub others : (i : K) (a : Option ℕ) → (a ≢ at) ⊎ ((a ≡ None) × (i ≢ k)) → new i a ≡ old i a
+
+  -- two places of a list are made neighbours
+  pub record JoinsIn (old new : Joints K) (k : K) (p s : Option ℕ) : Type 0 where
+    pub here : Joins (next_of old k) (prev_of old k) (next_of new k) (prev_of new k) p s
+    pub elsewhere : (i : K) → i ≢ k → (a : Option ℕ) → ((a ≢ p) × (a ≢ s)) ⊎ (a ≡ None) → new i a ≡ old i a
+
+  -- of the nodes, and what a family keeps beside them, which is written in what is said below
+  module _ {E : Type 0} (joints : Slab Node → E → Joints K) (Keeps : Slab Node → E → Slab Node → E → Type 0) (nodes : Slab Node) (ends : E) (nodes' : Slab Node) (ends' : E) where
+    -- one joint is written
+    pub record SetsJoint (k : K) (at : Option ℕ) (j : Joint) : Type 0 where
+      pub sets : Sets (joints nodes ends) (joints nodes' ends') k at j
+      pub keeps : Keeps nodes ends nodes' ends'
+
+    -- two places of a list are made neighbours
+    pub record JoinsPlaces (k : K) (p s : Option ℕ) : Type 0 where
+      pub joins : JoinsIn (joints nodes ends) (joints nodes' ends') k p s
+      pub keeps : Keeps nodes ends nodes' ends'
+
+    -- a node comes into a list, between two places
+    pub record LinksNode (k : K) (at next : Option ℕ) (n : ℕ) : Type 0 where
+      pub mid_nodes : Slab Node
+      pub mid_ends : E
+      pub first : JoinsIn (joints nodes ends) (joints mid_nodes mid_ends) k at (Some n)
+      pub second : JoinsIn (joints mid_nodes mid_ends) (joints nodes' ends') k (Some n) next
+      pub keeps : Keeps nodes ends nodes' ends'
+
+  abbrev pub IsFamily : Joints K → (ℕ → Option K) → (K → List ℕ) → Type 0
+  IsFamily joints home lists = Family (next_of joints) (prev_of joints) home lists
+
+-- but for neighbours in queues nothing changed
+pub record KeepsQueued (nodes : Slab Node) (heads : Slab Heads) (nodes' : Slab Node) (heads' : Slab Heads) : Type 0 where
+  pub nodes_kept : (n : ℕ) → unqueued (get nodes' n) ≡ unqueued (get nodes n)
+  pub heads_kept : (id : ℕ) → is_some (get heads' id) ≡ is_some (get heads id)
+
+abbrev pub JoinsQueued : Slab Node → Slab Heads → Slab Node → Slab Heads → Queue → Option ℕ → Option ℕ → Type 0
+JoinsQueued = JoinsPlaces queued_at KeepsQueued
+
+abbrev pub LinksQueued : Slab Node → Slab Heads → Slab Node → Slab Heads → Queue → Option ℕ → Option ℕ → ℕ → Type 0
+LinksQueued = LinksNode queued_at KeepsQueued
+
+abbrev pub owned_of : Option Node → Joint
+owned_of None = no_joint
+owned_of (Some d) = d.owned
+
+-- a node but for its neighbours in its number's list
+abbrev pub unowned : Option Node → Option Node
+unowned None = None
+unowned (Some d) = Some (record d { owned = no_joint })
+
+abbrev pub Owners : Type 0
+Owners = BTreeMap ℕ Joint
+
+abbrev pub ends_of : Owners → ℕ → Option Joint
+ends_of owners number = tree.get nat_cmp owners number
+
+-- what stands beside a node in its number's list, and at the ends of such a list
+abbrev pub owned_at : Slab Node → Owners → ℕ → Option ℕ → Joint
+owned_at nodes owners number None = unwrap_or (ends_of owners number) no_joint
+owned_at nodes owners number (Some n) = owned_of (get nodes n)
+
+abbrev pub HasOwned : Slab Node → Owners → ℕ → Option ℕ → Type 0
+HasOwned nodes owners number None = is_some (ends_of owners number) ≡ true
+HasOwned nodes owners number (Some n) = is_some (get nodes n) ≡ true
+
+-- but for neighbours in the numbers' lists nothing changed
+pub record KeepsOwned (nodes : Slab Node) (owners : Owners) (nodes' : Slab Node) (owners' : Owners) : Type 0 where
+  pub nodes_kept : (n : ℕ) → unowned (get nodes' n) ≡ unowned (get nodes n)
+  pub owners_kept : (number : ℕ) → is_some (ends_of owners' number) ≡ is_some (ends_of owners number)
+
+abbrev pub JoinsOwned : Slab Node → Owners → Slab Node → Owners → ℕ → Option ℕ → Option ℕ → Type 0
+JoinsOwned = JoinsPlaces owned_at KeepsOwned
+
+abbrev pub LinksOwned : Slab Node → Owners → Slab Node → Owners → ℕ → Option ℕ → Option ℕ → ℕ → Type 0
+LinksOwned = LinksNode owned_at KeepsOwned
+
+-- the number has a list, which is empty if it is new
+pub record OpensOwner (owners owners' : Owners) (number : ℕ) : Type 0 where
+  pub opened : is_some (ends_of owners' number) ≡ true
+  pub others : (k : ℕ) → k ≢ number → is_some (ends_of owners' k) ≡ is_some (ends_of owners k)
+  pub ends : (k : ℕ) → unwrap_or (ends_of owners' k) no_joint ≡ unwrap_or (ends_of owners k) no_joint
+
+-- A node's neighbours in its number's list are joined. Where it has none, the number's list is gone.
+pub record UnlinksOwned (nodes : Slab Node) (owners : Owners) (nodes' : Slab Node) (owners' : Owners) (number : ℕ) (p s : Option ℕ) : Type 0 where
+  pub joins : JoinsIn (owned_at nodes owners) (owned_at nodes' owners') number p s
+  pub nodes_kept : (n : ℕ) → unowned (get nodes' n) ≡ unowned (get nodes n)
+  pub owners_kept : (k : ℕ) → ((k ≡ number) × (p ≡ None) × (s ≡ None) → ⊥) → is_some (ends_of owners' k) ≡ is_some (ends_of owners k)
+  pub gone : p ≡ None → s ≡ None → is_some (ends_of owners' number) ≡ false

@@ -1,0 +1,84 @@
+//! Joins places of a list, once for the queues and for the lists of the numbers. A place is a node, or `None` for
+//! both ends.
+ghost use Rattle.std.specs.Prelude.{◌≡◌, Some};
+ghost use Rattle.lt_links.specs.Cells.{SetsJoint, JoinsPlaces, LinksNode};
+
+use crate::node::Node;
+use slab::Slab;
+
+/// The ends of each list of a family. What stands beside a node in its list is in the node.
+pub(crate) trait Ends {
+    ghost use Rattle.std.specs.Prelude.{ℕ, Option};
+    ghost use Rattle.slab.specs.Slab.{Slab};
+    ghost use Rattle.lt_links.specs.declared.node.Node.{Node};
+    ghost use Rattle.lt_links.specs.Cells.{Joints};
+
+    type Key;
+
+    /// What stands beside each place of each list.
+    ghost joints: { Slab Node → Self → Joints Self.Key };
+
+    /// The place is there.
+    ghost HasPlace: { Slab Node → Self → Self.Key → Option ℕ → Type 0 };
+
+    /// But for what stands beside places nothing changed.
+    ghost Keeps: { Slab Node → Self → Slab Node → Self → Type 0 };
+
+    fn set_prev(
+        &mut self,
+        nodes: &mut Slab<Node>,
+        key: &Self::Key,
+        at: Option<usize>,
+        prev: Option<usize>,
+    )
+        requires { HasPlace nodes.old self.old key.now at }
+        ensures { SetsJoint joints Keeps nodes.old self.old nodes.new self.new key.now at (record (joints nodes.old self.old key.now at) { prev = prev }) };
+
+    fn set_next(
+        &mut self,
+        nodes: &mut Slab<Node>,
+        key: &Self::Key,
+        at: Option<usize>,
+        next: Option<usize>,
+    )
+        requires { HasPlace nodes.old self.old key.now at }
+        ensures { SetsJoint joints Keeps nodes.old self.old nodes.new self.new key.now at (record (joints nodes.old self.old key.now at) { next = next }) };
+
+    ghost keeps_twice: { (a b c : Slab Node) (d e f : Self) → Keeps a d b e → Keeps b e c f → Keeps a d c f };
+
+    ghost stays: { (a b : Slab Node) (d e : Self) (k : Self.Key) (at : Option ℕ) → Keeps a d b e → HasPlace a d k at → HasPlace b e k at };
+}
+
+/// Makes two places of a list neighbours.
+pub(crate) fn join<E: Ends>(
+    ends: &mut E,
+    nodes: &mut Slab<Node>,
+    key: &E::Key,
+    before: Option<usize>,
+    after: Option<usize>,
+)
+    requires before { E.HasPlace nodes.old ends.old key.now before }
+    requires after { E.HasPlace nodes.old ends.old key.now after }
+    ensures { JoinsPlaces E.joints E.Keeps nodes.old ends.old nodes.new ends.new key.now before after }
+{
+    ends.set_next(nodes, key, before, after);
+    ends.set_prev(nodes, key, after, before);
+}
+
+/// Puts a node into a list, between two places.
+pub(crate) fn link<E: Ends>(
+    ends: &mut E,
+    nodes: &mut Slab<Node>,
+    key: &E::Key,
+    before: Option<usize>,
+    after: Option<usize>,
+    node: usize,
+)
+    requires before { E.HasPlace nodes.old ends.old key.now before }
+    requires after { E.HasPlace nodes.old ends.old key.now after }
+    requires node { E.HasPlace nodes.old ends.old key.now (Some node) }
+    ensures { LinksNode E.joints E.Keeps nodes.old ends.old nodes.new ends.new key.now before after node }
+{
+    join(ends, nodes, key, before, Some(node));
+    join(ends, nodes, key, Some(node), after);
+}

@@ -1,0 +1,255 @@
+//! Queues of stands, seen as three maps.
+ghost use Rattle.std.specs.Prelude.{◌≡◌};
+
+use crate::ends::{join, link};
+use crate::node::{Heads, Joint, Node};
+use crate::owners::{open_owner, owner_ends, unlink_owned};
+use crate::queues::queued;
+use crate::{NodeId, Queue, RecordId, Stand};
+use slab::Slab;
+use std::alloc::{AllocError, Global};
+use std::collections::BTreeMap;
+use std::marker::Model;
+
+#[cfg(test)]
+mod tests;
+
+/// The nodes of all queues. Each stands in one queue and, by its number, in the list of that number.
+#[derive(Drop)]
+pub struct Links {
+    nodes: Slab<Node>,
+    heads: Slab<Heads>,
+    owners: BTreeMap<u64, Joint>,
+}
+
+impl Model for Links {
+    ghost use Rattle.lt_links.specs.Maps.{Maps, maps_code};
+
+    ghost Value = { Maps };
+
+    ghost coded = { maps_code };
+
+    ghost use Rattle.lt_links.specs.View.{maps_of, IsLinked};
+
+    ghost view = { λ l. maps_of l.nodes l.heads l.owners };
+
+    ghost invariant = { λ l. IsLinked l.nodes l.heads l.owners };
+}
+
+impl Links {
+    ghost use Rattle.lt_links.specs.Maps.{HasNode, number_at, IsEmpty, AddsRecord, DropsRecord, Removes, MovesFront, PushesFront, InsertsAfter, PutsAfter, SetsStand, has_record, no_maps, stand, stand as stand_at, queue as queue_of, owned as owned_by, IsSound};
+    ghost use Rattle.lt_links.specs.Ring.{has, is_in};
+    ghost use Rattle.std.specs.List.{last_or};
+    ghost use Rattle.lt_links.specs.declared.ids.Queue.{Queue};
+    ghost use Rattle.std.specs.Prelude.{Some, None, true, false, IfOk, IfSome, OnErr, ℕ, List, ◌∷◌, ◌++◌, slice_get};
+
+    /// No records and no nodes.
+    pub fn new(alloc: Global) -> Self
+        ensures { result ≡ no_maps }
+    {
+        Links {
+            nodes: Slab::new(alloc),
+            heads: Slab::new(alloc),
+            owners: BTreeMap::new(alloc),
+        }
+    }
+
+    /// Makes a record of three empty queues. After an error nothing has changed.
+    pub fn add_record(&mut self) -> Result<RecordId, AllocError>
+        ensures fresh { IfOk result (λ id. has_record self.old id ≡ false) }
+        ensures adds { IfOk result (λ id. AddsRecord self.old self.new id) }
+        ensures empty { IfOk result (λ id. IsEmpty self.new id) }
+        ensures err { OnErr result (self.new ≡ self.old) }
+    {
+        self.heads.reserve(1)?;
+        let key = self.heads.insert_reserved(Heads::new());
+        Ok(RecordId::new(key))
+    }
+
+    /// Drops a record whose three queues are empty.
+    pub fn drop_record(&mut self, id: RecordId)
+        requires record { has_record self.old id ≡ true }
+        requires empty { IsEmpty self.old id }
+        ensures { DropsRecord self.old self.new id }
+    {
+        self.heads.remove(id.key());
+    }
+
+    /// The first node of a queue.
+    pub fn first(&self, queue: Queue) -> Option<NodeId>
+        requires { has_record self.now queue.id ≡ true }
+        ensures first { result ≡ slice_get (queue_of self.now queue) 0 }
+        ensures there { IfSome result (HasNode self.now) }
+        ensures sound { IsSound self.now }
+    {
+        NodeId::at(queued(&self.nodes, &self.heads, &queue, None).next)
+    }
+
+    /// The last node of a queue.
+    pub fn last(&self, queue: Queue) -> Option<NodeId>
+        requires { has_record self.now queue.id ≡ true }
+        ensures last { result ≡ last_or None (queue_of self.now queue) }
+        ensures there { IfSome result (HasNode self.now) }
+        ensures sound { IsSound self.now }
+    {
+        NodeId::at(queued(&self.nodes, &self.heads, &queue, None).prev)
+    }
+
+    /// The node behind a node of a queue.
+    pub fn next(&self, node: NodeId) -> Option<NodeId>
+        requires { HasNode self.now node }
+        ensures next { (q : Queue) (xs ys : List ℕ) → queue_of self.now q ≡ xs ++ node ∷ ys → result ≡ slice_get ys 0 }
+        ensures there { IfSome result (HasNode self.now) }
+        ensures sound { IsSound self.now }
+    {
+        NodeId::at(self.nodes[node.key()].queued.next)
+    }
+
+    /// The node before a node of a queue.
+    pub fn prev(&self, node: NodeId) -> Option<NodeId>
+        requires { HasNode self.now node }
+        ensures prev { (q : Queue) (xs ys : List ℕ) → queue_of self.now q ≡ xs ++ node ∷ ys → result ≡ last_or None xs }
+        ensures there { IfSome result (HasNode self.now) }
+        ensures sound { IsSound self.now }
+    {
+        NodeId::at(self.nodes[node.key()].queued.prev)
+    }
+
+    /// The first node of a number.
+    pub fn owner_first(&self, number: u64) -> Option<NodeId>
+        ensures first { result ≡ slice_get (owned_by self.now number) 0 }
+        ensures there { IfSome result (HasNode self.now) }
+        ensures sound { IsSound self.now }
+    {
+        NodeId::at(owner_ends(&self.owners, number).next)
+    }
+
+    /// The node behind a node of the same number.
+    pub fn owner_next(&self, node: NodeId) -> Option<NodeId>
+        requires { HasNode self.now node }
+        ensures next { (k : ℕ) (xs ys : List ℕ) → owned_by self.now k ≡ xs ++ node ∷ ys → result ≡ slice_get ys 0 }
+        ensures there { IfSome result (HasNode self.now) }
+        ensures sound { IsSound self.now }
+    {
+        NodeId::at(self.nodes[node.key()].owned.next)
+    }
+
+    /// The queue of a node.
+    pub fn queue_of(&self, node: NodeId) -> Queue
+        requires { HasNode self.now node }
+        ensures queue { has node (queue_of self.now result) ≡ true }
+        ensures sound { IsSound self.now }
+    {
+        let found = &self.nodes[node.key()];
+        found.queue
+    }
+
+    /// The stand at a node.
+    pub fn stand(&self, node: NodeId) -> Stand
+        requires { HasNode self.now node }
+        ensures stand { stand self.now node ≡ Some result }
+        ensures sound { IsSound self.now }
+    {
+        let found = &self.nodes[node.key()];
+        found.stand
+    }
+
+    /// Writes another stand of the same number at a node.
+    pub fn set_stand(&mut self, node: NodeId, stand: Stand)
+        requires { number_at self.old node ≡ Some stand.number }
+        ensures { SetsStand self.old self.new node stand }
+    {
+        self.nodes[node.key()].stand = stand;
+    }
+
+    /// Takes a node out of its queue and of its number's list.
+    pub fn remove(&mut self, node: NodeId) -> Stand
+        requires { HasNode self.old node }
+        ensures stand { stand self.old node ≡ Some result }
+        ensures removes { Removes self.old self.new node }
+    {
+        let key = node.key();
+        let place = self.nodes[key];
+        join(
+            &mut self.heads,
+            &mut self.nodes,
+            &place.queue,
+            place.queued.prev,
+            place.queued.next,
+        );
+        unlink_owned(
+            &mut self.owners,
+            &mut self.nodes,
+            place.stand.number,
+            place.owned.prev,
+            place.owned.next,
+        );
+        self.nodes.remove(key).stand
+    }
+
+    /// Takes a node out of its queue, to the front of a queue.
+    pub fn move_front(&mut self, node: NodeId, queue: Queue)
+        requires node { HasNode self.old node }
+        requires queue { has_record self.old queue.id ≡ true }
+        ensures { MovesFront self.old self.new node queue }
+    {
+        let key = node.key();
+        let place = self.nodes[key];
+        join(
+            &mut self.heads,
+            &mut self.nodes,
+            &place.queue,
+            place.queued.prev,
+            place.queued.next,
+        );
+        self.nodes[key].queue = queue;
+        let first = queued(&self.nodes, &self.heads, &queue, None).next;
+        link(&mut self.heads, &mut self.nodes, &queue, None, first, key);
+    }
+
+    /// Puts a stand at the front of a queue, and last into its number's list. After an error nothing has changed.
+    pub fn push_front(&mut self, queue: Queue, stand: Stand) -> Result<NodeId, AllocError>
+        requires { has_record self.old queue.id ≡ true }
+        ensures fresh { IfOk result (λ node. stand_at self.old node ≡ None) }
+        ensures pushes { IfOk result (λ node. PushesFront self.old self.new node queue stand) }
+        ensures err { OnErr result (self.new ≡ self.old) }
+    {
+        self.put_after(&queue, None, stand)
+    }
+
+    /// Puts a stand right behind a node in its queue, and last into its number's list. After an error nothing has
+    /// changed.
+    pub fn insert_after(&mut self, node: NodeId, stand: Stand) -> Result<NodeId, AllocError>
+        requires { HasNode self.old node }
+        ensures fresh { IfOk result (λ new. stand_at self.old new ≡ None) }
+        ensures inserts { IfOk result (λ new. InsertsAfter self.old self.new node new stand) }
+        ensures err { OnErr result (self.new ≡ self.old) }
+    {
+        let queue = self.queue_of(node);
+        self.put_after(&queue, Some(node.key()), stand)
+    }
+
+    /// Puts a stand behind a place of a queue, where `None` is before the first. All memory is taken before the first
+    /// change.
+    fn put_after(
+        &mut self,
+        queue: &Queue,
+        at: Option<usize>,
+        stand: Stand,
+    ) -> Result<NodeId, AllocError>
+        requires record { has_record self.old queue.now.id ≡ true }
+        requires at { is_in (queue_of self.old queue.now) at ≡ true }
+        ensures fresh { IfOk result (λ node. stand_at self.old node ≡ None) }
+        ensures puts { IfOk result (λ node. PutsAfter self.old self.new queue.now at node stand) }
+        ensures err { OnErr result (self.new ≡ self.old) }
+    {
+        self.nodes.reserve(1)?;
+        let number = stand.number;
+        let last = open_owner(&mut self.owners, number)?;
+        let key = self.nodes.insert_reserved(Node::new(queue, stand));
+        let next = queued(&self.nodes, &self.heads, queue, at).next;
+        link(&mut self.heads, &mut self.nodes, queue, at, next, key);
+        link(&mut self.owners, &mut self.nodes, &number, last, None, key);
+        Ok(NodeId::new(key))
+    }
+}

@@ -1,0 +1,406 @@
+ghost use Rattle.std.specs.Prelude.{◌≡◌, ◌<◌, ◌↔◌, IsTrue, true};
+ghost use Rattle.lt_links.specs.Maps.{HasNode, has_record as is_record};
+
+use super::*;
+use crate::QueueKind;
+use lt_ids::{Timestamp, TxnId};
+use std::process::Abort;
+use std::test::Fail;
+
+fn has_node(links: &Links, node: NodeId) -> bool
+    ensures { IsTrue result ↔ HasNode links.now node }
+{
+    links.nodes.contains(node.key())
+}
+
+fn has_record(links: &Links, id: RecordId) -> bool
+    ensures { IsTrue result ↔ (is_record links.now id ≡ true) }
+{
+    links.heads.contains(id.key())
+}
+
+fn stand_of(rt: &impl Abort, number: u64, wait: u32) -> Stand {
+    Stand {
+        number,
+        txn: TxnId::new(7).expect(rt, "a transaction"),
+        ts: Timestamp {
+            wall: number,
+            logical: 0,
+        },
+        pass: 1,
+        wait,
+        active: true,
+    }
+}
+
+/// Asks that these nodes are in the queue, in this order, by way of `next` and of `prev`.
+fn expect_queue(rt: &impl Abort, links: &Links, queue: &Queue, nodes: &[NodeId]) {
+    assert!(rt; has_record(links, queue.id));
+    let mut at = links.first(*queue);
+    for node in nodes {
+        assert_eq!(rt; at, Some(*node));
+        assert!(rt; has_node(links, *node));
+        assert_eq!(rt; links.queue_of(*node), *queue);
+        at = links.next(*node);
+    }
+    assert_eq!(rt; at, None);
+    let mut at = links.last(*queue);
+    for node in nodes.iter().rev() {
+        assert_eq!(rt; at, Some(*node));
+        assert!(rt; has_node(links, *node));
+        at = links.prev(*node);
+    }
+    assert_eq!(rt; at, None);
+}
+
+/// Asks that these nodes are in the number's list, in this order.
+fn expect_owned(rt: &impl Abort, links: &Links, number: u64, nodes: &[NodeId]) {
+    let mut at = links.owner_first(number);
+    for node in nodes {
+        assert_eq!(rt; at, Some(*node));
+        assert!(rt; has_node(links, *node));
+        assert_eq!(rt; links.stand(*node).number, number);
+        at = links.owner_next(*node);
+    }
+    assert_eq!(rt; at, None);
+}
+
+#[test]
+fn nodes_are_found_from_both_ends_and_by_their_number(rt: HostRuntime) -> Result<(), Fail> {
+    let mut links = Links::new(rt.alloc());
+    let id = links.add_record()?;
+    let writers = Queue {
+        id,
+        kind: QueueKind::Writers,
+    };
+    let reservation = Queue {
+        id,
+        kind: QueueKind::Reservation,
+    };
+    let n1 = links.push_front(writers, stand_of(&rt, 5, 1))?;
+    assert!(rt; has_node(&links, n1));
+    let n2 = links.insert_after(n1, stand_of(&rt, 9, 1))?;
+    assert!(rt; has_record(&links, id));
+    let n3 = links.push_front(writers, stand_of(&rt, 2, 1))?;
+    expect_queue(&rt, &links, &writers, &[n3, n1, n2]);
+
+    assert!(rt; has_node(&links, n1) && has_record(&links, id));
+    links.move_front(n1, reservation);
+    expect_queue(&rt, &links, &writers, &[n3, n2]);
+    expect_queue(&rt, &links, &reservation, &[n1]);
+    expect_owned(&rt, &links, 5, &[n1]);
+
+    assert!(rt; has_node(&links, n1));
+    assert_eq!(rt; links.remove(n1), stand_of(&rt, 5, 1));
+    expect_queue(&rt, &links, &writers, &[n3, n2]);
+    expect_queue(&rt, &links, &reservation, &[]);
+    expect_owned(&rt, &links, 5, &[]);
+    Ok(())
+}
+
+/// What the links are to be: three plain maps. A queue's key is that of its record and the place of its kind.
+#[derive(Drop)]
+struct Plain {
+    alloc: Global,
+    queues: BTreeMap<(usize, usize), Vec<NodeId>>,
+    numbers: BTreeMap<u64, Vec<NodeId>>,
+    stands: BTreeMap<usize, Stand>,
+}
+
+fn kind_of(place: usize) -> QueueKind {
+    match place {
+        0 => QueueKind::Writers,
+        1 => QueueKind::Readers,
+        _ => QueueKind::Reservation,
+    }
+}
+
+fn key_of(queue: &Queue) -> (usize, usize) {
+    match queue.kind {
+        QueueKind::Writers => (queue.id.key(), 0),
+        QueueKind::Readers => (queue.id.key(), 1),
+        QueueKind::Reservation => (queue.id.key(), 2),
+    }
+}
+
+fn without(alloc: Global, list: &[NodeId], node: NodeId) -> Result<Vec<NodeId>, AllocError> {
+    let mut left = Vec::new(alloc);
+    for other in list {
+        if *other != node {
+            left.push(*other)?;
+        }
+    }
+    Ok(left)
+}
+
+fn with_behind(
+    alloc: Global,
+    list: &[NodeId],
+    at: Option<NodeId>,
+    node: NodeId,
+) -> Result<Vec<NodeId>, AllocError> {
+    let mut more = Vec::new(alloc);
+    if at.is_none() {
+        more.push(node)?;
+    }
+    for other in list {
+        more.push(*other)?;
+        if at == Some(*other) {
+            more.push(node)?;
+        }
+    }
+    Ok(more)
+}
+
+impl Plain {
+    fn new(alloc: Global) -> Self {
+        Plain {
+            alloc,
+            queues: BTreeMap::new(alloc),
+            numbers: BTreeMap::new(alloc),
+            stands: BTreeMap::new(alloc),
+        }
+    }
+
+    fn queue(&self, queue: &Queue) -> &[NodeId] {
+        match self.queues.get(&key_of(queue)) {
+            None => &[],
+            Some(list) => list,
+        }
+    }
+
+    fn owned(&self, number: u64) -> &[NodeId] {
+        match self.numbers.get(&number) {
+            None => &[],
+            Some(list) => list,
+        }
+    }
+
+    fn put(
+        &mut self,
+        queue: &Queue,
+        at: Option<NodeId>,
+        node: NodeId,
+        stand: &Stand,
+    ) -> Result<(), AllocError> {
+        let queued = with_behind(self.alloc, self.queue(queue), at, node)?;
+        self.queues.insert(key_of(queue), queued)?;
+        let mut owned = without(self.alloc, self.owned(stand.number), node)?;
+        owned.push(node)?;
+        self.numbers.insert(stand.number, owned)?;
+        self.stands.insert(node.key(), *stand)?;
+        Ok(())
+    }
+
+    fn leave(&mut self, queue: &Queue, node: NodeId) -> Result<(), AllocError> {
+        let left = without(self.alloc, self.queue(queue), node)?;
+        self.queues.insert(key_of(queue), left)?;
+        Ok(())
+    }
+
+    fn remove(&mut self, queue: &Queue, node: NodeId) -> Result<Option<Stand>, AllocError> {
+        self.leave(queue, node)?;
+        let stand = self.stands.remove(&node.key());
+        if let Some(gone) = &stand {
+            let left = without(self.alloc, self.owned(gone.number), node)?;
+            self.numbers.insert(gone.number, left)?;
+        }
+        Ok(stand)
+    }
+
+    fn move_front(&mut self, from: &Queue, node: NodeId, to: &Queue) -> Result<(), AllocError> {
+        self.leave(from, node)?;
+        let queued = with_behind(self.alloc, self.queue(to), None, node)?;
+        self.queues.insert(key_of(to), queued)?;
+        Ok(())
+    }
+
+    /// Asks that the links are these maps.
+    fn expect(&self, rt: &impl Abort, links: &Links, records: &[RecordId]) {
+        for id in records {
+            for place in 0..3 {
+                let queue = Queue {
+                    id: *id,
+                    kind: kind_of(place),
+                };
+                expect_queue(rt, links, &queue, self.queue(&queue));
+            }
+        }
+        for number in 0..NUMBERS {
+            expect_owned(rt, links, number, self.owned(number));
+        }
+        for (key, stand) in self.stands.iter() {
+            let node = NodeId::new(*key);
+            assert!(rt; has_node(links, node));
+            assert_eq!(rt; links.stand(node), *stand);
+        }
+    }
+}
+
+const NUMBERS: u64 = 5;
+
+/// A linear congruential generator.
+#[derive(Drop)]
+struct Random {
+    state: u64,
+}
+
+impl Random {
+    fn below(&mut self, bound: u64) -> u64
+        requires { 0 < bound }
+        ensures { result < bound }
+    {
+        self.state = self
+            .state
+            .wrapping_mul(6364136223846793005)
+            .wrapping_add(1442695040888963407);
+        (self.state >> 33) % bound
+    }
+}
+
+#[test]
+fn random_calls_do_what_three_plain_maps_do(rt: HostRuntime) -> Result<(), Fail> {
+    let alloc = rt.alloc();
+    let mut links = Links::new(alloc);
+    let mut plain = Plain::new(alloc);
+    let first = links.add_record()?;
+    let second = links.add_record()?;
+    let mut nodes: Vec<NodeId> = Vec::new(alloc);
+    let mut random = Random { state: 1 };
+    for turn in 0..600 {
+        let id = if random.below(2) == 0 { first } else { second };
+        let to = Queue {
+            id,
+            kind: kind_of(random.below(3) as usize),
+        };
+        let stand = stand_of(&rt, random.below(NUMBERS), turn);
+        assert!(rt; has_record(&links, id));
+        if nodes.is_empty() || random.below(4) == 0 {
+            let node = links.push_front(to, stand)?;
+            plain.put(&to, None, node, &stand)?;
+            nodes.push(node)?;
+        } else {
+            let place = random.below(nodes.len() as u64) as usize;
+            let node = nodes[place];
+            assert!(rt; has_node(&links, node));
+            let from = links.queue_of(node);
+            match random.below(6) {
+                0 => {
+                    let new = links.insert_after(node, stand)?;
+                    plain.put(&from, Some(node), new, &stand)?;
+                    nodes.push(new)?;
+                }
+                1 => {
+                    links.move_front(node, to);
+                    plain.move_front(&from, node, &to)?;
+                }
+                2 => {
+                    let mut other = links.stand(node);
+                    other.wait = turn;
+                    other.active = false;
+                    links.set_stand(node, other);
+                    plain.stands.insert(node.key(), other)?;
+                }
+                _ => {
+                    let gone = links.remove(node);
+                    assert_eq!(rt; plain.remove(&from, node)?, Some(gone));
+                    nodes.swap_remove(place);
+                }
+            }
+        }
+        plain.expect(&rt, &links, &[first, second]);
+    }
+    Ok(())
+}
+
+/// Who stands in a queue and who is the first of each number, in an array, so that looking takes no memory.
+fn seen(rt: &impl Abort, links: &Links, queue: &Queue) -> [usize; 48] {
+    let mut seen = [usize::MAX; 48];
+    assert!(rt; has_record(links, queue.id));
+    let mut at = links.first(*queue);
+    for place in 0..16 {
+        if let Some(node) = at {
+            assert!(rt; has_node(links, node));
+            seen[place] = node.key();
+            seen[place + 16] = links.stand(node).wait as usize;
+            at = links.next(node);
+        }
+        if let Some(node) = links.owner_first(place as u64) {
+            seen[place + 32] = node.key();
+        }
+    }
+    seen
+}
+
+/// Puts a stand into a queue, behind a node or at the front. Where memory is refused, nothing has changed, and the
+/// call is made again.
+fn put(
+    rt: &impl Abort,
+    links: &mut Links,
+    queue: &Queue,
+    at: Option<NodeId>,
+    stand: &Stand,
+) -> Result<NodeId, AllocError> {
+    let before = seen(rt, links, queue);
+    for _ in 0..2 {
+        assert!(rt; has_record(links, queue.id));
+        let put = match at {
+            None => links.push_front(*queue, *stand),
+            Some(node) => {
+                assert!(rt; has_node(links, node));
+                links.insert_after(node, *stand)
+            }
+        };
+        if put.is_ok() {
+            return put;
+        }
+        assert_eq!(rt; seen(rt, links, queue), before);
+    }
+    Err(AllocError)
+}
+
+/// Adds a record. Where memory is refused, nothing has changed, and the call is made again.
+fn add_record(rt: &impl Abort, links: &mut Links, known: &[Queue]) -> Result<RecordId, AllocError> {
+    for _ in 0..2 {
+        let records = links.heads.len();
+        let before = match known.first() {
+            None => [0; 48],
+            Some(queue) => seen(rt, links, queue),
+        };
+        let added = links.add_record();
+        if added.is_ok() {
+            return added;
+        }
+        assert_eq!(rt; links.heads.len(), records);
+        if let Some(queue) = known.first() {
+            assert_eq!(rt; seen(rt, links, queue), before);
+        }
+    }
+    Err(AllocError)
+}
+
+// Beside the calls of the links nothing here takes memory. So whichever one allocation is refused, as by
+// `rt try --test --fail-alloc N`, this test sees a call refused, made again, and answered as in the other links.
+#[test]
+fn after_refused_memory_the_same_call_answers_as_ever(rt: HostRuntime) -> Result<(), Fail> {
+    let mut one = Links::new(rt.alloc());
+    let mut other = Links::new(rt.alloc());
+    let id = add_record(&rt, &mut one, &[])?;
+    assert_eq!(rt; add_record(&rt, &mut other, &[])?, id);
+    let queue = Queue {
+        id,
+        kind: QueueKind::Readers,
+    };
+    let mut last = None;
+    for turn in 0..14 {
+        let behind = if turn % 3 == 0 { None } else { last };
+        let stand = stand_of(&rt, turn, turn as u32);
+        let node = put(&rt, &mut one, &queue, behind, &stand)?;
+        assert_eq!(rt; put(&rt, &mut other, &queue, behind, &stand)?, node);
+        last = Some(node);
+        let more = add_record(&rt, &mut one, &[queue])?;
+        assert_eq!(rt; add_record(&rt, &mut other, &[queue])?, more);
+        assert_eq!(rt; seen(&rt, &one, &queue), seen(&rt, &other, &queue));
+    }
+    Ok(())
+}
