@@ -12,7 +12,7 @@ use Rattle.lt_links.specs.declared.stand.Stand.{Stand}
 use Rattle.lt_links.specs.declared.ids.Queue.{Queue}
 use Rattle.lt_links.specs.Ring.{has, is_in, put_after}
 use Rattle.lt_links.specs.declared.node.Joint.{Joint}
-use Rattle.lt_links.specs.Cells.{Joints, no_joint, queued_of, owned_of, unqueued, unowned, next_of, prev_of, queued_at, owned_at, Owners, ends_of, JoinsIn, IsFamily, LinksQueued, PushesOwner, FollowsLast, ends_with, HasQueued, HasOwned}
+use Rattle.lt_links.specs.Cells.{Joints, no_joint, queued_of, owned_of, unqueued, unowned, next_of, prev_of, queued_at, owned_at, Owners, ends_of, JoinsIn, IsFamily, LinksQueued, PushesOwner, FollowsLast, ends_with, HasQueued}
 use Rattle.lt_links.specs.Maps.{PutsAfter, is_queue}
 use Rattle.lt_links.specs.View.{maps_of, walk, queue_of, number_of, stand_of, Links}
 use Rattle.lt_links.proofs.Rings.{same_or_apart, is_itself, prev_in, next_in, forth, put_after_last}

@@ -1,4 +1,4 @@
-use Rattle.std.proofs.Common.{◌≡◌, true, Some, None, ◌∙◌, sym, ap, refl, subst}
+use Rattle.std.proofs.Common.{◌≡◌, true, Some, ◌∙◌, sym, ap, refl, subst}
 use Rattle.slab.specs.Slab.{get, Updates}
 use Rattle.lt_links.specs.Maps.{Maps, PutsAfter, has_record}
 use Rattle.lt_links.specs.View.{maps_of, stand_of}
