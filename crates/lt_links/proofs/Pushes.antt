@@ -18,7 +18,7 @@ use Rattle.lt_links.specs.View.{maps_of, walk, queue_of, number_of, stand_of, Li
 use Rattle.lt_links.proofs.Rings.{same_or_apart, is_itself, prev_in, next_in, forth, put_after_last}
 use Rattle.lt_links.proofs.Joints.{same_queue, IsFamily-put_after, IsFamily-kept}
 use Rattle.lt_links.proofs.Views.{has_queue, has_number}
-use Rattle.lt_links.proofs.Steps.{Are-links, none≢some, over, under, same_number, is_same, is_other}
+use Rattle.lt_links.proofs.Steps.{queue_of-unqueued, queue_of-unowned, number_of-unqueued, number_of-unowned, stand_of-unqueued, stand_of-unowned, queued_of-unowned, owned_of-unqueued, is_some-unqueued, Are-links, none≢some, over, under, same_number, is_same, is_other}
 
 -- The links are a matter of the slots alone.
 pub Links-slots : (nodes nodes' : Slab Node) (heads : Slab Heads) (owners : Owners) (queues : Queue → List ℕ) (numbers : ℕ → List ℕ) → nodes'.slots ≡ nodes.slots → Links nodes heads owners queues numbers → Links nodes' heads owners queues numbers
@@ -60,20 +60,12 @@ module _ (nodes nodes1 : Slab Node) (heads : Slab Heads) (owners : Owners) (queu
     linked_same f through m =
         over (get nodes1 m) (get nodes2 m) (one.keeps.nodes_kept m) f through
 
-    owned_through : (x : Option Node) → owned_of (unqueued x) ≡ owned_of x
-    owned_through None = refl
-    owned_through (Some d) = refl
-
-    some_through : (x : Option Node) → is_some (unqueued x) ≡ is_some x
-    some_through None = refl
-    some_through (Some d) = refl
-
     in_queue : IsFamily (owned_at nodes2 owners) (λ m. number_of (get nodes m)) numbers
     in_queue = IsFamily-kept same_number (owned_at nodes owners) (owned_at nodes2 owners) (λ m. number_of (get nodes m)) (λ m. number_of (get nodes m)) numbers links.numbers_linked kept (λ m. refl)
       where
         kept : (k : ℕ) (a : Option ℕ) → is_in (numbers k) a ≡ true → owned_at nodes2 owners k a ≡ owned_at nodes owners k a
         kept k None h = refl
-        kept k (Some m) h = linked_same owned_of owned_through m ∙ ap owned_of (put.others m (owned_off k m h))
+        kept k (Some m) h = linked_same owned_of owned_of-unqueued m ∙ ap owned_of (put.others m (owned_off k m h))
 
     last_in : is_in (numbers s.number) last ≡ true
     last_in = ap (is_in (numbers s.number)) opens.last_is ∙ prev_in _ _ _ (in_queue.rings s.number) None refl
@@ -81,10 +73,10 @@ module _ (nodes nodes1 : Slab Node) (heads : Slab Heads) (owners : Owners) (queu
     pub last_there : (l : ℕ) → last ≡ Some l → is_some (get nodes2 l) ≡ true
     last_there l e =
         let h : has l (numbers s.number) ≡ true = ap (is_in (numbers s.number)) (sym e) ∙ last_in in
-        linked_same is_some some_through l ∙ ap is_some (put.others l (owned_off s.number l h)) ∙ has_number nodes heads owners queues numbers links l s.number (links.numbers_linked.homes s.number l h)
+        linked_same is_some is_some-unqueued l ∙ ap is_some (put.others l (owned_off s.number l h)) ∙ has_number nodes heads owners queues numbers links l s.number (links.numbers_linked.homes s.number l h)
 
     pub node_in : is_some (get nodes2 n) ≡ true
-    node_in = linked_same is_some some_through n ∙ ap is_some put.changed
+    node_in = linked_same is_some is_some-unqueued n ∙ ap is_some put.changed
 
     -- nothing follows the last, and the node is another
     last_next : (owned_at nodes2 owners s.number last).next ≡ None
@@ -115,34 +107,6 @@ module _ (nodes nodes1 : Slab Node) (heads : Slab Heads) (owners : Owners) (queu
 
       pushed_here : {X : Type 0} (f : Option Node → X) → ((x : Option Node) → f (unqueued x) ≡ f x) → ((x : Option Node) → f (unowned x) ≡ f x) → f (get nodes3 n) ≡ f (Some (new_node s to))
       pushed_here f through through' = owned_same f through' n ∙ linked_same f through n ∙ ap f put.changed
-
-      q1 : (x : Option Node) → queue_of (unqueued x) ≡ queue_of x
-      q1 None = refl
-      q1 (Some d) = refl
-
-      q2 : (x : Option Node) → queue_of (unowned x) ≡ queue_of x
-      q2 None = refl
-      q2 (Some d) = refl
-
-      n1 : (x : Option Node) → number_of (unqueued x) ≡ number_of x
-      n1 None = refl
-      n1 (Some d) = refl
-
-      n2 : (x : Option Node) → number_of (unowned x) ≡ number_of x
-      n2 None = refl
-      n2 (Some d) = refl
-
-      s1 : (x : Option Node) → stand_of (unqueued x) ≡ stand_of x
-      s1 None = refl
-      s1 (Some d) = refl
-
-      s2 : (x : Option Node) → stand_of (unowned x) ≡ stand_of x
-      s2 None = refl
-      s2 (Some d) = refl
-
-      queued_through : (x : Option Node) → queued_of (unowned x) ≡ queued_of x
-      queued_through None = refl
-      queued_through (Some d) = refl
 
       abbrev pub pushed_queues : Queue → List ℕ
       pushed_queues q = cond (is_queue q to) (put_after a n (queues q)) (queues q)
@@ -192,7 +156,7 @@ module _ (nodes nodes1 : Slab Node) (heads : Slab Heads) (owners : Owners) (queu
       second : JoinsIn between (owned_at nodes3 owners1) s.number (Some n) (owned_at nodes2 owners s.number last).next
       second = subst (JoinsIn between (owned_at nodes3 owners1) s.number (Some n)) (sym last_next) (record {
         here = record {
-          next_here = two.next_else n last_other ∙ ap (λ j. j.next) (linked_same owned_of owned_through n ∙ ap owned_of put.changed);
+          next_here = two.next_else n last_other ∙ ap (λ j. j.next) (linked_same owned_of owned_of-unqueued n ∙ ap owned_of put.changed);
           next_else = λ b off. next_same b;
           prev_here = ap (λ j. j.prev) new_ends ∙ ends_prev last (owned_at nodes2 owners s.number None);
           prev_else = λ b off. prev_same b off;
@@ -217,30 +181,30 @@ module _ (nodes nodes1 : Slab Node) (heads : Slab Heads) (owners : Owners) (queu
           record {
             queues_linked = IsFamily-kept same_queue (queued_at nodes2 heads2) (queued_at nodes3 heads2) (λ m. queue_of (get nodes3 m)) (λ m. queue_of (get nodes3 m)) pushed_queues
                 (IsFamily-put_after same_queue (queued_at nodes1 heads) (queued_at one.mid_nodes one.mid_ends) (queued_at nodes2 heads2) (λ m. queue_of (get nodes m)) (λ m. queue_of (get nodes3 m)) queues pushed_queues to a n
-                in_slab a_in (ap queue_of vacant) one.first (subst (JoinsIn (queued_at one.mid_nodes one.mid_ends) (queued_at nodes2 heads2) to (Some n)) next_is one.second) (pushed_here queue_of q1 q2) (pushed_same queue_of q1 q2) (rw (is_same to) refl) (λ q off. rw (is_other q to off) refl))
+                in_slab a_in (ap queue_of vacant) one.first (subst (JoinsIn (queued_at one.mid_nodes one.mid_ends) (queued_at nodes2 heads2) to (Some n)) next_is one.second) (pushed_here queue_of queue_of-unqueued queue_of-unowned) (pushed_same queue_of queue_of-unqueued queue_of-unowned) (rw (is_same to) refl) (λ q off. rw (is_other q to off) refl))
                 kept (λ m. refl);
             numbers_linked = IsFamily-put_after same_number (owned_at nodes2 owners) between (owned_at nodes3 owners1) (λ m. number_of (get nodes m)) (λ m. number_of (get nodes3 m)) numbers pushed_numbers s.number last n
-                in_queue last_in (ap number_of vacant) first second (pushed_here number_of n1 n2) (pushed_same number_of n1 n2)
+                in_queue last_in (ap number_of vacant) first second (pushed_here number_of number_of-unqueued number_of-unowned) (pushed_same number_of number_of-unqueued number_of-unowned)
                 (rw (is_itself s.number, opens.last_is) (sym (put_after_last (next_of (owned_at nodes2 owners) s.number) (prev_of (owned_at nodes2 owners) s.number) (numbers s.number) n (in_queue.rings s.number))))
                 (λ k off. elim (same_or_apart k s.number) [ inl e ↦ absurd (off e.0) | inr o ↦ rw o.1 refl ]);
             heads_there = λ m q h. heads_same q.id ∙ elim (same_or_apart m n) [
               | inl e ↦
-                  let same : Some to ≡ Some q = sym (pushed_here queue_of q1 q2) ∙ ap (λ i. queue_of (get nodes3 i)) (sym e.0) ∙ h in
+                  let same : Some to ≡ Some q = sym (pushed_here queue_of queue_of-unqueued queue_of-unowned) ∙ ap (λ i. queue_of (get nodes3 i)) (sym e.0) ∙ h in
                   queue_there q (cc)
-              | inr o ↦ links.heads_there m q (sym (pushed_same queue_of q1 q2 m o.0) ∙ h)
+              | inr o ↦ links.heads_there m q (sym (pushed_same queue_of queue_of-unqueued queue_of-unowned m o.0) ∙ h)
             ];
             owners_there = λ m k h. elim (same_or_apart m n) [
               | inl e ↦
-                  let same : Some s.number ≡ Some k = sym (pushed_here number_of n1 n2) ∙ ap (λ i. number_of (get nodes3 i)) (sym e.0) ∙ h in
+                  let same : Some s.number ≡ Some k = sym (pushed_here number_of number_of-unqueued number_of-unowned) ∙ ap (λ i. number_of (get nodes3 i)) (sym e.0) ∙ h in
                   number_there k (cc)
-              | inr o ↦ opened_too k (links.owners_there m k (sym (pushed_same number_of n1 n2 m o.0) ∙ h))
+              | inr o ↦ opened_too k (links.owners_there m k (sym (pushed_same number_of number_of-unqueued number_of-unowned m o.0) ∙ h))
             ];
             owners_needed = λ k h. needed k h;
           }
         where
           kept : (q : Queue) (a : Option ℕ) → is_in (pushed_queues q) a ≡ true → queued_at nodes3 heads2 q a ≡ queued_at nodes2 heads2 q a
           kept q None h = refl
-          kept q (Some m) h = owned_same queued_of queued_through m
+          kept q (Some m) h = owned_same queued_of queued_of-unowned m
 
           opened_too : (k : ℕ) → is_some (ends_of owners k) ≡ true → is_some (ends_of owners1 k) ≡ true
           opened_too k h = elim (same_or_apart k s.number) [
@@ -269,8 +233,8 @@ module _ (nodes nodes1 : Slab Node) (heads : Slab Heads) (owners : Owners) (queu
           Are-links nodes nodes3 heads heads2 owners owners1 queues pushed_queues numbers pushed_numbers
           (λ q l. cond (is_queue q to) (put_after a n l) l) (λ k l. cond (nat_eq k s.number) (l ++ n ∷ []) l) (λ m o. cond (nat_eq m n) (Some s) o) (λ id b. b) links Links-pushed (λ q. refl) (λ k. refl)
           (λ m. elim (same_or_apart m n) [
-            | inl e ↦ ap (λ i. stand_of (get nodes3 i)) e.0 ∙ pushed_here stand_of s1 s2 ∙ rw e.1 refl
-            | inr o ↦ rw o.1 (pushed_same stand_of s1 s2 m o.0)
+            | inl e ↦ ap (λ i. stand_of (get nodes3 i)) e.0 ∙ pushed_here stand_of stand_of-unqueued stand_of-unowned ∙ rw e.1 refl
+            | inr o ↦ rw o.1 (pushed_same stand_of stand_of-unqueued stand_of-unowned m o.0)
           ])
           heads_same
 

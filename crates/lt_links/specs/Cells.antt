@@ -132,9 +132,6 @@ pub record KeepsOwned (nodes : Slab Node) (owners : Owners) (nodes' : Slab Node)
   pub nodes_kept : (n : ℕ) → unowned (get nodes' n) ≡ unowned (get nodes n)
   pub owners_kept : (number : ℕ) → is_some (ends_of owners' number) ≡ is_some (ends_of owners number)
 
-abbrev pub JoinsOwned : Slab Node → Owners → Slab Node → Owners → ℕ → Option ℕ → Option ℕ → Type 0
-JoinsOwned = JoinsPlaces owned_at KeepsOwned
-
 -- the ends of a number's list with a node behind the last, where there is one
 abbrev pub ends_with : ℕ → Option ℕ → Joint → Joint
 ends_with n None ends = record { prev = Some n; next = Some n }
