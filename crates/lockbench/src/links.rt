@@ -1,5 +1,5 @@
-//! Times the calls of the linked queues. A batch of calls is timed at once, and each round undoes what it did, so
-//! that the queue keeps its length but for two batches.
+//! Times the calls of the linked queues. Each round makes a batch of each kind of call, timed at once, and leaves the
+//! queue as long as it was. The nodes are found at the ends of the queue, which takes constant time.
 ghost use Rattle.std.specs.Prelude.{◌≡◌, ◌<◌, true, OnOk};
 ghost use Rattle.lt_links.specs.Maps.{has_record};
 
@@ -9,154 +9,118 @@ use std::alloc::{AllocError, Global};
 use std::rt::Runtime;
 use std::time::{Duration, Instant};
 
-const BATCH: usize = 10;
-const ROUNDS: usize = 20000;
+const BATCH: u64 = 10;
 
-/// An inserted stand's number is this much above that of the node before it, and a pushed one's above its place.
-const INSERTED: u64 = 1 << 32;
-const PUSHED: u64 = 1 << 33;
+const ROUNDS: u64 = 20000;
 
 /// What each kind of call took in all rounds.
 #[derive(Drop)]
 struct Spent {
-    find: Duration,
-    push: Duration,
-    insert: Duration,
     shift: Duration,
+    insert: Duration,
+    push: Duration,
     remove: Duration,
 }
 
-/// Pushes a stand of each of the numbers.
-fn push(
-    links: &mut Links,
-    queue: &Queue,
-    stand: &Stand,
-    numbers: &[u64],
-) -> Result<(), AllocError>
-    requires { has_record links.old queue.now.id ≡ true }
-    ensures { OnOk result (has_record links.new queue.now.id ≡ true) }
-{
-    for number in numbers {
-        links.push_front(
-            *queue,
-            Stand {
-                number: *number,
-                ..*stand
-            },
-        )?;
-    }
-    Ok(())
+/// The same stand of another number.
+fn numbered(stand: &Stand, number: u64) -> Stand {
+    Stand { number, ..*stand }
 }
 
-/// Whether each of the numbers has a node.
-fn find(links: &Links, numbers: &[u64]) -> bool {
-    let mut found = true;
-    for number in numbers {
-        if links.owner_first(*number).is_none() {
-            found = false;
+/// Moves the last node to the front, so many times.
+fn shift(links: &mut Links, queue: &Queue, times: u64)
+    requires { has_record links.old queue.now.id ≡ true }
+    ensures { has_record links.new queue.now.id ≡ true }
+{
+    for _ in 0..times {
+        if let Some(last) = links.last(*queue) {
+            links.move_front(last, *queue);
         }
     }
-    found
 }
 
-/// Inserts a stand behind the first node of each of the numbers.
+/// Inserts stands behind the last node, so many, of the numbers from one on.
 fn insert(
     links: &mut Links,
     queue: &Queue,
     stand: &Stand,
-    numbers: &[u64],
+    from: u64,
+    times: u64,
 ) -> Result<(), AllocError>
     requires { has_record links.old queue.now.id ≡ true }
     ensures { OnOk result (has_record links.new queue.now.id ≡ true) }
 {
-    for number in numbers {
-        if let Some(node) = links.owner_first(*number) {
-            let number = number.wrapping_add(INSERTED);
-            links.insert_after(node, Stand { number, ..*stand })?;
+    for more in 0..times {
+        if let Some(last) = links.last(*queue) {
+            links.insert_after(last, numbered(stand, from.wrapping_add(more)))?;
         }
     }
     Ok(())
 }
 
-/// Moves the first node of each of the numbers to the front.
-fn shift(links: &mut Links, queue: &Queue, numbers: &[u64])
+/// Pushes stands to the front, so many, of the numbers from one on.
+fn push(
+    links: &mut Links,
+    queue: &Queue,
+    stand: &Stand,
+    from: u64,
+    times: u64,
+) -> Result<(), AllocError>
+    requires { has_record links.old queue.now.id ≡ true }
+    ensures { OnOk result (has_record links.new queue.now.id ≡ true) }
+{
+    for more in 0..times {
+        links.push_front(*queue, numbered(stand, from.wrapping_add(more)))?;
+    }
+    Ok(())
+}
+
+/// Removes the second node, so many times.
+fn remove(links: &mut Links, queue: &Queue, times: u64)
     requires { has_record links.old queue.now.id ≡ true }
     ensures { has_record links.new queue.now.id ≡ true }
 {
-    for number in numbers {
-        if let Some(node) = links.owner_first(*number) {
-            links.move_front(node, *queue);
+    for _ in 0..times {
+        if let Some(first) = links.first(*queue) {
+            if let Some(second) = links.next(first) {
+                links.remove(second);
+            }
         }
     }
 }
 
-/// Removes the first node of each of the numbers.
-fn remove(links: &mut Links, queue: &Queue, numbers: &[u64])
-    requires { has_record links.old queue.now.id ≡ true }
-    ensures { has_record links.new queue.now.id ≡ true }
-{
-    for number in numbers {
-        if let Some(node) = links.owner_first(*number) {
-            links.remove(node);
-        }
-    }
-}
-
-/// One round: each call of a batch is made with a node that is found by its number, and then undone.
+/// One round, with stands of the numbers from one on.
 fn round<R: Runtime>(
     rt: &R,
     links: &mut Links,
     queue: &Queue,
     stand: &Stand,
-    numbers: &[u64; BATCH],
+    from: u64,
     spent: &mut Spent,
 ) -> anyhow::Result<()>
     requires { has_record links.old queue.now.id ≡ true }
     ensures { OnOk result (has_record links.new queue.now.id ≡ true) }
 {
-    let mut pushed = [0; BATCH];
-    let mut inserted = [0; BATCH];
-    for place in 0..BATCH {
-        pushed[place] = PUSHED + place as u64;
-        inserted[place] = numbers[place].wrapping_add(INSERTED);
-    }
-
     let start = Instant::now(rt)?;
-    let found = find(links, numbers);
-    spent.find = spent.find.saturating_add(start.elapsed(rt)?);
-    if !found {
-        println!(rt; "a number was not found")?;
-    }
-
-    let start = Instant::now(rt)?;
-    push(links, queue, stand, &pushed)?;
-    spent.push = spent.push.saturating_add(start.elapsed(rt)?);
-
-    let start = Instant::now(rt)?;
-    insert(links, queue, stand, numbers)?;
-    spent.insert = spent.insert.saturating_add(start.elapsed(rt)?);
-
-    let start = Instant::now(rt)?;
-    shift(links, queue, numbers);
+    shift(links, queue, BATCH);
     spent.shift = spent.shift.saturating_add(start.elapsed(rt)?);
 
     let start = Instant::now(rt)?;
-    remove(links, queue, &inserted);
-    spent.remove = spent.remove.saturating_add(start.elapsed(rt)?);
+    insert(links, queue, stand, from, BATCH)?;
+    spent.insert = spent.insert.saturating_add(start.elapsed(rt)?);
 
-    remove(links, queue, &pushed);
+    let start = Instant::now(rt)?;
+    push(links, queue, stand, from.wrapping_add(BATCH), BATCH)?;
+    spent.push = spent.push.saturating_add(start.elapsed(rt)?);
+
+    let start = Instant::now(rt)?;
+    remove(links, queue, 2 * BATCH);
+    spent.remove = spent.remove.saturating_add(start.elapsed(rt)?);
     Ok(())
 }
 
-/// The nanoseconds of a call, less those of finding its node.
-fn each(spent: &Duration, find: &Duration) -> u128 {
-    spent.saturating_sub(*find).as_nanos() / (ROUNDS * BATCH) as u128
-}
-
 /// Times a queue of so many nodes, each of a number of its own.
-fn time<R: Runtime>(rt: &R, alloc: Global, size: u64) -> anyhow::Result<()>
-    requires { 0 < size }
-{
+fn time<R: Runtime>(rt: &R, alloc: Global, size: u64) -> anyhow::Result<()> {
     let Some(txn) = TxnId::new(1) else {
         return Ok(());
     };
@@ -176,39 +140,38 @@ fn time<R: Runtime>(rt: &R, alloc: Global, size: u64) -> anyhow::Result<()>
         id: links.add_record()?,
         kind: QueueKind::Writers,
     };
-    for number in 0..size {
-        links.push_front(queue, Stand { number, ..stand })?;
-    }
+    push(&mut links, &queue, &stand, 0, size)?;
     let mut spent = Spent {
-        find: Duration::ZERO,
-        push: Duration::ZERO,
-        insert: Duration::ZERO,
         shift: Duration::ZERO,
+        insert: Duration::ZERO,
+        push: Duration::ZERO,
         remove: Duration::ZERO,
     };
-    let mut state: u64 = 1;
+    let mut from = size;
     for _ in 0..ROUNDS {
-        let mut numbers = [0; BATCH];
-        for place in 0..BATCH {
-            state = state
-                .wrapping_mul(6364136223846793005)
-                .wrapping_add(1442695040888963407);
-            numbers[place] = (state >> 33) % size;
-        }
-        round(rt, &mut links, &queue, &stand, &numbers, &mut spent)?;
+        round(rt, &mut links, &queue, &stand, from, &mut spent)?;
+        from = from.wrapping_add(2 * BATCH);
     }
-    let find = each(&spent.find, &Duration::ZERO);
-    let push = each(&spent.push, &Duration::ZERO);
-    let insert = each(&spent.insert, &spent.find);
-    let shift = each(&spent.shift, &spent.find);
-    let remove = each(&spent.remove, &spent.find);
-    println!(rt; "{size} nodes: push_front {push}, insert_after {insert}, move_front {shift}, remove {remove}, owner_first {find}")?;
+    let push = each(&spent.push, BATCH);
+    let insert = each(&spent.insert, BATCH);
+    let shift = each(&spent.shift, BATCH);
+    let remove = each(&spent.remove, 2 * BATCH);
+    println!(rt;
+        "{size} nodes: push_front {push}, insert_after {insert}, move_front {shift}, remove {remove}"
+    )?;
     Ok(())
+}
+
+/// The nanoseconds of a call.
+fn each(spent: &Duration, calls: u64) -> u128
+    requires { 0 < calls }
+{
+    spent.as_nanos() / calls as u128 / ROUNDS as u128
 }
 
 /// Prints what the calls take.
 pub fn report<R: Runtime>(rt: &R, alloc: Global) -> anyhow::Result<()> {
-    println!(rt; "nanoseconds of a call, less those of finding its node by owner_first")?;
+    println!(rt; "nanoseconds of a call, where each node is of a number of its own")?;
     for size in [10, 1000, 100000] {
         time(rt, alloc, size)?;
     }

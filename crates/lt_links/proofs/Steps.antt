@@ -17,38 +17,63 @@ use Rattle.lt_links.proofs.Rings.{same_or_apart, is_itself, alone, not_alone, wi
 use Rattle.lt_links.proofs.Joints.{same_queue, same_parts, IsFamily-without, IsFamily-put_after, IsFamily-kept}
 use Rattle.lt_links.proofs.Views.{stand_is, record_is, queue_is, owned_is, has_queue, has_number}
 
+-- What is said of a node is true of it with its neighbours left out.
+pub owned_of-unqueued : (x : Option Node) → owned_of (unqueued x) ≡ owned_of x
+owned_of-unqueued None = refl
+owned_of-unqueued (Some d) = refl
+
+pub queue_of-unqueued : (x : Option Node) → queue_of (unqueued x) ≡ queue_of x
+queue_of-unqueued None = refl
+queue_of-unqueued (Some d) = refl
+
+pub number_of-unqueued : (x : Option Node) → number_of (unqueued x) ≡ number_of x
+number_of-unqueued None = refl
+number_of-unqueued (Some d) = refl
+
+pub stand_of-unqueued : (x : Option Node) → stand_of (unqueued x) ≡ stand_of x
+stand_of-unqueued None = refl
+stand_of-unqueued (Some d) = refl
+
+pub is_some-unqueued : (x : Option Node) → is_some (unqueued x) ≡ is_some x
+is_some-unqueued None = refl
+is_some-unqueued (Some d) = refl
+
+pub queued_of-unowned : (x : Option Node) → queued_of (unowned x) ≡ queued_of x
+queued_of-unowned None = refl
+queued_of-unowned (Some d) = refl
+
+pub queue_of-unowned : (x : Option Node) → queue_of (unowned x) ≡ queue_of x
+queue_of-unowned None = refl
+queue_of-unowned (Some d) = refl
+
+pub number_of-unowned : (x : Option Node) → number_of (unowned x) ≡ number_of x
+number_of-unowned None = refl
+number_of-unowned (Some d) = refl
+
+pub stand_of-unowned : (x : Option Node) → stand_of (unowned x) ≡ stand_of x
+stand_of-unowned None = refl
+stand_of-unowned (Some d) = refl
+
+pub is_some-unowned : (x : Option Node) → is_some (unowned x) ≡ is_some x
+is_some-unowned None = refl
+is_some-unowned (Some d) = refl
+
 -- what is not of a node's neighbours in its queue
 module _ (o o' : Option Node) (same : unqueued o' ≡ unqueued o) where
   pub over : {X : Type 0} (f : Option Node → X) → ((x : Option Node) → f (unqueued x) ≡ f x) → f o' ≡ f o
   over f through = sym (through o') ∙ ap f same ∙ through o
 
   pub q_owned : owned_of o' ≡ owned_of o
-  q_owned = over owned_of by_case
-    where
-      by_case : (x : Option Node) → owned_of (unqueued x) ≡ owned_of x
-      by_case None = refl
-      by_case (Some d) = refl
+  q_owned = over owned_of owned_of-unqueued
 
   pub q_queue : queue_of o' ≡ queue_of o
-  q_queue = over queue_of by_case
-    where
-      by_case : (x : Option Node) → queue_of (unqueued x) ≡ queue_of x
-      by_case None = refl
-      by_case (Some d) = refl
+  q_queue = over queue_of queue_of-unqueued
 
   pub q_number : number_of o' ≡ number_of o
-  q_number = over number_of by_case
-    where
-      by_case : (x : Option Node) → number_of (unqueued x) ≡ number_of x
-      by_case None = refl
-      by_case (Some d) = refl
+  q_number = over number_of number_of-unqueued
 
   pub q_stand : stand_of o' ≡ stand_of o
-  q_stand = over stand_of by_case
-    where
-      by_case : (x : Option Node) → stand_of (unqueued x) ≡ stand_of x
-      by_case None = refl
-      by_case (Some d) = refl
+  q_stand = over stand_of stand_of-unqueued
 
 -- what is not of a node's neighbours in its number's list
 module _ (o o' : Option Node) (same : unowned o' ≡ unowned o) where
@@ -56,32 +81,16 @@ module _ (o o' : Option Node) (same : unowned o' ≡ unowned o) where
   under f through = sym (through o') ∙ ap f same ∙ through o
 
   pub o_queued : queued_of o' ≡ queued_of o
-  o_queued = under queued_of by_case
-    where
-      by_case : (x : Option Node) → queued_of (unowned x) ≡ queued_of x
-      by_case None = refl
-      by_case (Some d) = refl
+  o_queued = under queued_of queued_of-unowned
 
   pub o_queue : queue_of o' ≡ queue_of o
-  o_queue = under queue_of by_case
-    where
-      by_case : (x : Option Node) → queue_of (unowned x) ≡ queue_of x
-      by_case None = refl
-      by_case (Some d) = refl
+  o_queue = under queue_of queue_of-unowned
 
   pub o_number : number_of o' ≡ number_of o
-  o_number = under number_of by_case
-    where
-      by_case : (x : Option Node) → number_of (unowned x) ≡ number_of x
-      by_case None = refl
-      by_case (Some d) = refl
+  o_number = under number_of number_of-unowned
 
   pub o_stand : stand_of o' ≡ stand_of o
-  o_stand = under stand_of by_case
-    where
-      by_case : (x : Option Node) → stand_of (unowned x) ≡ stand_of x
-      by_case None = refl
-      by_case (Some d) = refl
+  o_stand = under stand_of stand_of-unowned
 
 -- The three maps of new fields, where their lists and stands are known.
 pub Are-links : (nodes nodes' : Slab Node) (heads heads' : Slab Heads) (owners owners' : Owners) (queues queues' : Queue → List ℕ) (numbers numbers' : ℕ → List ℕ) (change : Queue → List ℕ → List ℕ) (change' : ℕ → List ℕ → List ℕ) (stands : ℕ → Option Stand → Option Stand) (records : ℕ → Bool → Bool) → Links nodes heads owners queues numbers → Links nodes' heads' owners' queues' numbers' → ((q : Queue) → queues' q ≡ change q (queues q)) → ((k : ℕ) → numbers' k ≡ change' k (numbers k)) → ((n : ℕ) → stand_of (get nodes' n) ≡ stands n (stand_of (get nodes n))) → ((id : ℕ) → is_some (get heads' id) ≡ records id (is_some (get heads id))) → Are (maps_of nodes' heads' owners') (λ q. change q (queue (maps_of nodes heads owners) q)) (λ k. change' k (owned (maps_of nodes heads owners) k)) (λ n. stands n (stand (maps_of nodes heads owners) n)) (λ id. records id (has_record (maps_of nodes heads owners) id))
@@ -230,11 +239,7 @@ module _ (nodes : Slab Node) (heads : Slab Heads) (owners : Owners) (queues : Qu
 -- a node that is there stays there when queues are joined
 pub HasOwned-queued : (nodes nodes' : Slab Node) (owners : Owners) (k : ℕ) (a : Option ℕ) → ((m : ℕ) → unqueued (get nodes' m) ≡ unqueued (get nodes m)) → HasOwned nodes owners k a → HasOwned nodes' owners k a
 HasOwned-queued nodes nodes' owners k None same h = h
-HasOwned-queued nodes nodes' owners k (Some m) same h = over (get nodes m) (get nodes' m) (same m) is_some by_case ∙ h
-  where
-    by_case : (x : Option Node) → is_some (unqueued x) ≡ is_some x
-    by_case None = refl
-    by_case (Some d) = refl
+HasOwned-queued nodes nodes' owners k (Some m) same h = over (get nodes m) (get nodes' m) (same m) is_some is_some-unqueued ∙ h
 
 pub node_is : (nodes : Slab Node) (heads : Slab Heads) (owners : Owners) (n : ℕ) → is_some (stand (maps_of nodes heads owners) n) ≡ is_some (get nodes n)
 node_is nodes heads owners n = ap is_some (stand_is nodes heads owners n) ∙ by_case (get nodes n)
@@ -352,28 +357,20 @@ module _ (nodes nodes1 nodes2 nodes3 : Slab Node) (heads heads1 heads3 : Slab He
             (λ m off. elim (same_or_apart m n) [ inl s ↦ absurd (off s.0) | inr o ↦ new_home m off ∙ rw o.1 refl ])
             (rw (is_same to) refl) (λ q off. rw (is_other q to off) refl);
         numbers_linked = IsFamily-kept same_number (owned_at nodes owners) (owned_at nodes3 owners) (λ m. number_of (get nodes m)) (λ m. number_of (get nodes3 m)) numbers links.numbers_linked
-            owned_same (moved_same number_of number_through refl);
+            owned_same (moved_same number_of number_of-unqueued refl);
         heads_there = λ m q h. heads_same q.id ∙ elim (same_or_apart m n) [
           | inl s ↦
               let e : Some to ≡ Some q = sym comes_home ∙ ap (λ i. queue_of (get nodes3 i)) (sym s.0) ∙ h in
               same_there q (cc)
           | inr o ↦ links.heads_there m q (sym (new_home m o.0) ∙ h)
         ];
-        owners_there = λ m k h. links.owners_there m k (sym (moved_same number_of number_through refl m) ∙ h);
+        owners_there = λ m k h. links.owners_there m k (sym (moved_same number_of number_of-unqueued refl m) ∙ h);
         owners_needed = links.owners_needed;
       }
     where
-      number_through : (x : Option Node) → number_of (unqueued x) ≡ number_of x
-      number_through None = refl
-      number_through (Some d) = refl
-
-      owned_through : (x : Option Node) → owned_of (unqueued x) ≡ owned_of x
-      owned_through None = refl
-      owned_through (Some d) = refl
-
       owned_same : (k : ℕ) (a : Option ℕ) → is_in (numbers k) a ≡ true → owned_at nodes3 owners k a ≡ owned_at nodes owners k a
       owned_same k None h = refl
-      owned_same k (Some m) h = moved_same owned_of owned_through refl m
+      owned_same k (Some m) h = moved_same owned_of owned_of-unqueued refl m
 
       same_there : (q : Queue) → to ≡ q → is_some (get heads q.id) ≡ true
       same_there q e = ap (λ (r : Queue). is_some (get heads r.id)) (sym e) ∙ there
@@ -382,8 +379,4 @@ module _ (nodes nodes1 nodes2 nodes3 : Slab Node) (heads heads1 heads3 : Slab He
   MovesFront-moved =
       Are-links nodes nodes3 heads heads3 owners owners queues moved_queues numbers numbers
       (λ q l. cond (is_queue q to) (n ∷ without n l) (without n l)) (λ k l. l) (λ m s. s) (λ id b. b) links Links-moved (λ q. refl) (λ k. refl)
-      (moved_same stand_of stand_through refl) heads_same
-    where
-      stand_through : (x : Option Node) → stand_of (unqueued x) ≡ stand_of x
-      stand_through None = refl
-      stand_through (Some d) = refl
+      (moved_same stand_of stand_of-unqueued refl) heads_same

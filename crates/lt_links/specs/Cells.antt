@@ -132,17 +132,24 @@ pub record KeepsOwned (nodes : Slab Node) (owners : Owners) (nodes' : Slab Node)
   pub nodes_kept : (n : ℕ) → unowned (get nodes' n) ≡ unowned (get nodes n)
   pub owners_kept : (number : ℕ) → is_some (ends_of owners' number) ≡ is_some (ends_of owners number)
 
-abbrev pub JoinsOwned : Slab Node → Owners → Slab Node → Owners → ℕ → Option ℕ → Option ℕ → Type 0
-JoinsOwned = JoinsPlaces owned_at KeepsOwned
+-- the ends of a number's list with a node behind the last, where there is one
+abbrev pub ends_with : ℕ → Option ℕ → Joint → Joint
+ends_with n None ends = record { prev = Some n; next = Some n }
+ends_with n (Some last) ends = record ends { prev = Some n }
 
-abbrev pub LinksOwned : Slab Node → Owners → Slab Node → Owners → ℕ → Option ℕ → Option ℕ → ℕ → Type 0
-LinksOwned = LinksNode owned_at KeepsOwned
+-- A node becomes the last of a number's list, which comes about if there is none. This is the last before it.
+pub record PushesOwner (owners owners' : Owners) (number : ℕ) (last : Option ℕ) (n : ℕ) : Type 0 where
+  pub last_is : last ≡ (unwrap_or (ends_of owners number) no_joint).prev
+  pub ends : ends_of owners' number ≡ Some (ends_with n last (unwrap_or (ends_of owners number) no_joint))
+  pub others : (k : ℕ) → k ≢ number → ends_of owners' k ≡ ends_of owners k
 
--- the number has a list, which is empty if it is new
-pub record OpensOwner (owners owners' : Owners) (number : ℕ) : Type 0 where
-  pub opened : is_some (ends_of owners' number) ≡ true
-  pub others : (k : ℕ) → k ≢ number → is_some (ends_of owners' k) ≡ is_some (ends_of owners k)
-  pub ends : (k : ℕ) → unwrap_or (ends_of owners' k) no_joint ≡ unwrap_or (ends_of owners k) no_joint
+-- a node and the last before it, if there is one, are made neighbours
+pub record FollowsLast (nodes nodes' : Slab Node) (last : Option ℕ) (n : ℕ) : Type 0 where
+  pub nodes_kept : (m : ℕ) → unowned (get nodes' m) ≡ unowned (get nodes m)
+  pub next_here : (l : ℕ) → last ≡ Some l → (owned_of (get nodes' l)).next ≡ Some n
+  pub next_else : (m : ℕ) → last ≢ Some m → (owned_of (get nodes' m)).next ≡ (owned_of (get nodes m)).next
+  pub prev_here : (owned_of (get nodes' n)).prev ≡ last
+  pub prev_else : (m : ℕ) → m ≢ n → (owned_of (get nodes' m)).prev ≡ (owned_of (get nodes m)).prev
 
 -- A node's neighbours in its number's list are joined. Where it has none, the number's list is gone.
 pub record UnlinksOwned (nodes : Slab Node) (owners : Owners) (nodes' : Slab Node) (owners' : Owners) (number : ℕ) (p s : Option ℕ) : Type 0 where

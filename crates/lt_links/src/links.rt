@@ -3,7 +3,7 @@ ghost use Rattle.std.specs.Prelude.{◌≡◌};
 
 use crate::ends::{join, link};
 use crate::node::{Heads, Joint, Node};
-use crate::owners::{open_owner, owner_ends, unlink_owned};
+use crate::owners::{follow_last, owner_ends, push_owner, unlink_owned};
 use crate::queues::queued;
 use crate::{NodeId, Queue, RecordId, Stand};
 use slab::Slab;
@@ -244,12 +244,12 @@ impl Links {
         ensures err { OnErr result (self.new ≡ self.old) }
     {
         self.nodes.reserve(1)?;
-        let number = stand.number;
-        let last = open_owner(&mut self.owners, number)?;
-        let key = self.nodes.insert_reserved(Node::new(queue, stand));
+        let key = self.nodes.vacant_key();
+        let last = push_owner(&mut self.owners, stand.number, key)?;
+        self.nodes.insert_reserved(Node::new(queue, stand));
         let next = queued(&self.nodes, &self.heads, queue, at).next;
         link(&mut self.heads, &mut self.nodes, queue, at, next, key);
-        link(&mut self.owners, &mut self.nodes, &number, last, None, key);
+        follow_last(&mut self.nodes, last, key);
         Ok(NodeId::new(key))
     }
 }

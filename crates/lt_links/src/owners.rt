@@ -1,6 +1,7 @@
 //! The lists of the numbers: the ends of the list of each number that has a node.
-ghost use Rattle.std.specs.Prelude.{◌≡◌, OnOk, OnErr, IfOk, unwrap_or};
-ghost use Rattle.lt_links.specs.Cells.{ends_of, no_joint, HasOwned, UnlinksOwned, OpensOwner};
+ghost use Rattle.std.specs.Prelude.{◌≡◌, OnErr, IfOk, unwrap_or, ℕ, Some, is_some, true};
+ghost use Rattle.slab.specs.Slab.{get};
+ghost use Rattle.lt_links.specs.Cells.{ends_of, no_joint, HasOwned, UnlinksOwned, PushesOwner, FollowsLast};
 
 use crate::ends::{Ends, join};
 use crate::node::{Joint, Node};
@@ -64,26 +65,41 @@ pub(crate) fn owner_ends(owners: &BTreeMap<u64, Joint>, number: u64) -> Joint
     }
 }
 
-/// Makes sure that a number has a list, and gives the last node of it.
-pub(crate) fn open_owner(
+/// Makes a node the last of a number's list, which comes about if there is none, and gives the last before it.
+pub(crate) fn push_owner(
     owners: &mut BTreeMap<u64, Joint>,
     number: u64,
+    node: usize,
 ) -> Result<Option<usize>, AllocError>
-    ensures ok { OnOk result (OpensOwner owners.old owners.new number) }
-    ensures last { IfOk result (λ last. last ≡ (unwrap_or (ends_of owners.old number) no_joint).prev) }
+    ensures ok { IfOk result (λ last. PushesOwner owners.old owners.new number last node) }
     ensures err { OnErr result (owners.new.entries ≡ owners.old.entries) }
 {
-    if let Some(ends) = owners.get(&number) {
-        return Ok(ends.prev);
+    if let Some(ends) = owners.get_mut(&number) {
+        if let Some(last) = ends.prev {
+            ends.prev = Some(node);
+            return Ok(Some(last));
+        }
     }
     owners.insert(
         number,
         Joint {
-            prev: None,
-            next: None,
+            prev: Some(node),
+            next: Some(node),
         },
     )?;
     Ok(None)
+}
+
+/// Makes a node the neighbour of the last before it, if there is one.
+pub(crate) fn follow_last(nodes: &mut Slab<Node>, last: Option<usize>, node: usize)
+    requires node { is_some (get nodes.old node) ≡ true }
+    requires last { (l : ℕ) → last ≡ Some l → is_some (get nodes.old l) ≡ true }
+    ensures { FollowsLast nodes.old nodes.new last node }
+{
+    nodes[node].owned.prev = last;
+    if let Some(before) = last {
+        nodes[before].owned.next = Some(node);
+    }
 }
 
 /// Takes a node out of a number's list, and drops the list with its last node.

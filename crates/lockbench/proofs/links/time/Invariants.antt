@@ -1,12 +1,6 @@
-use Rattle.std.proofs.Common.{◌≡◌, ◌<◌, true}
+use Rattle.std.proofs.Common.{◌≡◌, true}
 use Rattle.lt_links.specs.Maps.{has_record}
 use Rattle.lockbench.proofs.links.time.Given as goal
 
-abbrev pub invariant-loop-number : goal.invariant-loop-number
-invariant-loop-number g l = has_record l.links l.queue.id ≡ true
-
-abbrev pub invariant-loop-place : goal.invariant-loop-place
-invariant-loop-place g l = (has_record l.links l.queue.id ≡ true) × (0 < l.size)
-
 abbrev pub invariant-loop : goal.invariant-loop
-invariant-loop g l = (has_record l.links l.queue.id ≡ true) × (0 < l.size)
+invariant-loop g l = has_record l.links l.queue.id ≡ true

@@ -1,9 +1,9 @@
-use Rattle.std.proofs.Common.{◌≡◌, true, ◌∙◌, sym, ap, refl, subst}
-use Rattle.slab.specs.Slab.{get}
+use Rattle.std.proofs.Common.{◌≡◌, true, Some, ◌∙◌, sym, ap, refl, subst}
+use Rattle.slab.specs.Slab.{get, Updates}
 use Rattle.lt_links.specs.Maps.{Maps, PutsAfter, has_record}
 use Rattle.lt_links.specs.View.{maps_of, stand_of}
 use Rattle.lt_links.proofs.Views.{record_is, stand_is}
-use Rattle.lt_links.proofs.Pushes.{Links-slots, Links-unchanged, maps-unchanged, at_there, next_there, last_there, Links-pushed, PutsAfter-pushed}
+use Rattle.lt_links.proofs.Pushes.{Links-slots, Links-unchanged, maps-unchanged, at_there, next_there, last_there, node_in, new_node, Links-pushed, PutsAfter-pushed}
 use Rattle.std.proofs.Common.{List, Option, Result, Ok, Err}
 use Rattle.std.specs.Result.{OnErr}
 use Rattle.lt_links.specs.declared.node.Node.{Node}
@@ -31,21 +31,21 @@ invariant_of-self-in_err-last c =
     record {
       queues = inv.queues;
       numbers = inv.numbers;
-      links = Links-unchanged c.self.inside.nodes c.reserve.new.self c.self.inside.heads c.self.inside.owners c.open_owner.new.owners (ap (λ s. s.slots) c.reserve.ensures.rest_kept) c.in_err-last.ensures.err inv.queues inv.numbers inv.links;
+      links = Links-unchanged c.self.inside.nodes c.reserve.new.self c.self.inside.heads c.self.inside.owners c.push_owner.new.owners (ap (λ s. s.slots) c.reserve.ensures.rest_kept) c.in_err-last.ensures.err inv.queues inv.numbers inv.links;
     }
 
 pub returns-in_err-last-clause-err : goal.returns-in_err-last-clause-err
 returns-in_err-last-clause-err c =
-    on_err _ (maps-unchanged c.self.inside.nodes c.reserve.new.self c.self.inside.heads c.self.inside.owners c.open_owner.new.owners (ap (λ s. s.slots) c.reserve.ensures.rest_kept) c.in_err-last.ensures.err ∙ c.self.view_is)
+    on_err _ (maps-unchanged c.self.inside.nodes c.reserve.new.self c.self.inside.heads c.self.inside.owners c.push_owner.new.owners (ap (λ s. s.slots) c.reserve.ensures.rest_kept) c.in_err-last.ensures.err ∙ c.self.view_is)
 
 pub queued-next-requires : goal.queued-next-requires
 queued-next-requires c =
     let inv = c.self.invariant in
     let has : has_record c.args.self.now c.args.queue.now.id ≡ true = c.requires.record in
     let place : is_in (queue c.args.self.now c.args.queue.now) c.args.at ≡ true = c.requires.at in
-    at_there c.reserve.new.self c.insert_reserved-key.new.self c.self.inside.heads c.self.inside.owners inv.queues inv.numbers c.insert_reserved-key.result c.args.stand c.args.queue.now
+    at_there c.reserve.new.self c.insert_reserved.new.self c.self.inside.heads c.self.inside.owners inv.queues inv.numbers c.vacant_key-key.result c.args.stand c.args.queue.now
     (Links-slots c.self.inside.nodes c.reserve.new.self c.self.inside.heads c.self.inside.owners inv.queues inv.numbers (ap (λ s. s.slots) c.reserve.ensures.rest_kept) inv.links)
-    c.insert_reserved-key.ensures.was_vacant (rw c.new.ensures at c.insert_reserved-key.ensures.updates)
+    c.vacant_key-key.ensures.vacant (subst (λ k. Updates c.reserve.new.self c.insert_reserved.new.self k (Some (new_node c.args.stand c.args.queue.now))) (c.insert_reserved.ensures.key ∙ sym c.vacant_key-key.ensures.value) (rw c.new.ensures at c.insert_reserved.ensures.updates))
     (sym (record_is c.self.inside.nodes c.self.inside.heads c.self.inside.owners c.args.queue.now.id) ∙ (rw (← c.self.view_is) at has))
     c.args.at (sym (ap (λ l. is_in l c.args.at) (queue_is c.self.inside.nodes c.self.inside.heads c.self.inside.owners inv.queues inv.numbers inv.links c.args.queue.now)) ∙ (rw (← c.self.view_is) at place))
 
@@ -54,9 +54,9 @@ link-requires-clause-before c =
     let inv = c.self.invariant in
     let has : has_record c.args.self.now c.args.queue.now.id ≡ true = c.requires.record in
     let place : is_in (queue c.args.self.now c.args.queue.now) c.args.at ≡ true = c.requires.at in
-    at_there c.reserve.new.self c.insert_reserved-key.new.self c.self.inside.heads c.self.inside.owners inv.queues inv.numbers c.insert_reserved-key.result c.args.stand c.args.queue.now
+    at_there c.reserve.new.self c.insert_reserved.new.self c.self.inside.heads c.self.inside.owners inv.queues inv.numbers c.vacant_key-key.result c.args.stand c.args.queue.now
     (Links-slots c.self.inside.nodes c.reserve.new.self c.self.inside.heads c.self.inside.owners inv.queues inv.numbers (ap (λ s. s.slots) c.reserve.ensures.rest_kept) inv.links)
-    c.insert_reserved-key.ensures.was_vacant (rw c.new.ensures at c.insert_reserved-key.ensures.updates)
+    c.vacant_key-key.ensures.vacant (subst (λ k. Updates c.reserve.new.self c.insert_reserved.new.self k (Some (new_node c.args.stand c.args.queue.now))) (c.insert_reserved.ensures.key ∙ sym c.vacant_key-key.ensures.value) (rw c.new.ensures at c.insert_reserved.ensures.updates))
     (sym (record_is c.self.inside.nodes c.self.inside.heads c.self.inside.owners c.args.queue.now.id) ∙ (rw (← c.self.view_is) at has))
     c.args.at (sym (ap (λ l. is_in l c.args.at) (queue_is c.self.inside.nodes c.self.inside.heads c.self.inside.owners inv.queues inv.numbers inv.links c.args.queue.now)) ∙ (rw (← c.self.view_is) at place))
 
@@ -65,26 +65,35 @@ link-requires-clause-after c =
     let inv = c.self.invariant in
     let has : has_record c.args.self.now c.args.queue.now.id ≡ true = c.requires.record in
     let place : is_in (queue c.args.self.now c.args.queue.now) c.args.at ≡ true = c.requires.at in
-    rw c.queued-next.ensures (next_there c.reserve.new.self c.insert_reserved-key.new.self c.self.inside.heads c.self.inside.owners inv.queues inv.numbers c.insert_reserved-key.result c.args.stand c.args.queue.now
+    rw c.queued-next.ensures (next_there c.reserve.new.self c.insert_reserved.new.self c.self.inside.heads c.self.inside.owners inv.queues inv.numbers c.vacant_key-key.result c.args.stand c.args.queue.now
     (Links-slots c.self.inside.nodes c.reserve.new.self c.self.inside.heads c.self.inside.owners inv.queues inv.numbers (ap (λ s. s.slots) c.reserve.ensures.rest_kept) inv.links)
-    c.insert_reserved-key.ensures.was_vacant (rw c.new.ensures at c.insert_reserved-key.ensures.updates)
+    c.vacant_key-key.ensures.vacant (subst (λ k. Updates c.reserve.new.self c.insert_reserved.new.self k (Some (new_node c.args.stand c.args.queue.now))) (c.insert_reserved.ensures.key ∙ sym c.vacant_key-key.ensures.value) (rw c.new.ensures at c.insert_reserved.ensures.updates))
     (sym (record_is c.self.inside.nodes c.self.inside.heads c.self.inside.owners c.args.queue.now.id) ∙ (rw (← c.self.view_is) at has))
     c.args.at (sym (ap (λ l. is_in l c.args.at) (queue_is c.self.inside.nodes c.self.inside.heads c.self.inside.owners inv.queues inv.numbers inv.links c.args.queue.now)) ∙ (rw (← c.self.view_is) at place)))
 
-pub link-requires-2-clause-before : goal.link-requires-2-clause-before
-link-requires-2-clause-before c =
+pub follow_last-requires-clause-last : goal.follow_last-requires-clause-last
+follow_last-requires-clause-last c =
     let inv = c.self.invariant in
     let has : has_record c.args.self.now c.args.queue.now.id ≡ true = c.requires.record in
     let place : is_in (queue c.args.self.now c.args.queue.now) c.args.at ≡ true = c.requires.at in
-    last_there c.reserve.new.self c.insert_reserved-key.new.self c.self.inside.heads c.self.inside.owners inv.queues inv.numbers c.insert_reserved-key.result c.args.stand c.args.queue.now
+    last_there c.reserve.new.self c.insert_reserved.new.self c.self.inside.heads c.self.inside.owners inv.queues inv.numbers c.vacant_key-key.result c.args.stand c.args.queue.now
     (Links-slots c.self.inside.nodes c.reserve.new.self c.self.inside.heads c.self.inside.owners inv.queues inv.numbers (ap (λ s. s.slots) c.reserve.ensures.rest_kept) inv.links)
-    c.insert_reserved-key.ensures.was_vacant (rw c.new.ensures at c.insert_reserved-key.ensures.updates)
+    c.vacant_key-key.ensures.vacant (subst (λ k. Updates c.reserve.new.self c.insert_reserved.new.self k (Some (new_node c.args.stand c.args.queue.now))) (c.insert_reserved.ensures.key ∙ sym c.vacant_key-key.ensures.value) (rw c.new.ensures at c.insert_reserved.ensures.updates))
     (sym (record_is c.self.inside.nodes c.self.inside.heads c.self.inside.owners c.args.queue.now.id) ∙ (rw (← c.self.view_is) at has))
     c.args.at (sym (ap (λ l. is_in l c.args.at) (queue_is c.self.inside.nodes c.self.inside.heads c.self.inside.owners inv.queues inv.numbers inv.links c.args.queue.now)) ∙ (rw (← c.self.view_is) at place))
-    c.link.new.nodes c.link.new.ends c.open_owner.new.owners c.in_ok-last.ensures.ok c.in_ok-last.last c.in_ok-last.ensures.last c.queued-next.result.next (ap (λ j. j.next) c.queued-next.ensures) c.link.ensures
+    c.link.new.nodes c.link.new.ends c.push_owner.new.owners c.in_ok-last.last c.in_ok-last.ensures.ok c.queued-next.result.next (ap (λ j. j.next) c.queued-next.ensures) c.link.ensures
 
-pub link-requires-2-clause-after : goal.link-requires-2-clause-after
-link-requires-2-clause-after c = c.in_ok-last.ensures.ok.opened
+pub follow_last-requires-clause-node : goal.follow_last-requires-clause-node
+follow_last-requires-clause-node c =
+    let inv = c.self.invariant in
+    let has : has_record c.args.self.now c.args.queue.now.id ≡ true = c.requires.record in
+    let place : is_in (queue c.args.self.now c.args.queue.now) c.args.at ≡ true = c.requires.at in
+    node_in c.reserve.new.self c.insert_reserved.new.self c.self.inside.heads c.self.inside.owners inv.queues inv.numbers c.vacant_key-key.result c.args.stand c.args.queue.now
+    (Links-slots c.self.inside.nodes c.reserve.new.self c.self.inside.heads c.self.inside.owners inv.queues inv.numbers (ap (λ s. s.slots) c.reserve.ensures.rest_kept) inv.links)
+    c.vacant_key-key.ensures.vacant (subst (λ k. Updates c.reserve.new.self c.insert_reserved.new.self k (Some (new_node c.args.stand c.args.queue.now))) (c.insert_reserved.ensures.key ∙ sym c.vacant_key-key.ensures.value) (rw c.new.ensures at c.insert_reserved.ensures.updates))
+    (sym (record_is c.self.inside.nodes c.self.inside.heads c.self.inside.owners c.args.queue.now.id) ∙ (rw (← c.self.view_is) at has))
+    c.args.at (sym (ap (λ l. is_in l c.args.at) (queue_is c.self.inside.nodes c.self.inside.heads c.self.inside.owners inv.queues inv.numbers inv.links c.args.queue.now)) ∙ (rw (← c.self.view_is) at place))
+    c.link.new.nodes c.link.new.ends c.push_owner.new.owners c.in_ok-last.last c.in_ok-last.ensures.ok c.queued-next.result.next (ap (λ j. j.next) c.queued-next.ensures) c.link.ensures
 
 pub invariant_of-self-2 : goal.invariant_of-self-2
 invariant_of-self-2 c =
@@ -94,18 +103,18 @@ invariant_of-self-2 c =
     record {
       queues = _;
       numbers = _;
-      links = Links-pushed c.reserve.new.self c.insert_reserved-key.new.self c.self.inside.heads c.self.inside.owners inv.queues inv.numbers c.insert_reserved-key.result c.args.stand c.args.queue.now
+      links = Links-pushed c.reserve.new.self c.insert_reserved.new.self c.self.inside.heads c.self.inside.owners inv.queues inv.numbers c.vacant_key-key.result c.args.stand c.args.queue.now
           (Links-slots c.self.inside.nodes c.reserve.new.self c.self.inside.heads c.self.inside.owners inv.queues inv.numbers (ap (λ s. s.slots) c.reserve.ensures.rest_kept) inv.links)
-          c.insert_reserved-key.ensures.was_vacant (rw c.new.ensures at c.insert_reserved-key.ensures.updates)
+          c.vacant_key-key.ensures.vacant (subst (λ k. Updates c.reserve.new.self c.insert_reserved.new.self k (Some (new_node c.args.stand c.args.queue.now))) (c.insert_reserved.ensures.key ∙ sym c.vacant_key-key.ensures.value) (rw c.new.ensures at c.insert_reserved.ensures.updates))
           (sym (record_is c.self.inside.nodes c.self.inside.heads c.self.inside.owners c.args.queue.now.id) ∙ (rw (← c.self.view_is) at has))
           c.args.at (sym (ap (λ l. is_in l c.args.at) (queue_is c.self.inside.nodes c.self.inside.heads c.self.inside.owners inv.queues inv.numbers inv.links c.args.queue.now)) ∙ (rw (← c.self.view_is) at place))
-          c.link.new.nodes c.link.new.ends c.open_owner.new.owners c.in_ok-last.ensures.ok c.in_ok-last.last c.in_ok-last.ensures.last c.queued-next.result.next (ap (λ j. j.next) c.queued-next.ensures) c.link.ensures
-          c.link-2.new.nodes c.link-2.new.ends c.link-2.ensures;
+          c.link.new.nodes c.link.new.ends c.push_owner.new.owners c.in_ok-last.last c.in_ok-last.ensures.ok c.queued-next.result.next (ap (λ j. j.next) c.queued-next.ensures) c.link.ensures
+          c.follow_last.new.nodes c.follow_last.ensures;
     }
 
 pub returns-clause-fresh : goal.returns-clause-fresh
 returns-clause-fresh c =
-    rw (c.new-2.ensures, ← c.self.view_is) (stand_is c.self.inside.nodes c.self.inside.heads c.self.inside.owners c.insert_reserved-key.result ∙ ap stand_of (sym (ap (λ (l : List (Option Node)). get (record c.reserve.new.self { slots = l }) c.insert_reserved-key.result) (ap (λ s. s.slots) c.reserve.ensures.rest_kept)) ∙ c.insert_reserved-key.ensures.was_vacant))
+    rw (c.new-2.ensures, ← c.self.view_is) (stand_is c.self.inside.nodes c.self.inside.heads c.self.inside.owners c.vacant_key-key.result ∙ ap stand_of (sym (ap (λ (l : List (Option Node)). get (record c.reserve.new.self { slots = l }) c.vacant_key-key.result) (ap (λ s. s.slots) c.reserve.ensures.rest_kept)) ∙ c.vacant_key-key.ensures.vacant))
 
 pub returns-clause-puts : goal.returns-clause-puts
 returns-clause-puts c =
@@ -113,12 +122,12 @@ returns-clause-puts c =
     let has : has_record c.args.self.now c.args.queue.now.id ≡ true = c.requires.record in
     let place : is_in (queue c.args.self.now c.args.queue.now) c.args.at ≡ true = c.requires.at in
     rw (c.new-2.ensures, ← c.self.view_is)
-    (subst (λ (m : Maps). PutsAfter m (maps_of c.link-2.new.nodes c.link.new.ends c.link-2.new.ends) c.args.queue.now c.args.at c.insert_reserved-key.result c.args.stand)
+    (subst (λ (m : Maps). PutsAfter m (maps_of c.follow_last.new.nodes c.link.new.ends c.push_owner.new.owners) c.args.queue.now c.args.at c.vacant_key-key.result c.args.stand)
     (maps-unchanged c.self.inside.nodes c.reserve.new.self c.self.inside.heads c.self.inside.owners c.self.inside.owners (ap (λ s. s.slots) c.reserve.ensures.rest_kept) refl)
-    (PutsAfter-pushed c.reserve.new.self c.insert_reserved-key.new.self c.self.inside.heads c.self.inside.owners inv.queues inv.numbers c.insert_reserved-key.result c.args.stand c.args.queue.now
+    (PutsAfter-pushed c.reserve.new.self c.insert_reserved.new.self c.self.inside.heads c.self.inside.owners inv.queues inv.numbers c.vacant_key-key.result c.args.stand c.args.queue.now
     (Links-slots c.self.inside.nodes c.reserve.new.self c.self.inside.heads c.self.inside.owners inv.queues inv.numbers (ap (λ s. s.slots) c.reserve.ensures.rest_kept) inv.links)
-    c.insert_reserved-key.ensures.was_vacant (rw c.new.ensures at c.insert_reserved-key.ensures.updates)
+    c.vacant_key-key.ensures.vacant (subst (λ k. Updates c.reserve.new.self c.insert_reserved.new.self k (Some (new_node c.args.stand c.args.queue.now))) (c.insert_reserved.ensures.key ∙ sym c.vacant_key-key.ensures.value) (rw c.new.ensures at c.insert_reserved.ensures.updates))
     (sym (record_is c.self.inside.nodes c.self.inside.heads c.self.inside.owners c.args.queue.now.id) ∙ (rw (← c.self.view_is) at has))
     c.args.at (sym (ap (λ l. is_in l c.args.at) (queue_is c.self.inside.nodes c.self.inside.heads c.self.inside.owners inv.queues inv.numbers inv.links c.args.queue.now)) ∙ (rw (← c.self.view_is) at place))
-    c.link.new.nodes c.link.new.ends c.open_owner.new.owners c.in_ok-last.ensures.ok c.in_ok-last.last c.in_ok-last.ensures.last c.queued-next.result.next (ap (λ j. j.next) c.queued-next.ensures) c.link.ensures
-    c.link-2.new.nodes c.link-2.new.ends c.link-2.ensures))
+    c.link.new.nodes c.link.new.ends c.push_owner.new.owners c.in_ok-last.last c.in_ok-last.ensures.ok c.queued-next.result.next (ap (λ j. j.next) c.queued-next.ensures) c.link.ensures
+    c.follow_last.new.nodes c.follow_last.ensures))
