@@ -2,6 +2,7 @@ pub mod Keys
 pub mod Sorting
 pub mod Composed
 pub mod Grouped
+pub mod Unique
 pub mod Fits
 pub mod Legal
 pub mod Counts

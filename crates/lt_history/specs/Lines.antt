@@ -1,4 +1,4 @@
--- A line as words, and read from words.
+-- A line: what it says, how it is written as words, and how it is read from words.
 use Rattle.std.specs.Prelude.{ℕ, ◌≡◌, ◌^◌, ◌≤◌, ◌<◌, if◌then◌else◌, List, [], ◌∷◌, ◌++◌, map, true, Option, Some, None, Result, Ok, Err, decimal, codes}
 use Rattle.std.specs.Str.{bytes_eq}
 use Rattle.std.specs.List.{join_with_byte, AllByRecursion}
@@ -23,13 +23,16 @@ pub record Parts : Type 0 where
 
 -- ---- as it is written
 
+-- nothing, or `let` and a ticket or more
 abbrev pub lets_words : List Wait → List (List ℕ)
 lets_words [] = []
 lets_words (t ∷ ts) = codes "let" ∷ map ticket_word (t ∷ ts)
 
+-- index, pass, call, the sign, and reply
 abbrev pub step_words : Step → List (List ℕ)
 step_words s = decimal s.index ∷ decimal s.pass ∷ call_words s.call ++ codes "=" ∷ reply_words s.reply
 
+-- all words of a line, the key first
 abbrev pub line_words : Parts → List (List ℕ)
 line_words p = p.key ∷ step_words p.step ++ lets_words p.tickets
 
@@ -37,7 +40,7 @@ line_words p = p.key ∷ step_words p.step ++ lets_words p.tickets
 unfoldable pub line_text : Parts → List ℕ
 line_text p = join_with_byte 32 (line_words p) ++ 10 ∷ []
 
--- what can be written
+-- Its numbers are in their ranges, and its reply is one of its call's.
 pub record IsStep (s : Step) : Type 0 where
   pub index : (1 ≤ s.index) × (s.index < 2 ^ 64)
   pub pass : (1 ≤ s.pass) × (s.pass ≤ 1024)
@@ -45,12 +48,13 @@ pub record IsStep (s : Step) : Type 0 where
   pub reply : IsReply s.reply
   pub fits : is_reply_of s.call s.reply ≡ true
 
+-- The parts are those of a line.
 pub record IsLine (p : Parts) : Type 0 where
   pub key : IsKey p.key
   pub step : IsStep p.step
   pub tickets : AllByRecursion IsTicket p.tickets
 
--- ---- reading
+-- ---- reading, which takes a line apart from the front
 
 -- What is refused for its shape is not read; want of memory says nothing.
 abbrev pub IsMisread : {Y : Type 0} → Refusal → Option Y → Type 0

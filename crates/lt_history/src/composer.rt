@@ -119,7 +119,9 @@ fn put_lines(out: &mut Vec<u8>, entries: &[&Entry]) -> Result<(), AllocError>
 /// The text of the histories of some shards: `locks 1`, and then key after key, rising, each key's entries in the order
 /// in which they stand, shard after shard. It takes a reference for each entry, and time for one sort of these.
 pub fn compose(alloc: Global, shards: &[Vec<Entry>]) -> Result<Vec<u8>, AllocError>
-    ensures { IfOk result (λ text. IsTextOf text.items (flat_map (λ shard. shard.items) shards.now)) }
+    ensures text { IfOk result (λ text. IsTextOf text.items (flat_map (λ shard. shard.items) shards.now)) }
+    // These entries have no other text.
+    ensures alone { IfOk result (λ text. (other : List ℕ) → IsTextOf other (flat_map (λ shard. shard.items) shards.now) → text.items ≡ other) }
 {
     let entries = by_key(alloc, shards)?;
     let mut text = Vec::from_slice(alloc, b"locks 1\n")?;
