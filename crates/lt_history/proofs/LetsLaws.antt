@@ -1,5 +1,5 @@
 -- The tickets of a line, and its key.
-use Rattle.std.proofs.Common.{◌≡◌, ℕ, ◌<◌, ◌≤◌, Bool, true, false, cond, eqb, ltb, List, [], ◌∷◌, ◌++◌, length, map, Option, Some, None, refl, sym, ap, subst, ◌∙◌, inl, inr, arith}
+use Rattle.std.proofs.Common.{◌≡◌, ℕ, List, [], ◌∷◌, map, Option, Some, None, refl, ap, subst, ◌∙◌, inl, inr}
 use Rattle.std.specs.Prelude.{codes}
 use Rattle.std.specs.List.{AllByRecursion}
 use Rattle.std.specs.Str.{bytes_eq}
@@ -9,7 +9,7 @@ use Rattle.lt_ids.specs.Ticket.{Wait}
 use Rattle.lt_text.specs.Maybe.{◌>>=◌}
 use Rattle.lt_text.specs.Fields.{ticket_word, IsTicket, ticket_of}
 use Rattle.lt_history.specs.Lines.{lets_words, tickets_of, if_any, lets_of}
-use Rattle.lt_text.proofs.Plain.{above, ArePlain}
+use Rattle.lt_text.proofs.Plain.{ArePlain}
 use Rattle.lt_text.proofs.FieldLaws.{bind_some, ticket_field}
 use Rattle.lt_text.proofs.CallLaws.{chosen}
 

@@ -1,3 +1,7 @@
+pub mod Keys
+pub mod Sorting
+pub mod Composed
+pub mod Grouped
 pub mod Tickets
 pub mod Places
 pub mod LetsLaws

@@ -1,19 +1,18 @@
 -- A line that is read is a line, and is written as it stands; each line is read again.
-use Rattle.std.proofs.Common.{◌≡◌, ◌≢◌, ℕ, ◌<◌, List, [], ◌∷◌, ◌++◌, length, Option, Some, None, Result, Ok, Err, eqb, refl, sym, ap, subst, ◌∙◌, append_assoc, arith}
+use Rattle.std.proofs.Common.{◌≡◌, ◌≢◌, ℕ, ◌<◌, List, [], ◌∷◌, ◌++◌, length, Option, Some, None, Result, Ok, Err, eqb, sym, ap, ◌∙◌, append_assoc, arith}
 use Rattle.std.specs.Prelude.{IfOk, IfErr}
 use Rattle.std.specs.List.{slice_split, join_with_byte}
 use Rattle.std.proofs.lemmas.Option.{some_pair_parts}
 use Rattle.std.proofs.lemmas.List.{append_cancel_right, length-append}
 use Rattle.std.proofs.lemmas.List.Splits.{join_with_byte-slice_split}
-use Rattle.lt_history.specs.declared.error.Fault.{Fault}
 use Rattle.lt_history.specs.declared.error.Fault.TheVariants.{Header, Shape, KeyOrder, Index, WrongReply, WrongLets}
 use Rattle.lt_history.specs.declared.error.Refusal.{Refusal}
 use Rattle.lt_history.specs.declared.error.Refusal.TheVariants as refusals
 use Rattle.lt_history.specs.declared.line.Line.{Line}
 use Rattle.lt_text.specs.Words.{cut_of}
-use Rattle.lt_history.specs.Lines.{Parts, IsLine, line_words, line_text, parts_at, parts_of, Reads, IsMisread, IsShapeless}
-use Rattle.lt_history.specs.Text.{Spot, Follows, IsWrong, IsWrongOr, HasFault, HasFaultOr, TakesLine, spot_after}
-use Rattle.lt_text.proofs.Plain.{cut_again, cut_takes, split_join, no_line_end, ArePlain}
+use Rattle.lt_history.specs.Lines.{Parts, IsLine, line_words, line_text, parts_at, parts_of, Reads, IsShapeless}
+use Rattle.lt_history.specs.Text.{Spot, Follows, IsWrongOr, HasFault, HasFaultOr, TakesLine, spot_after}
+use Rattle.lt_text.proofs.Plain.{cut_again, cut_takes, split_join, no_line_end}
 use Rattle.lt_history.proofs.PartsLaws.{parts_takes, parts_again, parts_plain}
 
 text_is : (bytes : List ℕ) (p : Parts) → slice_split (λ b. eqb b 32) bytes ≡ line_words p → line_text p ≡ bytes ++ 10 ∷ []

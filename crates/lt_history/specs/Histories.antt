@@ -1,17 +1,21 @@
--- Histories as lists of entries, and their text.
-use Rattle.std.specs.Prelude.{ℕ, ◌≡◌, ◌+◌, ◌≤◌, List, [], ◌∷◌, ◌++◌, map, filter, Contains, All}
+-- Histories as lists of entries: which are legal, and what their text is.
+--
+-- A history is a list of entries, in the order in which the steps were made. The steps of different keys may stand in
+-- any order between one another: only the part of each key counts, and the text has key after key.
+use Rattle.std.specs.Prelude.{ℕ, ◌≡◌, ◌≢◌, ◌↔◌, ◌+◌, ◌≤◌, Bool, true, List, [], ◌∷◌, map, filter, Contains}
 use Rattle.std.specs.List.{flat_map, AllByRecursion}
 use Rattle.std.specs.Str.{bytes_eq}
 use Rattle.std.specs.Ordering.{nat_cmp, is_lt}
 use Rattle.std.specs.Cmp.Lexicographic.{slice_cmp}
-use Rattle.std.specs.Prelude.{true}
 use Rattle.lt_ids.specs.Ticket.{IsNumber}
 use Rattle.lt_plain.specs.declared.call.Call.{Call}
-use Rattle.lt_plain.specs.declared.call.Call.TheVariants.{Visit, Acquire, Update, Finish, Leave, Look}
+use Rattle.lt_plain.specs.declared.call.Call.TheVariants.{Leave, Look}
 use Rattle.lt_plain.specs.Step.{Event, IsLegal}
 use Rattle.lt_history.specs.declared.entry.Entry.{Entry}
-use Rattle.lt_history.specs.Lines.{Parts, line_text}
-use Rattle.lt_history.specs.Text.{header}
+use Rattle.lt_history.specs.Lines.{Parts}
+use Rattle.lt_history.specs.Text.{text_of}
+
+-- ---- legal histories
 
 -- the step of its key's history that an entry tells
 abbrev pub event_of : Entry → Event
@@ -36,6 +40,24 @@ pub record IsInRange (e : Entry) : Type 0 where
   pub pass : (1 ≤ e.pass) × (e.pass ≤ 1024)
   pub number : NamesNumber e.call
 
+-- ---- the keys of a history
+
+-- One key stands before another in the order of bytes.
+abbrev pub precedes : List ℕ → List ℕ → Bool
+precedes k l = is_lt (slice_cmp nat_cmp k l)
+
+-- Each key precedes the ones after it.
+abbrev pub Rise : List (List ℕ) → Type 0
+Rise [] = Unit {0}
+Rise (key ∷ keys) = AllByRecursion (λ k. precedes key k ≡ true) keys × Rise keys
+
+-- These are the keys that have an entry, each once, in rising order.
+pub record AreKeysOf (es : List Entry) (keys : List (List ℕ)) : Type 0 where
+  pub rise : Rise keys
+  pub each : (key : List ℕ) → Contains keys key ↔ (part key es ≢ [])
+
+-- ---- the text
+
 -- what the line of an entry says, which is its key's step of this index
 abbrev pub parts_of_entry : ℕ → Entry → Parts
 parts_of_entry index e = record {
@@ -45,23 +67,16 @@ parts_of_entry index e = record {
 }
 
 -- the lines of a key's entries, the first of this index
-abbrev pub lines_from : ℕ → List Entry → List ℕ
+abbrev pub lines_from : ℕ → List Entry → List Parts
 lines_from index [] = []
-lines_from index (e ∷ es) = line_text (parts_of_entry index e) ++ lines_from (index + 1) es
+lines_from index (e ∷ es) = parts_of_entry index e ∷ lines_from (index + 1) es
 
--- each key is below the ones after it
-abbrev pub Rise : List (List ℕ) → Type 0
-Rise [] = Unit {0}
-Rise (key ∷ keys) = AllByRecursion (λ k. is_lt (slice_cmp nat_cmp key k) ≡ true) keys × Rise keys
-
--- These are the keys of the entries, each once, in rising order.
-pub record AreKeysOf (es : List Entry) (keys : List (List ℕ)) : Type 0 where
-  pub rise : Rise keys
-  pub each : AllByRecursion (λ e. Contains keys e.key) es
-  pub used : AllByRecursion (λ key. Contains (map (λ e. e.key) es) key) keys
+-- the lines of these keys, one key after the other
+abbrev pub lines_of : List Entry → List (List ℕ) → List Parts
+lines_of es keys = flat_map (λ key. lines_from 1 (part key es)) keys
 
 -- The text of these entries: the first line, and then key after key, rising, each key's entries in their order.
 pub record IsTextOf (text : List ℕ) (es : List Entry) : Type 0 where
   pub keys : List (List ℕ)
   pub are_keys : AreKeysOf es keys
-  pub lines : text ≡ header ++ flat_map (λ key. lines_from 1 (part key es)) keys
+  pub lines : text ≡ text_of (lines_of es keys)

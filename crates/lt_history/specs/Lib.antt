@@ -4,3 +4,4 @@ pub mod Place
 pub mod Verdict
 pub mod Print
 pub mod Histories
+pub mod Sorted

@@ -1,13 +1,10 @@
 -- A line as words, and read from words.
-use Rattle.std.specs.Prelude.{ℕ, ◌≡◌, ◌^◌, ◌≤◌, ◌<◌, ◌==◌, if◌then◌else◌, List, [], ◌∷◌, ◌++◌, length, map, true, Option, Some, None, Result, Ok, Err, decimal, codes}
+use Rattle.std.specs.Prelude.{ℕ, ◌≡◌, ◌^◌, ◌≤◌, ◌<◌, if◌then◌else◌, List, [], ◌∷◌, ◌++◌, map, true, Option, Some, None, Result, Ok, Err, decimal, codes}
 use Rattle.std.specs.Str.{bytes_eq}
 use Rattle.std.specs.List.{join_with_byte, AllByRecursion}
 use Rattle.lt_ids.specs.Key.{IsKey, key_fault}
 use Rattle.lt_ids.specs.declared.error.IdError.{IdError}
 use Rattle.lt_ids.specs.Ticket.{Wait}
-use Rattle.lt_plain.specs.declared.call.Call.{Call}
-use Rattle.lt_plain.specs.declared.call.Reply.{Reply}
-use Rattle.lt_history.specs.declared.error.Fault.{Fault}
 use Rattle.lt_history.specs.declared.error.Fault.TheVariants.{Shape}
 use Rattle.lt_history.specs.declared.error.Refusal.{Refusal}
 use Rattle.lt_history.specs.declared.error.Refusal.TheVariants as refusals

@@ -2,15 +2,17 @@
 #![tactic(auto)]
 
 mod checker;
+mod composer;
 mod entry;
 mod error;
 mod line;
 mod place;
-mod print;
+mod printer;
 #[cfg(test)]
 mod tests;
 
 pub use checker::{CheckError, Report, check};
+pub use composer::compose;
 pub use entry::{Entry, Lets};
 pub use error::Fault;
-pub use print::PrintError;
+pub use printer::{PrintError, print};

@@ -3,14 +3,14 @@ ghost use Rattle.lt_text.specs.Fields.{number_within};
 ghost use Rattle.lt_text.specs.Calls.{Gives};
 ghost use Rattle.lt_history.specs.Lines.{Reads, key_at, step_at, tickets_of, lets_of, parts_of, parts_at, IsLine, line_text, IsShapeless};
 
-use lt_text::words::Words;
-use lt_text::call::call;
 use crate::error::{Fault, Refusal};
+use lt_ids::{IdError, Key, Ticket};
+use lt_plain::{Call, Reply};
+use lt_text::call::call;
 use lt_text::field::ticket;
 use lt_text::number::number;
 use lt_text::reply::{is_reply_of, reply};
-use lt_ids::{IdError, Key, Ticket};
-use lt_plain::{Call, Reply};
+use lt_text::words::Words;
 use std::alloc::Global;
 
 /// A line but for its lets.

@@ -1,0 +1,124 @@
+ghost use Rattle.std.specs.Prelude.{◌≡◌, ℕ, ◌+◌, ◌<◌, ◌≤◌, ◌^◌, ◌++◌, ◌∷◌, [], List, OnOk, IfOk, map, length};
+ghost use Rattle.std.specs.List.{flat_map};
+ghost use Rattle.lt_text.specs.Compose.{spaced};
+ghost use Rattle.lt_text.specs.Fields.{ticket_word};
+ghost use Rattle.lt_history.specs.Lines.{lets_words, line_text};
+ghost use Rattle.lt_history.specs.Histories.{part, parts_of_entry, IsTextOf};
+ghost use Rattle.lt_history.specs.Sorted.{RiseFrom, HaveSameParts, next_index, lines_after};
+ghost use Rattle.std.specs.List.Sorted.{IsSortedByKey, IsStableByKey};
+ghost use Rattle.std.specs.Ordering.{nat_cmp};
+ghost use Rattle.std.specs.Cmp.Lexicographic.{slice_cmp};
+ghost use Rattle.lt_history.specs.Text.{header};
+
+use crate::Entry;
+use lt_ids::Through;
+use lt_text::put::{put_call, put_number_word, put_reply, put_ticket, put_word};
+use std::alloc::{AllocError, Global};
+
+fn push_all<'a>(entries: &mut Vec<&'a Entry>, shard: &'a [Entry]) -> Result<(), AllocError>
+    ensures { OnOk result (map (λ e. e.now) entries.new.items ≡ map (λ e. e.now) entries.old.items ++ shard.now) }
+{
+    for entry in shard {
+        entries.push(entry)?;
+    }
+    Ok(())
+}
+
+/// All entries, shard after shard.
+fn entries_of<'a>(alloc: Global, shards: &'a [Vec<Entry>]) -> Result<Vec<&'a Entry>, AllocError>
+    ensures { IfOk result (λ v. map (λ e. e.now) v.items ≡ flat_map (λ v. v.items) shards.now) }
+{
+    let mut entries = Vec::new(alloc);
+    for shard in shards {
+        push_all(&mut entries, shard)?;
+    }
+    Ok(entries)
+}
+
+/// Sorts the entries by their keys, those of a key as they stand.
+fn sort_by_key(entries: &mut Vec<&Entry>) -> Result<(), AllocError>
+    ensures sorted { OnOk result (IsSortedByKey (λ e. e.now.key) (slice_cmp nat_cmp) entries.new.items) }
+    ensures stable { IsStableByKey (λ e. e.now.key) (slice_cmp nat_cmp) entries.old.items entries.new.items }
+{
+    entries.sort_by(|a, b| a.key.cmp(&b.key))?;
+    Ok(())
+}
+
+/// All entries, in the order of their keys, those of a key in theirs.
+
+fn by_key<'a>(alloc: Global, shards: &'a [Vec<Entry>]) -> Result<Vec<&'a Entry>, AllocError>
+    ensures rising { IfOk result (λ v. RiseFrom [] (map (λ e. e.now) v.items)) }
+    ensures parts { IfOk result (λ v. HaveSameParts (map (λ e. e.now) v.items) (flat_map (λ v. v.items) shards.now)) }
+{
+    let mut entries = entries_of(alloc, shards)?;
+    sort_by_key(&mut entries)?;
+    Ok(entries)
+}
+
+fn put_tickets(out: &mut Vec<u8>, lets: &[Through]) -> Result<(), AllocError>
+    ensures { OnOk result (out.new.items ≡ out.old.items ++ flat_map (λ t. 32 ∷ ticket_word t.ticket) lets.now) }
+{
+    for t in lets {
+        put_ticket(out, t.ticket)?;
+    }
+    Ok(())
+}
+
+#[tactic(auto, using(crate::proofs::Composed::lets_are))]
+fn put_lets(out: &mut Vec<u8>, lets: &[Through]) -> Result<(), AllocError>
+    ensures { OnOk result (out.new.items ≡ out.old.items ++ spaced (lets_words (map (λ t. t.ticket) lets.now))) }
+{
+    if lets.is_empty() {
+        return Ok(());
+    }
+    put_word(out, b"let")?;
+    put_tickets(out, lets)?;
+    Ok(())
+}
+
+/// Puts the line of this entry at the end, which is its key's step of this index.
+#[tactic(auto, using(crate::proofs::Composed::line_is))]
+fn put_line(out: &mut Vec<u8>, index: u64, entry: &Entry) -> Result<(), AllocError>
+    ensures { OnOk result (out.new.items ≡ out.old.items ++ line_text (parts_of_entry index entry.now)) }
+{
+    out.extend_from_slice(entry.key.as_bytes())?;
+    put_number_word(out, index)?;
+    put_number_word(out, entry.pass as u64)?;
+    put_call(out, entry.call)?;
+    put_word(out, b"=")?;
+    put_reply(out, entry.reply)?;
+    put_lets(out, entry.lets.as_slice())?;
+    out.push(b'\n')?;
+    Ok(())
+}
+
+/// The index of a key's entry after one of that key and index.
+fn next_index(before: &[u8], index: u64, key: &[u8]) -> u64
+    requires { index + 1 < 2 ^ 64 }
+    ensures { result ≡ next_index before.now index key.now }
+{
+    if key == before { index + 1 } else { 1 }
+}
+
+fn put_lines(out: &mut Vec<u8>, entries: &[&Entry]) -> Result<(), AllocError>
+    ensures { OnOk result (out.new.items ≡ out.old.items ++ flat_map line_text (lines_after [] 0 (map (λ e. e.now) entries.now))) }
+{
+    let mut key: &[u8] = b"";
+    let mut index = 0;
+    for entry in entries {
+        index = next_index(key, index, entry.key.as_bytes());
+        key = entry.key.as_bytes();
+        put_line(out, index, entry)?;
+    }
+    Ok(())
+}
+
+/// The text of the histories: key after key, rising, each key's entries in their order.
+pub fn compose(alloc: Global, shards: &[Vec<Entry>]) -> Result<Vec<u8>, AllocError>
+    ensures { IfOk result (λ text. IsTextOf text.items (flat_map (λ shard. shard.items) shards.now)) }
+{
+    let entries = by_key(alloc, shards)?;
+    let mut text = Vec::from_slice(alloc, b"locks 1\n")?;
+    put_lines(&mut text, &entries)?;
+    Ok(text)
+}
