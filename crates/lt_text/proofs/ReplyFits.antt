@@ -51,7 +51,7 @@ reserved_fits : (r : Record) (s q : QueuedRequest) (a : Access) → Has is_visit
 reserved_fits r s q Read = refl
 reserved_fits r s q Write = ordered (nat_cmp (number_of q) (number_of s)) (displace r s q) (pass r) (wait_to_write r q) refl refl refl
 
-lock_fits : (h : Option Holder) (s : Option QueuedRequest) (r : Record) (q : QueuedRequest) (a : Access) → Has is_visit_reply (visit_lock h s r q a)
+pub lock_fits : (h : Option Holder) (s : Option QueuedRequest) (r : Record) (q : QueuedRequest) (a : Access) → Has is_visit_reply (visit_lock h s r q a)
 lock_fits None None r q a = refl
 lock_fits None (Some s) r q a = reserved_fits r s q a
 lock_fits (Some h) s r q a = either is_visit_reply (eqb h.txn q.txn) (pass r) (visit_held r h q a) refl (held_fits r h q a)

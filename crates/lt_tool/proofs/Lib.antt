@@ -1,0 +1,5 @@
+pub mod Recorded
+pub mod Pieces
+pub mod Deeds
+pub mod Texts
+pub mod Steps

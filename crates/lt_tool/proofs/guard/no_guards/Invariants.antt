@@ -1,0 +1,8 @@
+use Rattle.std.proofs.Common.{◌-◌, ◌≤◌, vec_len}
+use Rattle.lt_tool.proofs.guard.no_guards.Given as goal
+
+abbrev pub invariant-loop-list : goal.invariant-loop-list
+invariant-loop-list l = vec_len l.list ≤ 65
+
+abbrev pub decreases-loop-list : goal.decreases-loop-list
+decreases-loop-list l = 65 - vec_len l.list

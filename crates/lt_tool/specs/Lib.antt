@@ -1,0 +1,6 @@
+pub mod Answers
+pub mod Guards
+pub mod Input
+pub mod Recorded
+pub mod Deeds
+pub mod Output

@@ -1,0 +1,191 @@
+ghost use Rattle.std.specs.Prelude.{◌≡◌, ◌+◌, ◌<◌, ◌≤◌, ◌^◌, IfOk, IfSome, MatchOption, vec_len};
+ghost use Rattle.lt_ids.specs.Ticket.{IsNumber};
+ghost use Rattle.lt_tool.specs.Guards.{is_ticket_of, mode_after, polled};
+
+use crate::answer::Answer;
+use lt_ids::{Access, Key, Through, Ticket, Timestamp, TxnId};
+use lt_script::ScriptPass;
+use std::alloc::{AllocError, Global};
+use std::marker::Model;
+
+/// Draws the numbers of requests: 1, 2, .. up to 2^40 - 1. In a contract it is the next number.
+#[derive(Debug, Drop)]
+pub(crate) struct Numbers {
+    next: u64,
+}
+
+impl Model for Numbers {
+    ghost use Rattle.std.specs.Prelude.{ℕ, ◌≤◌, ◌^◌};
+
+    ghost Value = { ℕ };
+
+    ghost view = { λ n. n.next };
+
+    ghost invariant = { λ n. (1 ≤ n.next) × (n.next ≤ 2 ^ 40) };
+}
+
+impl Numbers {
+    pub fn new() -> Self
+        ensures { result ≡ 1 }
+    {
+        Numbers { next: 1 }
+    }
+
+    /// The next number, or `None` where all are drawn.
+    pub fn draw(&mut self) -> Option<u64>
+        ensures cases { MatchOption result ((2 ^ 40 ≤ self.old) × (self.new ≡ self.old)) (λ n. (n ≡ self.old) × (self.new ≡ self.old + 1)) }
+        ensures number { IfSome result IsNumber }
+    {
+        if self.next >= 1 << 40 {
+            return None;
+        }
+        let number = self.next;
+        self.next += 1;
+        Some(number)
+    }
+}
+
+/// Whether a request waits.
+#[derive(Clone, Copy, Debug, PartialEq, Eq)]
+pub(crate) enum Mode {
+    /// It does not wait.
+    Free,
+    /// It waits, and was not let through yet.
+    Awaiting,
+    /// It waited, and was let through.
+    Let,
+}
+
+/// The request of a pass, which names one key.
+#[derive(Debug, Drop)]
+pub(crate) struct Guard {
+    pub number: u64,
+    pub txn: TxnId,
+    pub ts: Timestamp,
+    pub key: Key,
+    pub access: Access,
+    /// How often it had to wait.
+    pub waits: u32,
+    pub mode: Mode,
+    pub ghost number_in_range: { IsNumber number },
+    pub ghost waits_in_range: { waits < 2 ^ 24 },
+}
+
+impl Guard {
+    pub fn new(number: u64, txn: TxnId, ts: Timestamp, key: Key, access: Access) -> Self
+        requires { IsNumber number }
+    {
+        Guard {
+            number,
+            txn,
+            ts,
+            key,
+            access,
+            waits: 0,
+            mode: Mode::Free,
+        }
+    }
+
+    /// The ticket of the next wait, or `None` where all waits are used up.
+    pub fn next_ticket(&self) -> Option<Ticket>
+        ensures { MatchOption result (2 ^ 24 ≤ self.now.waits + 1) (λ t. (t ≡ record { number = self.now.number; wait = self.now.waits + 1 }) × (self.now.waits + 1 < 2 ^ 24)) }
+    {
+        Ticket::new(self.number, self.waits + 1)
+    }
+
+    /// The request has to wait once more.
+    pub fn wait(&mut self)
+        requires { self.old.waits + 1 < 2 ^ 24 }
+        ensures waits { self.new.waits ≡ self.old.waits + 1 }
+        ensures mode { self.new.mode ≡ Mode.Awaiting }
+    {
+        self.waits += 1;
+        self.mode = Mode::Awaiting;
+    }
+
+    /// The request goes on after it was let through.
+    pub fn go_on(&mut self)
+        ensures waits { self.new.waits ≡ self.old.waits }
+        ensures mode { self.new.mode ≡ Mode.Free }
+    {
+        self.mode = Mode::Free;
+    }
+
+    /// Lets the wait of this ticket go on, if it is the one that the request waits for.
+    pub fn let_through(&mut self, ticket: Ticket)
+        ensures waits { self.new.waits ≡ self.old.waits }
+        ensures mode { self.new.mode ≡ mode_after self.old.mode (is_ticket_of self.old.number self.old.waits ticket) }
+    {
+        if self.mode == Mode::Awaiting
+            && ticket.number() == self.number
+            && ticket.wait() == self.waits
+        {
+            self.mode = Mode::Let;
+        }
+    }
+
+    /// Whether the request waits, as an answer.
+    pub fn poll(&self) -> Answer
+        ensures { result ≡ polled self.now.mode }
+    {
+        match self.mode {
+            Mode::Free => Answer::Idle,
+            Mode::Awaiting => Answer::Waiting,
+            Mode::Let => Answer::Let,
+        }
+    }
+}
+
+/// The requests of the passes, each at the number of its pass.
+#[derive(Drop)]
+pub(crate) struct Guards {
+    list: Vec<Option<Guard>>,
+    ghost full: { vec_len list ≡ 65 },
+}
+
+fn no_guards(alloc: Global) -> Result<Vec<Option<Guard>>, AllocError>
+    ensures { IfOk result (λ v. vec_len v ≡ 65) }
+{
+    let mut list = Vec::new(alloc);
+    while list.len() < 65 {
+        list.push(None)?;
+    }
+    Ok(list)
+}
+
+impl Guards {
+    pub fn new(alloc: Global) -> Result<Self, AllocError> {
+        let list = no_guards(alloc)?;
+        Ok(Guards { list })
+    }
+
+    pub fn get(&self, pass: ScriptPass) -> Option<&Guard> {
+        self.list[pass.number() as usize].as_ref()
+    }
+
+    pub fn take(&mut self, pass: ScriptPass) -> Option<Guard> {
+        self.list[pass.number() as usize].take()
+    }
+
+    pub fn put(&mut self, pass: ScriptPass, guard: Guard) {
+        self.list[pass.number() as usize] = Some(guard);
+    }
+
+    fn let_one(&mut self, through: &Through) {
+        if through.pass >= 65 {
+            return;
+        }
+        let place = through.pass as usize;
+        if let Some(mut guard) = self.list[place].take() {
+            guard.let_through(through.ticket);
+            self.list[place] = Some(guard);
+        }
+    }
+
+    /// Lets those waits go on.
+    pub fn let_through(&mut self, lets: &[Through]) {
+        for through in lets {
+            self.let_one(through);
+        }
+    }
+}
