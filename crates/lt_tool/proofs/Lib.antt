@@ -3,3 +3,4 @@ pub mod Pieces
 pub mod Deeds
 pub mod Texts
 pub mod Steps
+pub mod Appended

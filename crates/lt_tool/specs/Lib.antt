@@ -4,3 +4,4 @@ pub mod Input
 pub mod Recorded
 pub mod Deeds
 pub mod Output
+pub mod Program

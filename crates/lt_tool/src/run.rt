@@ -19,6 +19,8 @@ pub struct Options {
 }
 
 impl Default for Options {
+    ghost is_default = { λ o. o ≡ record { shards = 4; steps = 1000000; threads = false; turns = 1000000 } };
+
     /// 4 shards, 1,000,000 steps, no threads, 1,000,000 turns.
     fn default() -> Options {
         Options {
