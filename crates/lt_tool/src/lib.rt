@@ -9,8 +9,6 @@ mod output;
 mod program;
 mod recorder;
 mod run;
-#[cfg(test)]
-mod tests;
 
 pub use program::{Failure, complain, no_words, status};
 pub use run::{Finish, Options, RunError, run_script};

@@ -75,11 +75,7 @@ fn write_number<W: Write>(writer: &mut W, n: u64) -> Result<(), PrintError>
     write_out(writer, buffer.format(n).as_bytes())
 }
 
-fn complain_of_line<W: Write>(
-    writer: &mut W,
-    line: usize,
-    fault: Fault,
-) -> Result<(), PrintError>
+fn complain_of_line<W: Write>(writer: &mut W, line: usize, fault: Fault) -> Result<(), PrintError>
     ensures { OnOk result (Appends (W.contents writer.old) (W.contents writer.new) (line_message line fault)) }
 {
     write_out(writer, b"lockrun: line ")?;
