@@ -34,11 +34,24 @@ fn mixed(alloc: Global) -> Result<Vec<Command>, Fail> {
     Ok(commands)
 }
 
+/// What is read, at the second call where the first one was refused memory.
+fn read(rt: &HostRuntime, text: &str) -> Result<Script, ScriptError> {
+    match read_script(rt.alloc(), text.as_bytes()) {
+        Err(ScriptError::Memory) => read_script(rt.alloc(), text.as_bytes()),
+        read => read,
+    }
+}
+
 /// Skipped lines count, each line may end in either way, and spaces may stand around words.
 #[test]
 fn lines_are_counted_and_words_are_cut(rt: HostRuntime) -> Result<(), Fail> {
-    let script = read_script(rt.alloc(), MIXED.as_bytes())?;
-    assert_eq!(rt; script.as_slice(), mixed(rt.alloc())?.as_slice());
+    let script = read(&rt, MIXED)?;
+    let expected = match mixed(rt.alloc()) {
+        Ok(commands) => commands,
+        Err(_) => mixed(rt.alloc())?,
+    };
+    assert_eq!(rt; script.as_slice(), expected.as_slice());
+    assert_eq!(rt; script.into_vec().len(), 4);
     Ok(())
 }
 
@@ -72,21 +85,6 @@ fn each_fault_is_told_with_its_line(rt: HostRuntime) {
         ("1 finish 18446744073709551616 k", 1, Fault::BadTxn),
         ("# 0\n\n1 leave\r\n1 look \x7f\n0 scan", 4, Fault::BadKey),
     ] {
-        let read = read_script(rt.alloc(), text.as_bytes());
-        assert_eq!(rt; first_fault(read), Some((line, fault)), "{text}");
+        assert_eq!(rt; first_fault(read(&rt, text)), Some((line, fault)), "{text}");
     }
-}
-
-/// Whichever memory is refused, the error is that of memory, and the next call reads the script.
-#[test]
-fn refused_memory_is_told(rt: HostRuntime) -> Result<(), Fail> {
-    let script = match read_script(rt.alloc(), MIXED.as_bytes()) {
-        Ok(script) => script,
-        Err(e) => {
-            assert_eq!(rt; e, ScriptError::Memory);
-            read_script(rt.alloc(), MIXED.as_bytes())?
-        }
-    };
-    assert_eq!(rt; script.as_slice().len(), 4);
-    Ok(())
 }

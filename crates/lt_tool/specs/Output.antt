@@ -1,5 +1,5 @@
 -- What a run writes, and what it says.
-use Rattle.std.specs.Prelude.{ℕ, ◌≡◌, ◌<◌, ◌^◌, List, [], ◌++◌, length, Option, IfSome, Ok, Err}
+use Rattle.std.specs.Prelude.{ℕ, ◌≡◌, ◌<◌, ◌≤◌, ◌^◌, List, [], ◌++◌, length, Option, IfSome, Ok, Err}
 use Rattle.std.specs.List.{AllByRecursion}
 use Rattle.std.specs.Io.KnownBytes.{Appends}
 use Rattle.lt_history.specs.declared.entry.Entry.{Entry}
@@ -28,9 +28,13 @@ pub record IsOutput (text : List ℕ) (commands : List Command) : Type 0 where
   pub is_text : IsTextOf histories entries
   pub joined : text ≡ answers_text answers ++ histories
 
+-- A text is short enough to be read.
+abbrev pub IsShort : List ℕ → Type 0
+IsShort text = length text ≤ 2 ^ 24
+
 -- The commands are those of the script, where its bytes are known.
 abbrev pub AreOf : List Command → Option (List ℕ) → Type 0
-AreOf commands script = IfSome script (λ text. commands_of text ≡ Ok commands)
+AreOf commands script = IfSome script (λ text. IsShort text × (commands_of text ≡ Ok commands))
 
 -- The writer holds the output of the script more, and nothing else.
 pub record Ran (script old new : Option (List ℕ)) : Type 0 where
@@ -51,7 +55,7 @@ pub record RanInPart (script old new : Option (List ℕ)) : Type 0 where
 -- why a script was not run, where its bytes are known
 abbrev pub IsRefused : RunError → Option (List ℕ) → Type 0
 IsRefused errors.TooLong script = IfSome script (λ text. 2 ^ 24 < length text)
-IsRefused (errors.Script line fault) script = IfSome script (λ text. commands_of text ≡ Err (Fault line fault))
+IsRefused (errors.Script line fault) script = IfSome script (λ text. IsShort text × (commands_of text ≡ Err (Fault line fault)))
 IsRefused _ script = Unit {0}
 
 abbrev pub unread : Unread → RunError
