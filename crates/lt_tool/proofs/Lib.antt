@@ -4,3 +4,4 @@ pub mod Deeds
 pub mod Texts
 pub mod Steps
 pub mod Appended
+pub mod Swaps

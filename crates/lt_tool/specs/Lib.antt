@@ -1,5 +1,6 @@
 pub mod Answers
 pub mod Guards
+pub mod Slots
 pub mod Input
 pub mod Recorded
 pub mod Deeds
