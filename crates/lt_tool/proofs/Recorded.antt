@@ -1,5 +1,5 @@
 -- A step that is stored beside the table that it was made of.
-use Rattle.std.proofs.Common.{◌≡◌, ◌≢◌, ℕ, ◌≤◌, Bool, true, false, cond, Result, Ok, is_ok, List, [], ◌∷◌, ◌++◌, Option, Some, None, unwrap_or, map, filter, refl, sym, ap, subst, ◌∙◌, arith}
+use Rattle.std.proofs.Common.{◌≡◌, ◌≢◌, ℕ, ◌≤◌, Bool, true, false, cond, Result, Ok, is_ok, List, [], ◌∷◌, ◌++◌, Option, unwrap_or, map, refl, sym, ap, subst, ◌∙◌, arith}
 use Rattle.std.specs.List.{AllByRecursion}
 use Rattle.std.specs.Str.{bytes_eq}
 use Rattle.std.specs.FinMap as finmap

@@ -4,7 +4,6 @@ use Rattle.lt_ids.specs.declared.ticket.Through.{Through}
 use Rattle.lt_plain.specs.declared.call.Call.{Call}
 use Rattle.lt_plain.specs.declared.call.Call.TheVariants.{Visit, Acquire, Update, Finish, Leave, Look}
 use Rattle.lt_plain.specs.declared.call.Reply.{Reply}
-use Rattle.lt_plain.specs.Record.{number_of}
 use Rattle.lt_plain.specs.Rules.{stop_reading}
 use Rattle.lt_plain.specs.Step.{step}
 use Rattle.lt_plain.specs.Table.{Records, record_at, IsStep}

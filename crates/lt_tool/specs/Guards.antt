@@ -1,5 +1,5 @@
 -- Whether a request waits.
-use Rattle.std.specs.Prelude.{ℕ, Bool, true, false, ◌==◌, ◌&&◌}
+use Rattle.std.specs.Prelude.{ℕ, Bool, true, ◌==◌, ◌&&◌}
 use Rattle.lt_ids.specs.Ticket.{Wait}
 use Rattle.lt_tool.specs.declared.guard.Mode.{Mode}
 use Rattle.lt_tool.specs.declared.guard.Mode.TheVariants.{Free, Awaiting, Let}
