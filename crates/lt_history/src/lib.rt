@@ -33,4 +33,4 @@ pub use checker::{CheckError, Report, check};
 pub use composer::compose;
 pub use entry::{Entry, Lets};
 pub use error::Fault;
-pub use printer::{PrintError, print};
+pub use printer::{PrintError, print, write_out};

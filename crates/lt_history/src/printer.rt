@@ -43,9 +43,10 @@ fn write_some<W: Write>(writer: &mut W, text: &[u8]) -> Option<usize>
     }
 }
 
-/// Writes the text by one write after another. A write that fails or takes nothing ends it.
+/// Writes the text by one write after another. A write that fails, is interrupted or takes no byte ends it, and a
+/// front of the text is then written.
 #[tactic(auto, using(crate::proofs::Written::written_none, crate::proofs::Written::written_more, crate::proofs::Written::written_all, crate::proofs::Written::written_front))]
-fn write_out<W: Write>(writer: &mut W, text: &[u8]) -> Result<(), PrintError>
+pub fn write_out<W: Write>(writer: &mut W, text: &[u8]) -> Result<(), PrintError>
     ensures ok { OnOk result (Appends (W.contents writer.old) (W.contents writer.new) text.now) }
     ensures err { IfErr result (λ e. (e ≡ PrintError.Write) × AppendsFront (W.contents writer.old) (W.contents writer.new) text.now) }
 {

@@ -1,0 +1,194 @@
+-- What the lines of a script say, and what is wrong with a script that has a fault.
+use Rattle.std.specs.Prelude.{ℕ, ◌≡◌, ◌+◌, ◌-◌, ◌^◌, if◌then◌else◌, List, [], ◌∷◌, ◌++◌, length, take, drop, codes, Option, Some, None, Result, Ok, Err}
+use Rattle.std.specs.Str.{bytes_eq}
+use Rattle.lt_ids.specs.Key.{key_fault}
+use Rattle.lt_ids.specs.declared.error.IdError.{IdError}
+use Rattle.lt_ids.specs.declared.timestamp.Timestamp.{Timestamp}
+use Rattle.lt_ids.specs.declared.request.Access.{Access}
+use Rattle.lt_ids.specs.declared.request.Access.TheVariants.{Read, Write}
+use Rattle.lt_text.specs.Fields.{number_within, time_of}
+use Rattle.lt_script.specs.declared.command.Action.{Action}
+use Rattle.lt_script.specs.declared.command.Action.TheVariants.{Open, Scan, Await, Look, Acquire, Update, Finish, Leave}
+use Rattle.lt_script.specs.declared.command.Saying.{Saying}
+use Rattle.lt_script.specs.declared.command.Command.{Command}
+use Rattle.lt_script.specs.declared.error.Fault.{Fault}
+use Rattle.lt_script.specs.declared.error.Fault.TheVariants.{BadPass, BadCall, BadWords, BadTxn, BadTime, BadKey, BadAccess}
+use Rattle.lt_script.specs.declared.error.Refusal.{Refusal}
+use Rattle.lt_script.specs.declared.error.Refusal.TheVariants as refusals
+use Rattle.lt_script.specs.declared.error.ScriptError.{ScriptError}
+use Rattle.lt_script.specs.declared.error.ScriptError.TheVariants as errors
+use Rattle.lt_script.specs.Reading.{◌>>=◌, or_fault}
+use Rattle.lt_script.specs.Lines.{script_lines, is_comment, words_of}
+
+-- ---- single words
+
+abbrev pub pass_of : List ℕ → Result ℕ Fault
+pass_of word = or_fault BadPass (number_within 1 65 word)
+
+abbrev pub txn_of : List ℕ → Result ℕ Fault
+txn_of word = or_fault BadTxn (number_within 1 (2 ^ 64) word)
+
+abbrev pub ts_of : List ℕ → Result Timestamp Fault
+ts_of word = or_fault BadTime (time_of word)
+
+abbrev pub unless_faulty : Option IdError → List ℕ → Result (List ℕ) Fault
+unless_faulty None word = Ok word
+unless_faulty (Some fault) word = Err BadKey
+
+abbrev pub key_of : List ℕ → Result (List ℕ) Fault
+key_of word = unless_faulty (key_fault word) word
+
+-- a word without its last two bytes, and the access that these name
+unfoldable pub split_access : List ℕ → Result (List ℕ × Access) Fault
+split_access word =
+    let n = length word - 2 in
+    if bytes_eq (drop n word) (codes ":r") then Ok (take n word, Read)
+    else if bytes_eq (drop n word) (codes ":w") then Ok (take n word, Write)
+    else Err BadAccess
+
+-- ---- so many words, and no more
+
+abbrev pub none_of : List (List ℕ) → Result (Unit {0}) Fault
+none_of [] = Ok tt
+none_of (word ∷ words) = Err BadWords
+
+abbrev pub one_of : List (List ℕ) → Result (List ℕ) Fault
+one_of [] = Err BadWords
+one_of (word ∷ words) = do
+  end ← none_of words
+  Ok word
+
+abbrev pub two_of : List (List ℕ) → Result (List ℕ × List ℕ) Fault
+two_of [] = Err BadWords
+two_of (word ∷ words) = do
+  second ← one_of words
+  Ok (word, second)
+
+abbrev pub three_of : List (List ℕ) → Result (List ℕ × List ℕ × List ℕ) Fault
+three_of [] = Err BadWords
+three_of (word ∷ words) = do
+  others ← two_of words
+  Ok (word, others.0, others.1)
+
+-- ---- the calls, by what stands after their names
+
+-- A request names one key.
+unfoldable pub open_of : List (List ℕ) → Result Action Fault
+open_of args = do
+  words ← three_of args
+  txn ← txn_of words.0
+  ts ← ts_of words.1
+  parts ← split_access words.2
+  key ← key_of parts.0
+  Ok (Open txn ts key parts.1)
+
+unfoldable pub look_of : List (List ℕ) → Result Action Fault
+look_of args = do
+  word ← one_of args
+  key ← key_of word
+  Ok (Look key)
+
+unfoldable pub acquire_of : List (List ℕ) → Result Action Fault
+acquire_of args = do
+  words ← three_of args
+  txn ← txn_of words.0
+  ts ← ts_of words.1
+  key ← key_of words.2
+  Ok (Acquire txn ts key)
+
+unfoldable pub update_of : List (List ℕ) → Result Action Fault
+update_of args = do
+  words ← three_of args
+  txn ← txn_of words.0
+  ts ← ts_of words.1
+  key ← key_of words.2
+  Ok (Update txn ts key)
+
+unfoldable pub finish_of : List (List ℕ) → Result Action Fault
+finish_of args = do
+  words ← two_of args
+  txn ← txn_of words.0
+  key ← key_of words.1
+  Ok (Finish txn key)
+
+-- a call of no words
+abbrev pub alone : Action → List (List ℕ) → Result Action Fault
+alone action args = do
+  end ← none_of args
+  Ok action
+
+unfoldable pub action_named : List ℕ → List (List ℕ) → Result Action Fault
+action_named name args =
+    if bytes_eq name (codes "open") then open_of args
+    else if bytes_eq name (codes "scan") then alone Scan args
+    else if bytes_eq name (codes "await") then alone Await args
+    else if bytes_eq name (codes "look") then look_of args
+    else if bytes_eq name (codes "acquire") then acquire_of args
+    else if bytes_eq name (codes "update") then update_of args
+    else if bytes_eq name (codes "finish") then finish_of args
+    else if bytes_eq name (codes "leave") then alone Leave args
+    else Err BadCall
+
+abbrev pub action_of : List (List ℕ) → Result Action Fault
+action_of [] = Err BadCall
+action_of (name ∷ args) = action_named name args
+
+-- ---- lines
+
+-- what the words of a line say; without words nothing
+abbrev pub saying_of : List (List ℕ) → Result (Option Saying) Fault
+saying_of [] = Ok None
+saying_of (word ∷ words) = do
+  pass ← pass_of word
+  action ← action_of words
+  Ok (Some (record { pass = pass; action = action }))
+
+-- what a line says, or its first fault
+abbrev pub line_of : List ℕ → Result (Option Saying) Fault
+line_of line = if is_comment line then Ok None else saying_of (words_of line)
+
+-- ---- texts
+
+abbrev pub command_at : ℕ → Saying → Command
+command_at n s = record { line = n; pass = s.pass; action = s.action }
+
+abbrev pub onto : Command → Result (List Command) ScriptError → Result (List Command) ScriptError
+onto c (Ok cs) = Ok (c ∷ cs)
+onto c (Err e) = Err e
+
+-- what line n says, and then what the lines after it say
+abbrev pub then_lines : ℕ → Result (Option Saying) Fault → Result (List Command) ScriptError → Result (List Command) ScriptError
+then_lines n (Err fault) after = Err (errors.Fault n fault)
+then_lines n (Ok None) after = after
+then_lines n (Ok (Some s)) after = onto (command_at n s) after
+
+-- the commands of these lines, the first of which has number n; or the first faulty line and its first fault
+abbrev pub commands_from : ℕ → List (List ℕ) → Result (List Command) ScriptError
+commands_from n [] = Ok []
+commands_from n (line ∷ lines) = then_lines n (line_of line) (commands_from (n + 1) lines)
+
+-- the commands of a script, or its first faulty line and the first fault there
+abbrev pub commands_of : List ℕ → Result (List Command) ScriptError
+commands_of text = commands_from 1 (script_lines text)
+
+-- A fault that is told is the first one; want of memory says nothing.
+abbrev pub IsTold : ScriptError → Result (List Command) ScriptError → Type 0
+IsTold errors.Memory read = Unit {0}
+IsTold (errors.Fault line fault) read = read ≡ Err (errors.Fault line fault)
+
+abbrev pub told : Refusal → ℕ → ScriptError
+told refusals.Memory line = errors.Memory
+told (refusals.Fault fault) line = errors.Fault line fault
+
+-- the commands so far, and those that are still read
+abbrev pub with_front : List Command → Result (List Command) ScriptError → Result (List Command) ScriptError
+with_front front (Ok cs) = Ok (front ++ cs)
+with_front front (Err e) = Err e
+
+-- the commands so far, and that of line n
+abbrev pub with_said : ℕ → List Command → Option Saying → List Command
+with_said n front None = front
+with_said n front (Some s) = front ++ command_at n s ∷ []
+
+abbrev pub lines_so_far : ℕ → List Command → Result (Option Saying) Fault → Result (List Command) Fault
+lines_so_far n front read = read >>= λ saying. Ok (with_said n front saying)

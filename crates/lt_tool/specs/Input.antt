@@ -1,0 +1,11 @@
+-- What is read of a text.
+use Rattle.std.specs.Prelude.{ℕ, ◌≡◌, List, ◌++◌, length, Option}
+use Rattle.std.specs.Io.KnownBytes.{Consumes, IsAtEnd}
+
+-- One read put so many bytes behind the text, which the reader has lost; none only at its end.
+pub record IsPiece (before after : Option (List ℕ)) (old new : List ℕ) (n : ℕ) : Type 0 where
+  pub bytes : List ℕ
+  pub grown : new ≡ old ++ bytes
+  pub count : length bytes ≡ n
+  pub taken : Consumes before after bytes
+  pub at_end : n ≡ 0 → IsAtEnd after

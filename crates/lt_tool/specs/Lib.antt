@@ -1,0 +1,9 @@
+pub mod Answers
+pub mod Guards
+pub mod Slots
+pub mod Input
+pub mod Ranges
+pub mod Recorded
+pub mod Deeds
+pub mod Output
+pub mod Program

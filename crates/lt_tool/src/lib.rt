@@ -1,0 +1,24 @@
+//! Runs a script of calls over an empty lock table, and tells what became of it.
+//!
+//! [`run_script`] reads a script, checks it whole, runs its lines in their order on one thread, and writes one answer
+//! for each line and then the histories of the keys. It promises that the answers are those of the script's lines,
+//! in the stated order; that the histories are legal; that each answer which reports a step has its own step in them,
+//! later lines later ones; that a script is refused just with its first fault; and that nothing but a front of the
+//! output is written where it fails. [`status`] and [`complain`] are what the program `lockrun` ends with.
+//!
+//! `specs/Output.antt` says what a run writes, `specs/Deeds.antt` what each line did, and `specs/Answers.antt` how an
+//! answer is written. `docs/FORMATS.md` has the same for readers. In `src/`, `recorder` keeps the table together with
+//! the steps that were made of it, `guard` has the requests of the passes, and `desk` does what a line asks for.
+#![tactic(auto)]
+
+mod answer;
+mod desk;
+mod guard;
+mod input;
+mod output;
+mod program;
+mod recorder;
+mod run;
+
+pub use program::{Failure, complain, no_words, status};
+pub use run::{Finish, Options, RunError, run_script};

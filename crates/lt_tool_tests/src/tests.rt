@@ -1,0 +1,252 @@
+use lt_script::Fault;
+use lt_tool::{Failure, Finish, Options, RunError, complain, run_script, status};
+use std::io;
+use std::io::{Read, Write};
+use std::test::*;
+
+/// What each run shows, its script, and what it writes.
+const RUNS: [(&str, &str, &str); 20] = [
+    ("an empty script", "", "locks 1\n"),
+    (
+        "a reader at the time of the holder waits",
+        "1 acquire 7 20.0 a\n2 open 8 20.0 a:r\n2 scan\n2 look a\n",
+        "1 1 taken\n2 2 request 1\n2 3 waiting a\n2 4 first 7 held\nlocks 1\na 1 1 acquire 7 20.0 = taken\na 2 2 visit 1.1 8 20.0 r = wait\na 3 2 look 1 = first 7 held\n",
+    ),
+    (
+        "a reader below the time of the holder passes",
+        "1 acquire 7 20.0 a\n2 open 8 19.4294967295 a:r\n2 scan\n3 open 9 20.1 a:r\n3 scan\n1 finish 7 a\n",
+        "1 1 taken\n1 6 freed\n2 2 request 1\n2 3 proceed\n3 4 request 2\n3 5 waiting a\nlocks 1\na 1 1 acquire 7 20.0 = taken\na 2 2 visit 1.1 8 19.4294967295 r = pass\na 3 3 visit 2.1 9 20.1 r = wait\na 4 1 finish 7 = freed let 2.1\n",
+    ),
+    (
+        "a freed lock goes to the writer of the least number",
+        "3 acquire 9 10.0 a\n1 open 1 10.0 a:w\n2 open 2 10.0 a:w\n2 scan\n1 scan\n3 finish 9 a\n1 await\n2 look a\n",
+        "1 2 request 1\n1 5 waiting a\n1 7 let\n2 3 request 2\n2 4 waiting a\n2 8 first 1 reserved\n3 1 taken\n3 6 freed\nlocks 1\na 1 3 acquire 9 10.0 = taken\na 2 2 visit 2.1 2 10.0 w = wait\na 3 1 visit 1.1 1 10.0 w = wait\na 4 3 finish 9 = freed let 1.1\na 5 2 look 2 = first 1 reserved\n",
+    ),
+    (
+        "a smaller number takes the reservation",
+        "3 acquire 9 10.0 a\n1 open 1 10.0 a:w\n2 open 2 10.0 a:w\n2 scan\n3 finish 9 a\n1 scan\n2 look a\n1 look a\n",
+        "1 2 request 1\n1 6 proceed\n1 8 reserved\n2 3 request 2\n2 4 waiting a\n2 7 idle\n3 1 taken\n3 5 freed\nlocks 1\na 1 3 acquire 9 10.0 = taken\na 2 2 visit 2.1 2 10.0 w = wait\na 3 3 finish 9 = freed let 2.1\na 4 1 visit 1.1 1 10.0 w = pass\na 5 2 look 2 = idle\na 6 1 look 1 = reserved\n",
+    ),
+    (
+        "a writer that does not wait any more gets the reservation unlet",
+        "3 acquire 9 10.0 a\n1 open 1 10.0 a:w\n2 open 2 10.0 a:w\n2 scan\n3 finish 9 a\n1 scan\n2 look a\n1 look a\n1 acquire 1 11.0 a\n1 finish 1 a\n2 look a\n2 await\n2 scan\n2 scan\n",
+        "1 2 request 1\n1 6 proceed\n1 8 reserved\n1 9 taken\n1 10 freed\n2 3 request 2\n2 4 waiting a\n2 7 idle\n2 11 reserved\n2 12 let\n2 13 rescan\n2 14 proceed\n3 1 taken\n3 5 freed\nlocks 1\na 1 3 acquire 9 10.0 = taken\na 2 2 visit 2.1 2 10.0 w = wait\na 3 3 finish 9 = freed let 2.1\na 4 1 visit 1.1 1 10.0 w = pass\na 5 2 look 2 = idle\na 6 1 look 1 = reserved\na 7 1 acquire 1 11.0 = taken\na 8 1 finish 1 = freed\na 9 2 look 2 = reserved\na 10 2 visit 2.2 2 10.0 w = pass\n",
+    ),
+    (
+        "a lock is taken over a reservation",
+        "3 acquire 9 10.0 a\n1 open 1 10.0 a:w\n2 open 2 10.0 a:w\n1 scan\n2 scan\n3 finish 9 a\n3 acquire 5 12.0 a\n1 look a\n2 look a\n",
+        "1 2 request 1\n1 4 waiting a\n1 8 idle\n2 3 request 2\n2 5 waiting a\n2 9 first 5 held\n3 1 taken\n3 6 freed\n3 7 taken\nlocks 1\na 1 3 acquire 9 10.0 = taken\na 2 1 visit 1.1 1 10.0 w = wait\na 3 2 visit 2.1 2 10.0 w = wait\na 4 3 finish 9 = freed let 1.1\na 5 3 acquire 5 12.0 = taken\na 6 1 look 1 = idle\na 7 2 look 2 = first 5 held\n",
+    ),
+    (
+        "an acquire lets the writers of its own transaction through",
+        "3 acquire 9 10.0 a\n1 open 4 10.0 a:w\n2 open 4 10.0 a:w\n1 scan\n2 scan\n3 finish 9 a\n2 look a\n1 acquire 4 10.0 a\n2 await\n",
+        "1 2 request 1\n1 4 waiting a\n1 8 taken\n2 3 request 2\n2 5 waiting a\n2 7 own 4\n2 9 let\n3 1 taken\n3 6 freed\nlocks 1\na 1 3 acquire 9 10.0 = taken\na 2 1 visit 1.1 4 10.0 w = wait\na 3 2 visit 2.1 4 10.0 w = wait\na 4 3 finish 9 = freed let 1.1\na 5 2 look 2 = own 4\na 6 1 acquire 4 10.0 = taken let 2.1\n",
+    ),
+    (
+        "a raised time lets the readers below it through",
+        "3 acquire 9 10.0 a\n1 open 1 12.0 a:r\n1 scan\n2 open 2 15.0 a:r\n2 scan\n3 update 9 15.0 a\n1 await\n2 look a\n2 await\n",
+        "1 2 request 1\n1 3 waiting a\n1 7 let\n2 4 request 2\n2 5 waiting a\n2 8 first 9 held\n2 9 waiting\n3 1 taken\n3 6 raised\nlocks 1\na 1 3 acquire 9 10.0 = taken\na 2 1 visit 1.1 1 12.0 r = wait\na 3 2 visit 2.1 2 15.0 r = wait\na 4 3 update 9 15.0 = raised let 1.1\na 5 2 look 2 = first 9 held\n",
+    ),
+    (
+        "a lower time is kept, and others change nothing",
+        "1 acquire 7 20.0 a\n1 acquire 7 5.0 a\n1 update 7 20.0 a\n2 acquire 8 30.0 a\n2 update 8 40.0 a\n2 finish 8 a\n2 finish 8 b\n",
+        "1 1 taken\n1 2 kept\n1 3 kept\n2 4 other\n2 5 other\n2 6 other\n2 7 other\nlocks 1\na 1 1 acquire 7 20.0 = taken\na 2 1 acquire 7 5.0 = kept\na 3 1 update 7 20.0 = kept\na 4 2 acquire 8 30.0 = other\na 5 2 update 8 40.0 = other\na 6 2 finish 8 = other\nb 1 2 finish 8 = other\n",
+    ),
+    (
+        "a leave gives the reservation on",
+        "3 acquire 9 10.0 a\n1 open 1 10.0 a:w\n2 open 2 10.0 a:w\n1 scan\n2 scan\n3 finish 9 a\n1 leave\n2 await\n2 leave\n3 open 6 1.0 a:r\n3 leave\n",
+        "1 2 request 1\n1 4 waiting a\n1 7 done\n2 3 request 2\n2 5 waiting a\n2 8 let\n2 9 done\n3 1 taken\n3 6 freed\n3 10 request 3\n3 11 done\nlocks 1\na 1 3 acquire 9 10.0 = taken\na 2 1 visit 1.1 1 10.0 w = wait\na 3 2 visit 2.1 2 10.0 w = wait\na 4 3 finish 9 = freed let 1.1\na 5 1 leave 1 = left let 2.1\na 6 2 leave 2 = left\na 7 3 leave 3 = absent\n",
+    ),
+    (
+        "a scan of a request that waits is refused",
+        "1 acquire 7 20.0 a\n2 open 8 20.0 a:r\n2 scan\n2 look a\n2 scan\n",
+        "1 1 taken\n2 2 request 1\n2 3 waiting a\n2 4 first 7 held\n2 5 refused StillWaiting\nlocks 1\na 1 1 acquire 7 20.0 = taken\na 2 2 visit 1.1 8 20.0 r = wait\na 3 2 look 1 = first 7 held\n",
+    ),
+    (
+        "a key of 64 bytes",
+        "1 open 1 1.0 kkkkkkkkkkkkkkkkkkkkkkkkkkkkkkkkkkkkkkkkkkkkkkkkkkkkkkkkkkkkkkkk:r\n1 scan\n",
+        "1 1 request 1\n1 2 proceed\nlocks 1\nkkkkkkkkkkkkkkkkkkkkkkkkkkkkkkkkkkkkkkkkkkkkkkkkkkkkkkkkkkkkkkkk 1 1 visit 1.1 1 1.0 r = pass\n",
+    ),
+    (
+        "readers are let through before the first writer",
+        "4 acquire 9 10.0 a\n1 open 1 12.0 a:r\n1 scan\n2 open 2 15.0 a:r\n2 scan\n3 open 3 1.0 a:w\n3 scan\n4 finish 9 a\n3 look a\n",
+        "1 2 request 1\n1 3 waiting a\n2 4 request 2\n2 5 waiting a\n3 6 request 3\n3 7 waiting a\n3 9 reserved\n4 1 taken\n4 8 freed\nlocks 1\na 1 4 acquire 9 10.0 = taken\na 2 1 visit 1.1 1 12.0 r = wait\na 3 2 visit 2.1 2 15.0 r = wait\na 4 3 visit 3.1 3 1.0 w = wait\na 5 4 finish 9 = freed let 2.1 1.1 3.1\na 6 3 look 3 = reserved\n",
+    ),
+    (
+        "the distinguished waiter leaves",
+        "4 acquire 9 10.0 a\n1 open 1 12.0 a:r\n1 scan\n2 open 2 15.0 a:r\n2 scan\n3 open 3 1.0 a:w\n3 scan\n3 look a\n1 leave\n3 look a\n2 look a\n",
+        "1 2 request 1\n1 3 waiting a\n1 9 done\n2 4 request 2\n2 5 waiting a\n2 11 first 9 held\n3 6 request 3\n3 7 waiting a\n3 8 for 9 held\n3 10 for 9 held\n4 1 taken\nlocks 1\na 1 4 acquire 9 10.0 = taken\na 2 1 visit 1.1 1 12.0 r = wait\na 3 2 visit 2.1 2 15.0 r = wait\na 4 3 visit 3.1 3 1.0 w = wait\na 5 3 look 3 = for 9 held\na 6 1 leave 1 = left\na 7 3 look 3 = for 9 held\na 8 2 look 2 = first 9 held\n",
+    ),
+    (
+        "two keys apart",
+        "1 acquire 7 20.0 a\n2 acquire 8 20.0 b\n1 finish 7 a\n2 finish 8 b\n",
+        "1 1 taken\n1 3 freed\n2 2 taken\n2 4 freed\nlocks 1\na 1 1 acquire 7 20.0 = taken\na 2 1 finish 7 = freed\nb 1 2 acquire 8 20.0 = taken\nb 2 2 finish 8 = freed\n",
+    ),
+    (
+        "a scan without a request",
+        "1 scan\n",
+        "1 1 none\nlocks 1\n",
+    ),
+    (
+        "a look at a key that was not named",
+        "1 open 7 1.0 a:r\n1 look b\n",
+        "1 1 request 1\n1 2 stranger\nlocks 1\n",
+    ),
+    (
+        "an update of a pass with a request",
+        "1 open 7 1.0 a:w\n1 acquire 7 1.0 a\n1 update 7 2.0 a\n",
+        "1 1 request 1\n1 2 taken\n1 3 raised\nlocks 1\na 1 1 acquire 7 1.0 = taken\na 2 1 update 7 2.0 = raised\n",
+    ),
+    (
+        "a let of an earlier wait lets nothing through",
+        "2 acquire 9 1.0 a\n2 acquire 9 1.0 b\n1 open 1 1.0 a:w\n1 scan\n2 finish 9 a\n1 leave\n1 open 1 1.0 b:w\n1 scan\n1 await\n2 finish 9 b\n1 await\n",
+        "1 3 request 1\n1 4 waiting a\n1 6 done\n1 7 request 2\n1 8 waiting b\n1 9 waiting\n1 11 let\n2 1 taken\n2 2 taken\n2 5 freed\n2 10 freed\nlocks 1\na 1 2 acquire 9 1.0 = taken\na 2 1 visit 1.1 1 1.0 w = wait\na 3 2 finish 9 = freed let 1.1\na 4 1 leave 1 = left\nb 1 2 acquire 9 1.0 = taken\nb 2 1 visit 2.1 1 1.0 w = wait\nb 3 2 finish 9 = freed let 2.1\n",
+    ),
+];
+
+/// A writer that takes some bytes at once, and fails once it holds so many.
+#[derive(Drop)]
+struct Paper {
+    bytes: [u8; 1024],
+    len: usize,
+    at_once: usize,
+    stops_at: usize,
+}
+
+fn blank(at_once: usize, stops_at: usize) -> Paper {
+    Paper {
+        bytes: [0; 1024],
+        len: 0,
+        at_once,
+        stops_at,
+    }
+}
+
+impl Paper {
+    fn written(&self) -> &[u8] {
+        match self.bytes.get(..self.len) {
+            Some(written) => written,
+            None => &[],
+        }
+    }
+}
+
+impl Write for Paper {
+    fn write(&mut self, buf: &[u8]) -> io::Result<usize> {
+        let end = self.stops_at.min(1024);
+        if self.len >= end {
+            return Err(io::Error::from(io::ErrorKind::Other));
+        }
+        let n = buf.len().min(self.at_once).min(end - self.len);
+        let upto = self.len + n;
+        self.bytes[self.len..upto].copy_from_slice(&buf[..n]);
+        self.len = upto;
+        Ok(n)
+    }
+
+    fn flush(&mut self) -> io::Result<()> {
+        Ok(())
+    }
+}
+
+/// A reader that gives the same byte for ever, or fails at its second read.
+#[derive(Drop)]
+struct Source {
+    reads: usize,
+    is_torn: bool,
+}
+
+impl Read for Source {
+    fn read(&mut self, buf: &mut [u8]) -> io::Result<usize> {
+        if self.is_torn && self.reads == 1 {
+            return Err(io::Error::from(io::ErrorKind::Other));
+        }
+        self.reads = 1;
+        buf.fill(b'\n');
+        Ok(buf.len())
+    }
+}
+
+/// One run, and a second one where the first was refused memory: then nothing was written.
+fn run(rt: &HostRuntime, script: &str, writer: &mut Paper) -> Result<Finish, RunError> {
+    for _ in 0..2 {
+        let ended = run_script(
+            rt.alloc(),
+            &mut script.as_bytes(),
+            writer,
+            &Options::default(),
+        );
+        if ended != Err(RunError::Memory) || writer.len != 0 {
+            return ended;
+        }
+    }
+    Err(RunError::Memory)
+}
+
+/// The answers and the histories of each script, also where a writer takes three bytes at once.
+#[test]
+fn scripts_are_answered_and_their_steps_told(rt: HostRuntime) {
+    for (what, script, output) in RUNS {
+        for at_once in [3, 1024] {
+            let mut writer = blank(at_once, 1024);
+            assert_eq!(rt; run(&rt, script, &mut writer), Ok(Finish::Done), "{what}");
+            assert_eq!(rt; writer.written(), output.as_bytes(), "{what}");
+        }
+    }
+}
+
+/// Where a run fails nothing is written but a front of the output, and the program says why.
+#[test]
+fn failures_are_told(rt: HostRuntime) {
+    for (script, error, code, message) in [
+        (
+            "1 acquire 7 20.0 a\n0 scan\n",
+            RunError::Script {
+                line: 2,
+                fault: Fault::BadPass,
+            },
+            1,
+            "lockrun: line 2: BadPass\n",
+        ),
+        ("", RunError::Write, 5, "lockrun: write\n"),
+    ] {
+        let mut writer = blank(1024, 5);
+        let ended = run(&rt, script, &mut writer);
+        assert_eq!(rt; ended, Err(error));
+        let is_write = error == RunError::Write;
+        assert_eq!(rt;
+            writer.written(),
+            if is_write {
+                b"locks".as_slice()
+            } else {
+                b"".as_slice()
+            }
+        );
+        let failure = Failure::Run(error);
+        let mut told = blank(1, 1024);
+        assert_eq!(rt; complain(&mut told, &failure), Ok(()));
+        assert_eq!(rt; told.written(), message.as_bytes());
+        assert_eq!(rt; status(&Err(failure)), code);
+    }
+}
+
+/// A reader that fails, and one that never ends.
+#[test]
+fn readers_that_fail_or_never_end(rt: HostRuntime) {
+    for (is_torn, error) in [(true, RunError::Read), (false, RunError::TooLong)] {
+        let mut writer = blank(1024, 1024);
+        let mut ended = Err(RunError::Memory);
+        for _ in 0..2 {
+            if ended == Err(RunError::Memory) {
+                ended = run_script(
+                    rt.alloc(),
+                    &mut Source { reads: 0, is_torn },
+                    &mut writer,
+                    &Options::default(),
+                );
+            }
+        }
+        assert_eq!(rt; ended, Err(error));
+        assert_eq!(rt; writer.len, 0);
+    }
+}
