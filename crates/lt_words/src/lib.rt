@@ -22,9 +22,11 @@ mod law;
 mod line;
 mod name;
 mod pass;
+mod sharding;
 
 pub use book::Book;
 pub use event::Event;
 pub use front::Front;
 pub use name::Name;
 pub use pass::Pass;
+pub use sharding::shard_of;
