@@ -1,0 +1,78 @@
+-- What a log of draws and steps says, and which are legal. The opening entry says nothing here.
+use Rattle.std.specs.Prelude.{ℕ, ◌≡◌, ◌+◌, ◌==◌, ◌⊎◌, ◌%◌, List, [], ◌∷◌, map, if◌then◌else◌}
+use Rattle.std.specs.List.{sum}
+use Rattle.lt_ids.specs.Ticket.{Wait}
+use Rattle.lt_ids.specs.declared.ticket.Through.{Through}
+use Rattle.lt_plain.specs.Record.{Record, empty}
+use Rattle.lt_plain.specs.Step.{step, record_after}
+use Rattle.lt_history.specs.declared.entry.Entry.{Entry}
+use Rattle.lt_history.specs.Histories.{event_of, AreLegalKeys}
+use Rattle.lt_history.specs.Histories.{part as key_part}
+use Rattle.lt_words.specs.declared.event.Event.{Event}
+use Rattle.lt_words.specs.declared.event.Event.TheVariants.{Opened, Draw, Step}
+
+-- the shard of a key, among so many: the sum of its bytes
+abbrev pub shard_of : List ℕ → ℕ → ℕ
+shard_of key shards = sum key % shards
+
+-- the steps of all shards, in order
+abbrev pub steps_of : List Event → List Entry
+steps_of [] = []
+steps_of (Opened shards passes ∷ h) = steps_of h
+steps_of (Draw pass number ∷ h) = steps_of h
+steps_of (Step shard entry ∷ h) = entry ∷ steps_of h
+
+-- the steps of one shard, in order
+abbrev pub part : ℕ → List Event → List Entry
+part s [] = []
+part s (Opened shards passes ∷ h) = part s h
+part s (Draw pass number ∷ h) = part s h
+part s (Step shard entry ∷ h) = if s == shard then entry ∷ part s h else part s h
+
+-- how many draws there are
+abbrev pub draws_of : List Event → ℕ
+draws_of [] = 0
+draws_of (Opened shards passes ∷ h) = draws_of h
+draws_of (Draw pass number ∷ h) = draws_of h + 1
+draws_of (Step shard entry ∷ h) = draws_of h
+
+-- Each draw gives the next number, after n draws.
+abbrev pub DrawsCount : ℕ → List Event → Type 0
+DrawsCount n [] = Unit {0}
+DrawsCount n (Opened shards passes ∷ h) = DrawsCount n h
+DrawsCount n (Draw pass number ∷ h) = (number ≡ n + 1) × DrawsCount (n + 1) h
+DrawsCount n (Step shard entry ∷ h) = DrawsCount n h
+
+-- Each step is of its key's shard.
+abbrev pub StepsAtHome : ℕ → List Event → Type 0
+StepsAtHome shards [] = Unit {0}
+StepsAtHome shards (Opened s p ∷ h) = StepsAtHome shards h
+StepsAtHome shards (Draw pass number ∷ h) = StepsAtHome shards h
+StepsAtHome shards (Step shard entry ∷ h) = (shard ≡ shard_of entry.key shards) × StepsAtHome shards h
+
+-- A legal table history: each key's part is legal, each step is of its key's shard, and the k-th draw gives k.
+pub record IsLegalHistory (shards : ℕ) (h : List Event) : Type 0 where
+  pub keys : AreLegalKeys (steps_of h)
+  pub home : StepsAtHome shards h
+  pub draws : DrawsCount 0 h
+
+-- the record of a key after these steps
+abbrev pub record_of : List ℕ → List Entry → Record
+record_of key es = record_after empty (map event_of (key_part key es))
+
+-- The entry may come next: its reply and its lets are those of the rules at its key's record.
+pub record MayFollow (es : List Entry) (e : Entry) : Type 0 where
+  pub reply : e.reply ≡ (step (record_of e.key es) e.pass e.call).reply
+  pub lets : e.lets ≡ (step (record_of e.key es) e.pass e.call).lets
+
+-- Among these lets is one of this pass with this ticket.
+abbrev pub Among : List Through → ℕ → Wait → Type 0
+Among [] p t = ⊥
+Among (x ∷ xs) p t = ((x.pass ≡ p) × (x.ticket ≡ t)) ⊎ Among xs p t
+
+-- Some step lets this ticket of this pass through.
+abbrev pub LetIn : List Event → ℕ → Wait → Type 0
+LetIn [] p t = ⊥
+LetIn (Opened shards passes ∷ h) p t = LetIn h p t
+LetIn (Draw pass number ∷ h) p t = LetIn h p t
+LetIn (Step shard entry ∷ h) p t = Among entry.lets p t ⊎ LetIn h p t

@@ -1,0 +1,92 @@
+-- The row of words of a book, and what a pass and a front carry.
+use Rattle.std.specs.Prelude.{ℕ, ◌≡◌, ◌+◌, ◌<◌, ◌≤◌, List, [], ◌∷◌, ◌++◌, length, slice_index, slice_index_or, replicate, zero, suc}
+use mathlib.Core.List.{IsPrefix}
+use Rattle.logbook.specs.Pages.{Book}
+use Rattle.lt_words.specs.declared.event.Event.{Event}
+use Rattle.lt_words.specs.declared.event.Event.TheVariants.{Opened, Draw, Step}
+use Rattle.lt_words.specs.declared.line.Line.{Line}
+use Rattle.lt_words.specs.History.{part}
+use Rattle.lt_words.specs.Rules.{word_at, history_of, IsLog}
+
+-- how many shards and passes a book may have
+pub record AreSizes (shards passes : ℕ) : Type 0 where
+  pub some_shards : 0 < shards
+  pub few_shards : shards ≤ 64
+  pub some_passes : 0 < passes
+  pub few_passes : passes ≤ 1024
+
+-- which book it is, and its numbers of shards and passes
+pub record Opening : Type 0 where
+  pub book : Book
+  pub shards : ℕ
+  pub passes : ℕ
+
+-- each word is the book's, at its place: the number word, 64 step words, and a status word for each pass
+pub record IsRow (of : Opening) (lines : List Line) : Type 0 where
+  pub sizes : AreSizes of.shards of.passes
+  pub many : length lines ≡ of.passes + 65
+  pub each : (k : ℕ) (d : Line) → k < length lines → (slice_index_or lines k d).word ≡ word_at of.book k
+
+-- the numbers that a log opens with
+abbrev pub shards_in : List Event → ℕ
+shards_in [] = 0
+shards_in (Opened shards passes ∷ h) = shards
+shards_in (Draw pass number ∷ h) = 0
+shards_in (Step shard entry ∷ h) = 0
+
+abbrev pub passes_in : List Event → ℕ
+passes_in [] = 0
+passes_in (Opened shards passes ∷ h) = passes
+passes_in (Draw pass number ∷ h) = 0
+passes_in (Step shard entry ∷ h) = 0
+
+abbrev pub opening_of : Book → List Event → Opening
+opening_of book log = record { book = book; shards = shards_in log; passes = passes_in log }
+
+-- what a front has seen: of which book, and which beginning of its table history
+pub record Sight : Type 0 where
+  pub of : Opening
+  pub seen : List Event
+
+abbrev pub sight_of : Book → List Event → Sight
+sight_of book log = record { of = opening_of book log; seen = history_of log }
+
+abbrev pub IsOpenLog : List Event → Type 0
+IsOpenLog log = IsLog (shards_in log) (passes_in log) log
+
+-- what a pass carries: of which book it is, its number, what it has seen, and its steps at each shard
+pub record Seer : Type 0 where
+  pub of : Opening
+  pub number : ℕ
+  pub seen : List Event
+  pub counts : List ℕ
+
+abbrev pub seer : ℕ → Sight → List ℕ → Seer
+seer number sight counts = record { of = sight.of; number = number; seen = sight.seen; counts = counts }
+
+-- The pass is one of the book's, and no count is above that shard's steps that it has seen.
+pub record IsPass (p : Seer) : Type 0 where
+  pub low : 0 < p.number
+  pub high : p.number ≤ p.of.passes
+  pub many : length p.counts ≡ p.of.shards
+  pub within : (s : ℕ) → slice_index p.counts s ≤ length (part s p.seen)
+
+-- The pass or front is of this book, and it goes on to have seen more.
+abbrev pub GoesTo : List Event → (List Event → Type 0) → Event → List Event → Type 0
+GoesTo old P e new = (h : List Event) × IsPrefix old h × P h × (new ≡ h ++ e ∷ [])
+
+-- nothing but what it has seen changed, which only grew
+pub record SeesMore (old new : Seer) : Type 0 where
+  pub of : new.of ≡ old.of
+  pub number : new.number ≡ old.number
+  pub counts : new.counts ≡ old.counts
+  pub seen : IsPrefix old.seen new.seen
+
+-- a pass that has seen nothing and made no step
+abbrev pub fresh : Opening → ℕ → Seer
+fresh of number = record { of = of; number = number; seen = []; counts = replicate of.shards 0 }
+
+-- the passes of a new book, from 1 on
+abbrev pub fresh_passes : Opening → ℕ → List Seer
+fresh_passes of zero = []
+fresh_passes of (suc n) = fresh_passes of n ++ fresh of (suc n) ∷ []

@@ -1,0 +1,204 @@
+ghost use Rattle.std.specs.Prelude.{◌≡◌, ◌+◌, ◌<◌, ◌≤◌, ◌^◌, ◌∷◌, ◌++◌, List, [], length, slice_index, slice_set, IfSome, IfNone, IfOk};
+ghost use mathlib.Core.List.{IsPrefix};
+ghost use Rattle.lt_words.specs.declared.event.Event.{Event};
+ghost use Rattle.lt_words.specs.declared.event.Event.TheVariants.{Draw, Step};
+ghost use Rattle.lt_words.specs.History.{part, draws_of, shard_of, LetIn, MayFollow};
+ghost use Rattle.lt_words.specs.Rules.{IsStatus};
+ghost use Rattle.lt_words.specs.Row.{AreSizes, GoesTo, SeesMore, fresh_passes};
+
+use crate::event::Event;
+use crate::front::Front;
+use crate::law::{Law, Opens, Sizes};
+use crate::line::Line;
+use crate::pass::Pass;
+use logbook::{Seen, Start, Word};
+use lt_history::Entry;
+use lt_ids::Ticket;
+use std::alloc::{AllocError, Global};
+use std::marker::Model;
+use std::sync::Wait;
+
+/// The words that all threads share: the number word, 64 step words, and a status word for each pass. Contracts see
+/// which book it is, and its numbers of shards and passes.
+#[derive(Drop)]
+pub struct Book {
+    pub(crate) lines: Vec<Line>,
+    pub(crate) start: Front,
+}
+
+impl Model for Book {
+    ghost use Rattle.std.specs.Prelude.{◌≡◌, []};
+    ghost use Rattle.lt_words.specs.Row.{Opening, IsRow};
+
+    ghost Value = { Opening };
+
+    ghost view = { λ b. b.start.of };
+
+    ghost invariant = { λ b. IsRow b.start.of b.lines.items × (b.start.seen ≡ []) };
+}
+
+/// A row of words that hold 0, and an empty history.
+fn open_row(alloc: Global, shards: usize, passes: usize) -> Result<Book, AllocError>
+    requires { AreSizes shards passes }
+    ensures { IfOk result (λ b. (b.shards ≡ shards) × (b.passes ≡ passes)) }
+{
+    let many = passes + 65;
+    let mut lines = Vec::new(alloc);
+    let (start, mut pens) = Seen::open_row::<Sizes, Opens>(
+        &Sizes { shards, passes },
+        Start::alone(),
+        many,
+    );
+    for i in 0..many {
+        let mut pen = pens.take();
+        lines.push(Line::new(Word::tracked(0, &mut pen)))?;
+    }
+    Ok(Book {
+        lines,
+        start: Front::begins(start),
+    })
+}
+
+impl Book {
+    /// Opens a book of 1 to 64 shards and 1 to 1024 passes: a row of words that hold 0, an empty history, and its
+    /// passes, which have seen nothing and made no step. It is the one call of a book that takes memory.
+    pub fn open(
+        alloc: Global,
+        shards: usize,
+        passes: usize,
+    ) -> Result<(Book, Vec<Pass>), AllocError>
+        requires { AreSizes shards passes }
+        ensures shards { IfOk result (λ r. r.0.shards ≡ shards) }
+        ensures passes { IfOk result (λ r. r.0.passes ≡ passes) }
+        ensures handed { IfOk result (λ r. r.1.items ≡ fresh_passes r.0 passes) }
+    {
+        let book = open_row(alloc, shards, passes)?;
+        let all = book.all_passes(alloc, shards, passes)?;
+        Ok((book, all))
+    }
+
+    fn all_passes(
+        &self,
+        alloc: Global,
+        shards: usize,
+        passes: usize,
+    ) -> Result<Vec<Pass>, AllocError>
+        requires shards { self.now.shards ≡ shards }
+        requires passes { self.now.passes ≡ passes }
+        ensures { IfOk result (λ all. all.items ≡ fresh_passes self.now passes) }
+    {
+        let mut all = Vec::new(alloc);
+        for i in 0..passes {
+            all.push(Pass::fresh(alloc, &self.start, shards, i)?)?;
+        }
+        Ok(all)
+    }
+
+    /// A front that has seen nothing, for a shard to keep.
+    pub fn front(&self) -> Front
+        ensures of { result.of ≡ self.now }
+        ensures seen { result.seen ≡ [] }
+    {
+        self.start.again()
+    }
+
+    /// Draws the next number, or sees that there were `max` draws. It tries again until its exchange succeeds.
+    pub fn draw<R: Wait>(&self, rt: &R, pass: &mut Pass, max: u64) -> Option<u64>
+        requires of { self.now ≡ pass.old.of }
+        requires max { max < 2 ^ 63 }
+        ensures some { IfSome result (λ n. (0 < n) × (n ≤ max) × GoesTo pass.old.seen (λ h. draws_of h + 1 ≡ n) (Draw pass.old.number n) pass.new.seen) }
+        ensures none { IfNone result (max ≤ draws_of pass.new.seen) }
+        ensures more { SeesMore pass.old pass.new }
+    {
+        pass.seen.draw(rt, self, pass.number, max)
+    }
+
+    /// The number of draws in the history that is then seen. It waits for nobody.
+    pub fn drawn(&self, pass: &mut Pass) -> u64
+        requires { self.now ≡ pass.old.of }
+        ensures draws { result ≡ draws_of pass.new.seen }
+        ensures more { SeesMore pass.old pass.new }
+    {
+        pass.seen.count(self)
+    }
+
+    /// Makes a step of a shard of which the front has `count` steps: the shard's word goes from `count` to
+    /// `count + 1`, and in that instant the history gains the entry. It tries again until its exchange succeeds.
+    /// Afterwards pass and front have seen one history.
+    pub fn commit<R: Wait>(
+        &self,
+        rt: &R,
+        pass: &mut Pass,
+        front: &mut Front,
+        shard: usize,
+        count: u64,
+        entry: &Entry,
+    )
+        requires pass_of { self.now ≡ pass.old.of }
+        requires front_of { self.now ≡ front.old.of }
+        requires room { count < 2 ^ 32 }
+        requires count { length (part shard front.old.seen) ≡ count }
+        requires own { entry.now.pass ≡ pass.old.number }
+        requires home { shard ≡ shard_of entry.now.key self.now.shards }
+        requires next { MayFollow (part shard front.old.seen) entry.now }
+        ensures of { (pass.new.of ≡ self.now) × (front.new.of ≡ self.now) }
+        ensures one { front.new.seen ≡ pass.new.seen }
+        ensures step { (h : List Event) × IsPrefix pass.old.seen h × IsPrefix front.old.seen h × (part shard h ≡ part shard front.old.seen) × (pass.new.seen ≡ h ++ Step shard entry.now ∷ []) }
+        ensures stored { part shard front.new.seen ≡ part shard front.old.seen ++ entry.now ∷ [] }
+        ensures counted { pass.new.counts ≡ slice_set pass.old.counts shard (slice_index pass.old.counts shard + 1) }
+        ensures number { pass.new.number ≡ pass.old.number }
+    {
+        let _ = &self.lines;
+        pass.seen.learn(front);
+        pass.seen.step(rt, self, front, shard, count, entry);
+        *front = pass.seen.again();
+        let counts = &mut pass.counts;
+        counts[shard] += 1;
+    }
+
+    /// Afterwards pass and front have seen one history, which has just `count` steps of the shard. It tries again
+    /// until its exchange succeeds.
+    pub fn exact<R: Wait>(
+        &self,
+        rt: &R,
+        pass: &mut Pass,
+        front: &mut Front,
+        shard: usize,
+        count: u64,
+    )
+        requires pass_of { self.now ≡ pass.old.of }
+        requires front_of { self.now ≡ front.old.of }
+        requires shard { shard < self.now.shards }
+        ensures more { SeesMore pass.old pass.new }
+        ensures of { front.new.of ≡ self.now }
+        ensures one { front.new.seen ≡ pass.new.seen }
+        ensures seen { IsPrefix front.old.seen front.new.seen }
+        ensures exact { length (part shard front.new.seen) ≡ count }
+    {
+        let _ = &self.lines;
+        pass.seen.learn(front);
+        pass.seen.meet(rt, self, shard, count);
+        *front = pass.seen.again();
+    }
+
+    /// Shows a let, which the pass has seen, to the pass that waits. It tries again until its exchange succeeds.
+    pub fn signal<R: Wait>(&self, rt: &R, pass: &mut Pass, to_pass: u32, ticket: Ticket)
+        requires of { self.now ≡ pass.old.of }
+        requires low { 0 < to_pass }
+        requires high { to_pass ≤ self.now.passes }
+        requires through { LetIn pass.old.seen to_pass ticket }
+        ensures more { SeesMore pass.old pass.new }
+    {
+        pass.seen.signal(rt, self, to_pass, ticket);
+    }
+
+    /// The pass's own status word: 0, or the value of a ticket of its that was let through. It waits for nobody.
+    pub fn read(&self, pass: &mut Pass) -> u64
+        requires { self.now ≡ pass.old.of }
+        ensures status { IsStatus pass.new.seen pass.old.number result }
+        ensures more { SeesMore pass.old pass.new }
+    {
+        let number = pass.number;
+        pass.seen.status(self, number)
+    }
+}

@@ -1,0 +1,288 @@
+ghost use Rattle.std.specs.Prelude.{◌≡◌, ◌+◌, ◌<◌, ◌≤◌, ◌^◌, ◌∷◌, ◌++◌, List, [], length, MatchBool, IfSome, IfNone};
+ghost use mathlib.Core.List.{IsPrefix};
+ghost use Rattle.lt_ids.specs.Ticket.{Wait, value_of};
+ghost use Rattle.lt_words.specs.declared.event.Event.{Event};
+ghost use Rattle.lt_words.specs.declared.event.Event.TheVariants.{Opened, Draw, Step};
+ghost use Rattle.lt_words.specs.History.{part, draws_of, shard_of, IsLegalHistory, LetIn, MayFollow};
+ghost use Rattle.lt_words.specs.Rules.{IsStatus, IsLog, history_of};
+ghost use Rattle.lt_words.specs.Row.{GoesTo, IsOpenLog, sight_of};
+
+use crate::book::Book;
+use crate::event::Event;
+use crate::law::{
+    AddDraw, AddStep, Asks, Count, Drawing, Law, Meet, Nothing, Read, Signal, Stepping,
+};
+use logbook::{Offer, Seen};
+use lt_history::Entry;
+use lt_ids::Ticket;
+use std::marker::Model;
+use std::snapshot::Snapshot;
+use std::sync::Wait;
+
+/// A beginning of a book's table history that was seen. Contracts see the book and the events.
+#[derive(Drop)]
+pub struct Front {
+    seen: Seen<Event, u64, Law>,
+}
+
+impl Model for Front {
+    ghost use Rattle.lt_words.specs.Row.{Sight, sight_of, IsOpenLog};
+
+    ghost Value = { Sight };
+
+    ghost view = { λ f. sight_of f.seen.book f.seen.log };
+
+    ghost invariant = { λ f. IsOpenLog f.seen.log };
+}
+
+impl Front {
+    /// The front of a book that was just opened.
+    pub(crate) fn begins(seen: Seen<Event, u64, Law>) -> Front
+        requires { IsOpenLog seen.log }
+        ensures { result ≡ sight_of seen.book seen.log }
+    {
+        Front { seen }
+    }
+
+    /// A copy.
+    pub fn again(&self) -> Front
+        ensures { result ≡ self.now }
+    {
+        Front {
+            seen: self.seen.again(),
+        }
+    }
+
+    /// What was seen is legal.
+    pub fn legal(&self)
+        ensures { IsLegalHistory self.now.of.shards self.now.seen }
+    {
+        let _ = &self.seen;
+    }
+
+    /// Afterwards it has seen what both had.
+    pub fn learn(&mut self, other: &Front)
+        requires { other.now.of ≡ self.old.of }
+        ensures of { self.new.of ≡ self.old.of }
+        ensures this { IsPrefix self.old.seen self.new.seen }
+        ensures that { IsPrefix other.now.seen self.new.seen }
+    {
+        self.seen.learn(&other.seen);
+    }
+
+    /// The number of draws in the history that is then seen.
+    pub(crate) fn count(&mut self, book: &Book) -> u64
+        requires { book.now ≡ self.old.of }
+        ensures of { self.new.of ≡ self.old.of }
+        ensures seen { IsPrefix self.old.seen self.new.seen }
+        ensures count { result ≡ draws_of self.new.seen }
+    {
+        let mut offer: Offer<Event, u64, Law, Nothing> = self
+            .seen
+            .plain::<Nothing, Drawing, Asks>(&Drawing { pass: 0, number: 0 });
+        let word = &book.lines[0].word;
+        word.load::<Count, Nothing>(&mut self.seen, &mut offer)
+    }
+
+    /// Tries to draw the number after `old`.
+    pub(crate) fn try_draw(&mut self, book: &Book, pass: u32, old: u64) -> bool
+        requires of { book.now ≡ self.old.of }
+        requires room { old < 2 ^ 63 }
+        ensures of { self.new.of ≡ self.old.of }
+        ensures went { MatchBool result (GoesTo self.old.seen (λ h. draws_of h ≡ old) (Draw pass (old + 1)) self.new.seen) (IsPrefix self.old.seen self.new.seen) }
+    {
+        let number = old + 1;
+        let mut offer: Offer<Event, u64, Law, Nothing> = self
+            .seen
+            .plain::<Nothing, Drawing, Asks>(&Drawing { pass, number });
+        let mut pen = self.seen.no_pen();
+        let word = &book.lines[0].word;
+        let found = word.compare_exchange::<AddDraw, Nothing>(
+            old,
+            number,
+            &mut self.seen,
+            &mut offer,
+            &mut pen,
+        );
+        found == old
+    }
+
+    /// Tries to make a step, where `from` has `count` steps of the shard.
+    pub(crate) fn try_step(
+        &mut self,
+        book: &Book,
+        from: &Front,
+        shard: usize,
+        count: u64,
+        entry: &Entry,
+    ) -> bool
+        requires of { book.now ≡ self.old.of }
+        requires room { count < 2 ^ 63 }
+        requires begins { IsPrefix from.now.seen self.old.seen }
+        requires count { length (part shard from.now.seen) ≡ count }
+        requires home { shard ≡ shard_of entry.now.key self.old.of.shards }
+        requires next { MayFollow (part shard from.now.seen) entry.now }
+        ensures of { self.new.of ≡ self.old.of }
+        ensures went { MatchBool result (GoesTo self.old.seen (λ h. length (part shard h) ≡ count) (Step shard entry.now) self.new.seen) (IsPrefix self.old.seen self.new.seen) }
+    {
+        let next = count + 1;
+        let mut offer: Offer<Event, u64, Law, Nothing> = self.seen.plain::<Nothing, Stepping, Asks>(
+            &Stepping {
+                shard,
+                entry: Snapshot::of(entry),
+            },
+        );
+        let mut pen = self.seen.no_pen();
+        let word = &book.lines[shard + 1].word;
+        let found = word.compare_exchange::<AddStep, Nothing>(
+            count,
+            next,
+            &mut self.seen,
+            &mut offer,
+            &mut pen,
+        );
+        found == count
+    }
+
+    /// Tries to see the history where it has just `count` steps of the shard.
+    pub(crate) fn try_meet(&mut self, book: &Book, shard: usize, count: u64) -> bool
+        requires of { book.now ≡ self.old.of }
+        requires shard { shard < 64 }
+        ensures of { self.new.of ≡ self.old.of }
+        ensures seen { IsPrefix self.old.seen self.new.seen }
+        ensures met { MatchBool result (length (part shard self.new.seen) ≡ count) (Unit {0}) }
+    {
+        let mut offer: Offer<Event, u64, Law, Nothing> = self
+            .seen
+            .plain::<Nothing, Drawing, Asks>(&Drawing { pass: 0, number: 0 });
+        let mut pen = self.seen.no_pen();
+        let word = &book.lines[shard + 1].word;
+        let found = word.compare_exchange::<Meet, Nothing>(
+            count,
+            count,
+            &mut self.seen,
+            &mut offer,
+            &mut pen,
+        );
+        found == count
+    }
+
+    /// The status word of a pass.
+    pub(crate) fn status(&mut self, book: &Book, pass: u32) -> u64
+        requires of { book.now ≡ self.old.of }
+        requires low { 0 < pass }
+        requires high { pass ≤ self.old.of.passes }
+        ensures of { self.new.of ≡ self.old.of }
+        ensures seen { IsPrefix self.old.seen self.new.seen }
+        ensures status { IsStatus self.new.seen pass result }
+    {
+        let mut offer: Offer<Event, u64, Law, Nothing> = self
+            .seen
+            .plain::<Nothing, Drawing, Asks>(&Drawing { pass: 0, number: 0 });
+        let word = &book.lines[pass as usize + 64].word;
+        word.load::<Read, Nothing>(&mut self.seen, &mut offer)
+    }
+
+    /// Tries to write a ticket that was let through into the status word of its pass.
+    pub(crate) fn try_signal(&mut self, book: &Book, pass: u32, old: u64, ticket: Ticket) -> bool
+        requires of { book.now ≡ self.old.of }
+        requires low { 0 < pass }
+        requires high { pass ≤ self.old.of.passes }
+        requires through { LetIn self.old.seen pass ticket }
+        ensures of { self.new.of ≡ self.old.of }
+        ensures seen { IsPrefix self.old.seen self.new.seen }
+    {
+        let mut offer: Offer<Event, u64, Law, Nothing> = self
+            .seen
+            .plain::<Nothing, Drawing, Asks>(&Drawing { pass: 0, number: 0 });
+        let mut pen = self.seen.no_pen();
+        let word = &book.lines[pass as usize + 64].word;
+        let found = word.compare_exchange::<Signal, Nothing>(
+            old,
+            ticket.value(),
+            &mut self.seen,
+            &mut offer,
+            &mut pen,
+        );
+        found == old
+    }
+
+    /// Draws the next number, up to `max`.
+    pub(crate) fn draw<R: Wait>(&mut self, rt: &R, book: &Book, pass: u32, max: u64) -> Option<u64>
+        requires of { book.now ≡ self.old.of }
+        requires room { max < 2 ^ 63 }
+        ensures of { self.new.of ≡ self.old.of }
+        ensures some { IfSome result (λ n. (0 < n) × (n ≤ max) × GoesTo self.old.seen (λ h. draws_of h + 1 ≡ n) (Draw pass n) self.new.seen) }
+        ensures none { IfNone result (max ≤ draws_of self.new.seen) }
+        ensures seen { IsPrefix self.old.seen self.new.seen }
+    {
+        for _ in rt.forever() {
+            let old = self.count(book);
+            if old >= max {
+                return None;
+            }
+            if self.try_draw(book, pass, old) {
+                return Some(old + 1);
+            }
+        }
+        unreachable!()
+    }
+
+    /// Makes a step, where `from` has `count` steps of the shard.
+    pub(crate) fn step<R: Wait>(
+        &mut self,
+        rt: &R,
+        book: &Book,
+        from: &Front,
+        shard: usize,
+        count: u64,
+        entry: &Entry,
+    )
+        requires of { book.now ≡ self.old.of }
+        requires room { count < 2 ^ 63 }
+        requires begins { IsPrefix from.now.seen self.old.seen }
+        requires count { length (part shard from.now.seen) ≡ count }
+        requires home { shard ≡ shard_of entry.now.key self.old.of.shards }
+        requires next { MayFollow (part shard from.now.seen) entry.now }
+        ensures of { self.new.of ≡ self.old.of }
+        ensures step { GoesTo self.old.seen (λ h. length (part shard h) ≡ count) (Step shard entry.now) self.new.seen }
+    {
+        for _ in rt.forever() {
+            if self.try_step(book, from, shard, count, entry) {
+                break;
+            }
+        }
+    }
+
+    /// Sees the history where it has just `count` steps of the shard.
+    pub(crate) fn meet<R: Wait>(&mut self, rt: &R, book: &Book, shard: usize, count: u64)
+        requires of { book.now ≡ self.old.of }
+        requires shard { shard < 64 }
+        ensures of { self.new.of ≡ self.old.of }
+        ensures seen { IsPrefix self.old.seen self.new.seen }
+        ensures met { length (part shard self.new.seen) ≡ count }
+    {
+        for _ in rt.forever() {
+            if self.try_meet(book, shard, count) {
+                break;
+            }
+        }
+    }
+
+    /// Writes a ticket that was let through into the status word of its pass.
+    pub(crate) fn signal<R: Wait>(&mut self, rt: &R, book: &Book, pass: u32, ticket: Ticket)
+        requires of { book.now ≡ self.old.of }
+        requires low { 0 < pass }
+        requires high { pass ≤ self.old.of.passes }
+        requires through { LetIn self.old.seen pass ticket }
+        ensures of { self.new.of ≡ self.old.of }
+        ensures seen { IsPrefix self.old.seen self.new.seen }
+    {
+        for _ in rt.forever() {
+            let old = self.status(book, pass);
+            if self.try_signal(book, pass, old, ticket) {
+                break;
+            }
+        }
+    }
+}

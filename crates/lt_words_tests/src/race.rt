@@ -1,0 +1,165 @@
+ghost use Rattle.std.specs.Prelude.{◌≡◌, ◌<◌, ◌≤◌, ◌^◌, IfOk, IfSome, []};
+ghost use Rattle.lt_words.specs.Row.{Opening};
+
+use lt_history::{Entry, Lets};
+use lt_ids::{IdError, Key, TxnId};
+use lt_plain::{Call, Reply};
+use lt_words::{Book, Pass, shard_of};
+use std::alloc::{AllocError, Global};
+use std::sync::Wait;
+use std::thread::{Threads, join};
+
+/// What a worker hands back: its pass, the numbers that it drew, and the steps that it made.
+#[derive(Drop)]
+pub struct Worked {
+    pub pass: Pass,
+    pub numbers: Vec<u64>,
+    pub steps: u64,
+}
+
+/// The step of a finish at a key that nobody holds.
+fn idle_finish(alloc: Global, byte: u8, pass: u32, txn: TxnId) -> Result<Entry, IdError>
+    ensures pass { IfOk result (λ e. e.pass ≡ pass) }
+    ensures call { IfOk result (λ e. e.call ≡ Call.Finish txn) }
+    ensures reply { IfOk result (λ e. e.reply ≡ Reply.Other) }
+    ensures lets { IfOk result (λ e. e.lets ≡ []) }
+{
+    let key = Key::from_bytes(alloc, &[byte])?;
+    Ok(Entry {
+        key,
+        pass,
+        call: Call::Finish { txn },
+        reply: Reply::Other,
+        lets: Lets::new(Vec::new(alloc)),
+    })
+}
+
+/// Makes the first step of the shard of this key.
+fn first_step<R: Wait>(
+    rt: &R,
+    book: &Book,
+    pass: &mut Pass,
+    shards: usize,
+    entry: &Entry,
+    txn: TxnId,
+)
+    requires of { book.now ≡ pass.old.of }
+    requires shards { book.now.shards ≡ shards }
+    requires some { 0 < shards }
+    requires own { entry.now.pass ≡ pass.old.number }
+    requires call { entry.now.call ≡ Call.Finish txn }
+    requires reply { entry.now.reply ≡ Reply.Other }
+    requires lets { entry.now.lets ≡ [] }
+    ensures of { pass.new.of ≡ pass.old.of }
+    ensures number { pass.new.number ≡ pass.old.number }
+{
+    let mut front = book.front();
+    let shard = shard_of(&entry.key, shards);
+    book.commit(rt, pass, &mut front, shard, 0, entry);
+}
+
+/// Draws numbers, and makes the first step of 16 shards of 64, whose keys are one byte from `first` on.
+fn work<R: Wait>(
+    rt: &R,
+    alloc: Global,
+    book: &Book,
+    mut pass: Pass,
+    first: u8,
+    draws: u64,
+) -> Option<Worked>
+    requires of { book.now ≡ pass.of }
+    requires shards { book.now.shards ≡ 64 }
+    requires keys { first ≤ 100 }
+    ensures { IfSome result (λ w. w.pass.of ≡ pass.of) }
+{
+    let txn = TxnId::new(8)?;
+    let mut numbers = Vec::new(alloc);
+    for _ in 0..draws {
+        let number = book.draw(rt, &mut pass, 1 << 40)?;
+        numbers.push(number).ok()?;
+    }
+    let mut steps = 0;
+    for k in 0..16 {
+        let entry = idle_finish(alloc, first + k, pass.number(), txn).ok()?;
+        first_step(rt, book, &mut pass, 64, &entry, txn);
+        steps += 1;
+    }
+    Some(Worked {
+        pass,
+        numbers,
+        steps,
+    })
+}
+
+/// Two workers at once.
+pub fn two_workers<R: Threads + Wait + Sync>(
+    rt: &R,
+    alloc: Global,
+    book: &Book,
+    one: Pass,
+    two: Pass,
+    first: u8,
+    draws: u64,
+) -> (Option<Worked>, Option<Worked>)
+    requires one { book.now ≡ one.of }
+    requires two { book.now ≡ two.of }
+    requires shards { book.now.shards ≡ 64 }
+    requires keys { first ≤ 84 }
+    ensures one { IfSome result.0 (λ w. w.pass.of ≡ book.now) }
+    ensures two { IfSome result.1 (λ w. w.pass.of ≡ book.now) }
+{
+    join(
+        rt,
+        || -> Option<Worked>
+            requires { (book.now ≡ one.of) × (book.now.shards ≡ 64) × (first ≤ 84) }
+            ensures { IfSome result (λ w. w.pass.of ≡ book.entry.now) }
+        { work(rt, alloc, book, one, first, draws) },
+        || -> Option<Worked>
+            requires { (book.now ≡ two.of) × (book.now.shards ≡ 64) × (first ≤ 84) }
+            ensures { IfSome result (λ w. w.pass.of ≡ book.entry.now) }
+        { work(rt, alloc, book, two, first + 16, draws) },
+    )
+}
+
+/// Four workers at once.
+pub fn four_workers<R: Threads + Wait + Sync>(
+    rt: &R,
+    alloc: Global,
+    book: &Book,
+    passes: (Pass, Pass, Pass, Pass),
+    draws: u64,
+) -> Option<(Worked, Worked, Worked, Worked)>
+    requires one { book.now ≡ passes.0.of }
+    requires two { book.now ≡ passes.1.of }
+    requires three { book.now ≡ passes.2.of }
+    requires four { book.now ≡ passes.3.of }
+    requires shards { book.now.shards ≡ 64 }
+    ensures { IfSome result (λ w. w.3.pass.of ≡ book.now) }
+{
+    let (one, two, three, four) = passes;
+    let (front, back) = join(
+        rt,
+        || -> (Option<Worked>, Option<Worked>)
+            requires { (book.now ≡ one.of) × (book.now ≡ two.of) × (book.now.shards ≡ 64) }
+        { two_workers(rt, alloc, book, one, two, 33, draws) },
+        || -> (Option<Worked>, Option<Worked>)
+            requires { (book.now ≡ three.of) × (book.now ≡ four.of) × (book.now.shards ≡ 64) }
+            ensures { IfSome result.1 (λ w. w.pass.of ≡ book.entry.now) }
+        { two_workers(rt, alloc, book, three, four, 65, draws) },
+    );
+    let (a, b) = front;
+    let (c, d) = back;
+    Some((a?, b?, c?, d?))
+}
+
+/// Whether each of the 64 shards has just one step. Where one has another number of steps it does not return.
+pub fn one_step_each<R: Wait>(rt: &R, book: &Book, pass: &mut Pass)
+    requires of { book.now ≡ pass.old.of }
+    requires shards { book.now.shards ≡ 64 }
+    ensures { pass.new.of ≡ pass.old.of }
+{
+    for shard in 0..64 {
+        let mut front = book.front();
+        book.exact(rt, pass, &mut front, shard, 1);
+    }
+}

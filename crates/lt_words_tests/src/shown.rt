@@ -1,0 +1,121 @@
+ghost use Rattle.std.specs.Prelude.{◌≡◌, ◌<◌, ◌≤◌, ◌^◌, IfOk, IfSome, List, [], ◌∷◌, ◌++◌, length};
+ghost use Rattle.lt_words.specs.History.{part, MayFollow};
+ghost use Rattle.lt_words.specs.declared.event.Event.{Event};
+ghost use Rattle.lt_words.specs.declared.event.Event.TheVariants.{Step};
+ghost use Rattle.lt_words_tests.specs.Shown.{taking, waiting, freeing, first_wait};
+
+use lt_history::{Entry, Lets};
+use lt_ids::{Access, Key, Through, Ticket, Timestamp, TxnId};
+use lt_plain::{Call, Reply};
+use lt_words::{Book, Front, Pass};
+use std::alloc::Global;
+use std::sync::Wait;
+
+fn time() -> Timestamp
+    ensures { result ≡ record { wall = 10; logical = 0 } }
+{
+    Timestamp {
+        wall: 10,
+        logical: 0,
+    }
+}
+
+fn taking(alloc: Global, pass: u32) -> Option<Entry>
+    ensures { IfSome result (λ e. e ≡ taking pass) }
+{
+    let key = Key::from_bytes(alloc, b"a").ok()?;
+    let txn = TxnId::new(9)?;
+    Some(Entry {
+        key,
+        pass,
+        call: Call::Acquire { txn, ts: time() },
+        reply: Reply::Taken,
+        lets: Lets::new(Vec::new(alloc)),
+    })
+}
+
+fn waiting(alloc: Global, pass: u32) -> Option<Entry>
+    ensures { IfSome result (λ e. e ≡ waiting pass) }
+{
+    let key = Key::from_bytes(alloc, b"a").ok()?;
+    let txn = TxnId::new(1)?;
+    let ticket = Ticket::new(1, 1)?;
+    Some(Entry {
+        key,
+        pass,
+        call: Call::Visit {
+            ticket,
+            txn,
+            ts: time(),
+            access: Access::Write,
+        },
+        reply: Reply::MustWait,
+        lets: Lets::new(Vec::new(alloc)),
+    })
+}
+
+fn freeing(alloc: Global, pass: u32, waits: u32) -> Option<Entry>
+    ensures { IfSome result (λ e. e ≡ freeing pass waits) }
+{
+    let key = Key::from_bytes(alloc, b"a").ok()?;
+    let txn = TxnId::new(9)?;
+    let ticket = Ticket::new(1, 1)?;
+    let mut lets = Vec::new(alloc);
+    lets.push(Through {
+        pass: waits,
+        ticket,
+    })
+    .ok()?;
+    Some(Entry {
+        key,
+        pass,
+        call: Call::Finish { txn },
+        reply: Reply::Freed,
+        lets: Lets::new(lets),
+    })
+}
+
+/// A step of the key by a pass, which the front follows.
+fn step<R: Wait>(rt: &R, book: &Book, pass: &mut Pass, front: &mut Front, count: u64, entry: &Entry)
+    requires pass_of { book.now ≡ pass.old.of }
+    requires front_of { book.now ≡ front.old.of }
+    requires shards { book.now.shards ≡ 64 }
+    requires key { entry.now.key ≡ 97 ∷ [] }
+    requires own { entry.now.pass ≡ pass.old.number }
+    requires room { count < 2 ^ 32 }
+    requires count { length (part 33 front.old.seen) ≡ count }
+    requires next { MayFollow (part 33 front.old.seen) entry.now }
+    ensures pass_of { pass.new.of ≡ pass.old.of }
+    ensures front_of { front.new.of ≡ front.old.of }
+    ensures number { pass.new.number ≡ pass.old.number }
+    ensures stored { part 33 front.new.seen ≡ part 33 front.old.seen ++ entry.now ∷ [] }
+    ensures last { (h : List Event) × (pass.new.seen ≡ h ++ Step 33 entry.now ∷ []) }
+{
+    book.commit(rt, pass, front, 33, count, entry);
+}
+
+/// Takes the lock and frees it while another pass waits, and shows that pass its let.
+pub fn show_a_let<R: Wait>(
+    rt: &R,
+    alloc: Global,
+    book: &Book,
+    waiter: &mut Pass,
+    holder: &mut Pass,
+) -> Option<()>
+    requires waiter_of { book.now ≡ waiter.old.of }
+    requires holder_of { book.now ≡ holder.old.of }
+    requires shards { book.now.shards ≡ 64 }
+    ensures waiter_of { waiter.new.of ≡ waiter.old.of }
+    ensures holder_of { holder.new.of ≡ holder.old.of }
+{
+    let mut front = book.front();
+    let taken = taking(alloc, holder.number())?;
+    let waits = waiting(alloc, waiter.number())?;
+    let freed = freeing(alloc, holder.number(), waiter.number())?;
+    let ticket = Ticket::new(1, 1)?;
+    step(rt, book, holder, &mut front, 0, &taken);
+    step(rt, book, waiter, &mut front, 1, &waits);
+    step(rt, book, holder, &mut front, 2, &freed);
+    book.signal(rt, holder, waiter.number(), ticket);
+    Some(())
+}

@@ -1,0 +1,63 @@
+use crate::race::{four_workers, one_step_each, two_workers};
+use crate::shown::show_a_let;
+use lt_ids::Ticket;
+use lt_words::Book;
+use std::test::Fail;
+
+#[test]
+fn four_threads_draw_each_number_once_and_step_each_shard_once(
+    rt: HostRuntime,
+) -> Result<(), Fail> {
+    let (book, mut passes) = Book::open(rt.alloc(), 64, 4)?;
+    let four = passes.pop().ok_or("pass 4")?;
+    let three = passes.pop().ok_or("pass 3")?;
+    let two = passes.pop().ok_or("pass 2")?;
+    let one = passes.pop().ok_or("pass 1")?;
+    let (a, b, c, d) = four_workers(&rt, rt.alloc(), &book, (one, two, three, four), 500).ok_or(
+        "four workers",
+    )?;
+    let mut numbers = a.numbers;
+    numbers.extend_from_slice(&b.numbers)?;
+    numbers.extend_from_slice(&c.numbers)?;
+    numbers.extend_from_slice(&d.numbers)?;
+    numbers.sort()?;
+    assert_eq!(rt; numbers.first(), Some(&1));
+    assert_eq!(rt; numbers.last(), Some(&2000));
+    numbers.dedup();
+    assert_eq!(rt; numbers.len(), 2000);
+    let mut last = d.pass;
+    one_step_each(&rt, &book, &mut last);
+    assert_eq!(rt; book.drawn(&mut last), 2000);
+    Ok(())
+}
+
+#[test]
+fn two_threads_draw_each_number_once(rt: HostRuntime) -> Result<(), Fail> {
+    let (book, mut passes) = Book::open(rt.alloc(), 64, 2)?;
+    let two = passes.pop().ok_or("pass 2")?;
+    let one = passes.pop().ok_or("pass 1")?;
+    let (a, b) = two_workers(&rt, rt.alloc(), &book, one, two, 33, 1000);
+    let a = a.ok_or("the first worker")?;
+    let b = b.ok_or("the second worker")?;
+    let mut numbers = a.numbers;
+    numbers.extend_from_slice(&b.numbers)?;
+    numbers.sort()?;
+    assert_eq!(rt; numbers.first(), Some(&1));
+    assert_eq!(rt; numbers.last(), Some(&2000));
+    numbers.dedup();
+    assert_eq!(rt; numbers.len(), 2000);
+    Ok(())
+}
+
+#[test]
+fn a_poll_sees_a_let(rt: HostRuntime) -> Result<(), Fail> {
+    let (book, mut passes) = Book::open(rt.alloc(), 64, 2)?;
+    let mut holder = passes.pop().ok_or("pass 2")?;
+    let mut waiter = passes.pop().ok_or("pass 1")?;
+    assert_eq!(rt; book.read(&mut waiter), 0);
+    show_a_let(&rt, rt.alloc(), &book, &mut waiter, &mut holder).ok_or("the steps")?;
+    let ticket = Ticket::new(1, 1).ok_or("the ticket")?;
+    assert_eq!(rt; book.read(&mut waiter), ticket.value());
+    assert_eq!(rt; book.read(&mut holder), 0);
+    Ok(())
+}
