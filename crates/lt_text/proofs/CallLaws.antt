@@ -1,5 +1,5 @@
 -- A call that is read was written so, and each call is read again.
-use Rattle.std.proofs.Common.{◌≡◌, ℕ, ◌^◌, ◌<◌, ◌≤◌, ◌⊎◌, Bool, true, false, cond, List, [], ◌∷◌, ◌++◌, Option, Some, None, refl, sym, ap, subst, ◌∙◌, inl, inr, arith}
+use Rattle.std.proofs.Common.{◌≡◌, ℕ, ◌^◌, ◌⊎◌, Bool, true, false, cond, List, [], ◌∷◌, ◌++◌, Option, Some, None, refl, ap, subst, ◌∙◌, inl, inr, arith}
 use Rattle.std.specs.Prelude.{codes}
 use Rattle.std.specs.Str.{bytes_eq}
 use Rattle.std.specs.Fmt.{decimal}
@@ -10,7 +10,7 @@ use Rattle.lt_plain.specs.declared.call.Call.TheVariants.{Visit, Acquire, Update
 use Rattle.lt_text.specs.Maybe.{◌>>=◌}
 use Rattle.lt_text.specs.Fields.{ticket_word, time_word, access_word, number_within, ticket_of, time_of, access_of}
 use Rattle.lt_text.specs.Calls.{call_words, IsCall, field_at, visit_at, acquire_at, update_at, finish_at, leave_at, look_at, call_of, call_at}
-use Rattle.lt_text.proofs.Plain.{above, ArePlain}
+use Rattle.lt_text.proofs.Plain.{ArePlain}
 use Rattle.lt_text.proofs.FieldLaws.{bind_some, IsField, IsWithin, number_field, ticket_field, time_field, access_field, field_takes, field_again}
 
 pub txn_field : IsField ℕ (number_within 1 (2 ^ 64)) (λ n. decimal n) (IsWithin 1 (2 ^ 64))

@@ -1,5 +1,5 @@
 -- Each word inside a line: what is read was written so, what is written is read again, and it is plain.
-use Rattle.std.proofs.Common.{◌≡◌, ℕ, ◌^◌, ◌<◌, ◌≤◌, ◌⊎◌, ◌&&◌, Bool, true, false, cond, ltb, leb, eqb, List, [], ◌∷◌, ◌++◌, Option, Some, None, refl, sym, ap, subst, ◌∙◌, inl, inr, arith}
+use Rattle.std.proofs.Common.{◌≡◌, ℕ, ◌^◌, ◌<◌, ◌≤◌, ◌⊎◌, ◌&&◌, Bool, true, false, cond, ltb, leb, eqb, List, [], ◌∷◌, ◌++◌, Option, Some, None, refl, ap, subst, ◌∙◌, inl, inr, arith}
 use Rattle.std.specs.Prelude.{codes}
 use Rattle.std.specs.Str.{bytes_eq}
 use Rattle.std.specs.Fmt.{decimal}
@@ -7,14 +7,14 @@ use Rattle.std.specs.List.{All}
 use Rattle.std.proofs.lemmas.Bool.{and_parts, and_from, ltb-true, lt-ltb, leb-true, le-leb}
 use Rattle.std.proofs.lemmas.Option.{cond_some, some_pair_parts, same_Some}
 use Rattle.std.proofs.lemmas.Slice.Eq.{bytes_eq-Decides}
-use Rattle.lt_ids.specs.Ticket.{Wait, IsNumber}
+use Rattle.lt_ids.specs.Ticket.{Wait}
 use Rattle.lt_ids.specs.declared.timestamp.Timestamp.{Timestamp}
 use Rattle.lt_ids.specs.declared.request.Access.{Access}
 use Rattle.lt_ids.specs.declared.request.Access.TheVariants.{Read, Write}
 use Rattle.lt_text.specs.Maybe.{◌>>=◌}
 use Rattle.lt_text.specs.Words.{cut_of}
 use Rattle.lt_text.specs.Number.{number_of}
-use Rattle.lt_text.specs.Fields.{pair_word, ticket_word, time_word, access_word, IsTxn, IsTicket, IsTime, number_within, pair_of, ticket_of, time_of, access_of}
+use Rattle.lt_text.specs.Fields.{pair_word, ticket_word, time_word, access_word, IsTicket, IsTime, number_within, pair_of, ticket_of, time_of, access_of}
 use Rattle.lt_text.specs.Calls.{field_at}
 use Rattle.lt_text.specs.Replies.{held_word, held_of}
 use Rattle.lt_text.proofs.Numbers.{number_of_is, number_of-decimal}

@@ -1,5 +1,5 @@
 -- A reply that is read was written so, and each reply is read again.
-use Rattle.std.proofs.Common.{◌≡◌, ℕ, ◌^◌, ◌<◌, ◌≤◌, ◌⊎◌, Bool, true, false, cond, List, [], ◌∷◌, ◌++◌, Option, Some, None, refl, sym, ap, subst, ◌∙◌, inl, inr, arith}
+use Rattle.std.proofs.Common.{◌≡◌, ℕ, ◌^◌, Bool, true, List, [], ◌∷◌, ◌++◌, Option, Some, refl, sym, ap, subst, ◌∙◌, inl, inr}
 use Rattle.std.specs.Prelude.{codes, find}
 use Rattle.std.specs.List.{AllByRecursion}
 use Rattle.std.specs.Str.{bytes_eq}
@@ -12,8 +12,8 @@ use Rattle.lt_text.specs.Maybe.{◌>>=◌}
 use Rattle.lt_text.specs.Fields.{number_within}
 use Rattle.lt_text.specs.Calls.{field_at}
 use Rattle.lt_text.specs.Replies.{reply_name, reply_numbers, reply_words, held_word, held_of, IsReply, fixed_replies, fixed_reply, waits_at, own_at, reply_of, reply_at}
-use Rattle.lt_text.proofs.Plain.{above, ArePlain}
-use Rattle.lt_text.proofs.FieldLaws.{bind_some, IsField, IsWithin, held_field, field_takes, field_again}
+use Rattle.lt_text.proofs.Plain.{ArePlain}
+use Rattle.lt_text.proofs.FieldLaws.{bind_some, IsWithin, held_field, field_takes, field_again}
 use Rattle.lt_text.proofs.CallLaws.{txn_field, chosen}
 
 -- a reply of one word

@@ -1,5 +1,5 @@
 -- What the words inside a line spell, and how each is written.
-use Rattle.std.specs.Prelude.{ℕ, ◌^◌, ◌<◌, ◌≤◌, ◌&&◌, nat_lt, nat_le, if◌then◌else◌, List, [], ◌∷◌, ◌++◌, Option, Some, None, decimal, codes}
+use Rattle.std.specs.Prelude.{ℕ, ◌^◌, ◌<◌, ◌≤◌, ◌&&◌, nat_lt, nat_le, if◌then◌else◌, List, ◌∷◌, ◌++◌, Option, Some, None, decimal, codes}
 use Rattle.std.specs.Str.{bytes_eq}
 use Rattle.lt_ids.specs.Ticket.{Wait, IsNumber, IsWaitNumber}
 use Rattle.lt_ids.specs.declared.timestamp.Timestamp.{Timestamp}
