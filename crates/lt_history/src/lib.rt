@@ -15,7 +15,7 @@
 //!   is refused by its first faulty line and the first fault in it, and no text has two verdicts. Want of memory alone
 //!   can keep it from its verdict, and is told only before a faulty line (`specs/Verdict.antt`).
 //!
-//! `specs/Lines.antt` has the form of a line, `specs/Text.antt` the order of faults; `docs/FORMATS-history.md` tells
+//! `specs/Lines.antt` has the form of a line, `specs/Text.antt` the order of faults; `docs/FORMATS.md` tells
 //! the format to a stranger. `src/composer.rt` is the writer's side, `src/checker.rt` the reader's.
 #![tactic(auto)]
 

@@ -1,5 +1,5 @@
 -- Whose passes stand at a key, and are let through.
-use Rattle.std.proofs.Common.{◌≡◌, ℕ, Bool, true, false, not, cond, List, [], ◌∷◌, ◌++◌, map, filter, take, drop, Option, Some, None, IfSome, refl, subst, sym, nat_eq}
+use Rattle.std.proofs.Common.{◌≡◌, ℕ, Bool, true, not, List, [], ◌∷◌, ◌++◌, map, filter, take, drop, Option, Some, None, IfSome, nat_eq}
 use Rattle.std.specs.List.{AllByRecursion}
 use Rattle.std.specs.Prelude.{slice_get}
 use Rattle.std.specs.Option.{option_map}
@@ -17,7 +17,7 @@ use Rattle.lt_plain.specs.declared.call.Reply.{Reply}
 use Rattle.lt_plain.specs.declared.call.Reply.TheVariants.{Freed, Left}
 use Rattle.lt_plain.specs.Record.{Record, number_of, writer_number, through_of}
 use Rattle.lt_plain.specs.Rules.{Outcome, unchanged, free, raise_to, take_lock, set_back, is_of, active_requests, acquire_from, update_from, finish_from, leave, is_reserved_by, is_waiting, stop_reading}
-use Rattle.lt_plain.specs.Visit.{visit, visit_lock, is_queued, waiting, wait_to_write}
+use Rattle.lt_plain.specs.Visit.{visit_lock, is_queued, wait_to_write}
 use Rattle.lt_plain.specs.Step.{step}
 use Rattle.lt_plain.specs.Laws.{AreOf}
 use Rattle.lt_plain.proofs.Cases.{all_map, all_append}

@@ -1,8 +1,7 @@
 -- Three steps of one key: a transaction takes the lock, another waits to write, and the first frees the lock and lets it through.
-use Rattle.std.specs.Prelude.{ℕ, List, [], ◌∷◌}
+use Rattle.std.specs.Prelude.{ℕ, [], ◌∷◌}
 use Rattle.lt_ids.specs.declared.timestamp.Timestamp.{Timestamp}
 use Rattle.lt_ids.specs.declared.request.Access.TheVariants.{Write}
-use Rattle.lt_ids.specs.declared.ticket.Through.{Through}
 use Rattle.lt_ids.specs.Ticket.{Wait}
 use Rattle.lt_plain.specs.declared.call.Call.TheVariants.{Visit, Acquire, Finish}
 use Rattle.lt_plain.specs.declared.call.Reply.TheVariants.{Taken, MustWait, Freed}

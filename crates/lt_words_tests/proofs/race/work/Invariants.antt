@@ -1,4 +1,4 @@
-use Rattle.std.proofs.Common.{◌≡◌, ◌≤◌}
+use Rattle.std.proofs.Common.{◌≡◌}
 use Rattle.lt_words_tests.proofs.race.work.Given as goal
 
 abbrev pub invariant-loop : goal.invariant-loop

@@ -2,7 +2,6 @@ use Rattle.std.proofs.Common.{◌≡◌, ◌<◌, ◌∙◌, sym, ap, List, [], 
 use Rattle.std.proofs.lemmas.List.{get_or_read}
 use mathlib.Core.List.{IsPrefix}
 use Rattle.lt_words.specs.History.{part}
-use Rattle.lt_words.specs.Row.{Opening}
 use Rattle.lt_words.specs.declared.event.Event.{Event}
 use Rattle.lt_words.specs.declared.event.Event.TheVariants.{Step}
 use Rattle.lt_words.proofs.Prefixes.{prefix_trans}

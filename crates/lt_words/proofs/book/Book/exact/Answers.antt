@@ -1,5 +1,4 @@
-use Rattle.std.proofs.Common.{◌≡◌, ◌∙◌, ap, arith, refl}
-use mathlib.Core.List.{IsPrefix}
+use Rattle.std.proofs.Common.{◌∙◌, ap, arith, refl}
 use Rattle.lt_words.proofs.Prefixes.{prefix_trans}
 use Rattle.lt_words.proofs.Passes.{sight_on}
 use Rattle.lt_words.proofs.book.Book.exact.Goals as goal

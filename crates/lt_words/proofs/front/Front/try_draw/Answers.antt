@@ -1,6 +1,6 @@
 use Rattle.std.proofs.Common.{◌≡◌, ◌+◌, sym, ◌∙◌, ap, refl, arith}
 use Rattle.lt_words.specs.Rules.{word_at}
-use Rattle.lt_words.specs.Row.{Opening, opening_of}
+use Rattle.lt_words.specs.Row.{opening_of}
 use Rattle.lt_words.proofs.Lines.{word_of}
 use Rattle.lt_words.proofs.Moving.{draw_moves}
 use Rattle.lt_words.proofs.front.Front.try_draw.Goals as goal

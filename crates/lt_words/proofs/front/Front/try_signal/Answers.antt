@@ -1,7 +1,7 @@
 use Rattle.std.proofs.Common.{◌≡◌, ◌+◌, ◌≤◌, sym, ◌∙◌, ap, arith}
 use Rattle.lt_words.specs.History.{LetIn}
 use Rattle.lt_words.specs.Rules.{word_at, history_of}
-use Rattle.lt_words.specs.Row.{Opening, opening_of, shards_in, passes_in}
+use Rattle.lt_words.specs.Row.{opening_of, shards_in, passes_in}
 use Rattle.lt_words.proofs.Lines.{word_of}
 use Rattle.lt_words.proofs.Moving.{signal_moves}
 use Rattle.lt_words.proofs.front.Front.try_signal.Goals as goal

@@ -3,7 +3,7 @@ use mathlib.Core.List.{IsPrefix}
 use Rattle.lt_words.specs.declared.event.Event.TheVariants.{Step}
 use Rattle.lt_words.specs.History.{shard_of}
 use Rattle.lt_words.specs.Rules.{word_at, history_of}
-use Rattle.lt_words.specs.Row.{Opening, opening_of, shards_in, passes_in}
+use Rattle.lt_words.specs.Row.{opening_of, shards_in, passes_in}
 use Rattle.lt_words.proofs.Lines.{word_of}
 use Rattle.lt_words.proofs.Moving.{step_moves, told_step}
 use Rattle.lt_words.proofs.front.Front.try_step.Goals as goal
