@@ -1,5 +1,6 @@
 //! Times the calls of the linked queues. Each round makes a batch of each kind of call, timed at once, and leaves the
-//! queue as long as it was. The nodes are found at the ends of the queue, which takes constant time.
+//! queue as long as it was. A number is looked up in an ordered map, so each length is timed twice: with as many numbers
+//! alive whatever the length, and with a number for each node. The nodes are found at the ends of the queue, which takes constant time.
 ghost use Rattle.std.specs.Prelude.{◌≡◌, ◌<◌, true, OnOk};
 ghost use Rattle.lt_links.specs.Maps.{has_record};
 
@@ -22,9 +23,20 @@ struct Spent {
     remove: Duration,
 }
 
-/// The same stand of another number.
-fn numbered(stand: &Stand, number: u64) -> Stand {
-    Stand { number, ..*stand }
+/// What stands at the nodes: the same stand under so many numbers in turn.
+#[derive(Clone, Copy)]
+struct Nodes {
+    stand: Stand,
+    numbers: u64,
+    ghost some: { 0 < numbers },
+}
+
+/// The stand of the next node, after so many.
+fn numbered(nodes: &Nodes, count: u64) -> Stand {
+    Stand {
+        number: count % nodes.numbers,
+        ..nodes.stand
+    }
 }
 
 /// Moves the last node to the front, so many times.
@@ -43,7 +55,7 @@ fn shift(links: &mut Links, queue: &Queue, times: u64)
 fn insert(
     links: &mut Links,
     queue: &Queue,
-    stand: &Stand,
+    nodes: &Nodes,
     from: u64,
     times: u64,
 ) -> Result<(), AllocError>
@@ -52,7 +64,7 @@ fn insert(
 {
     for more in 0..times {
         if let Some(last) = links.last(*queue) {
-            links.insert_after(last, numbered(stand, from.wrapping_add(more)))?;
+            links.insert_after(last, numbered(nodes, from.wrapping_add(more)))?;
         }
     }
     Ok(())
@@ -62,7 +74,7 @@ fn insert(
 fn push(
     links: &mut Links,
     queue: &Queue,
-    stand: &Stand,
+    nodes: &Nodes,
     from: u64,
     times: u64,
 ) -> Result<(), AllocError>
@@ -70,7 +82,7 @@ fn push(
     ensures { OnOk result (has_record links.new queue.now.id ≡ true) }
 {
     for more in 0..times {
-        links.push_front(*queue, numbered(stand, from.wrapping_add(more)))?;
+        links.push_front(*queue, numbered(nodes, from.wrapping_add(more)))?;
     }
     Ok(())
 }
@@ -94,7 +106,7 @@ fn round<R: Runtime>(
     rt: &R,
     links: &mut Links,
     queue: &Queue,
-    stand: &Stand,
+    nodes: &Nodes,
     from: u64,
     spent: &mut Spent,
 ) -> anyhow::Result<()>
@@ -106,11 +118,11 @@ fn round<R: Runtime>(
     spent.shift = spent.shift.saturating_add(start.elapsed(rt)?);
 
     let start = Instant::now(rt)?;
-    insert(links, queue, stand, from, BATCH)?;
+    insert(links, queue, nodes, from, BATCH)?;
     spent.insert = spent.insert.saturating_add(start.elapsed(rt)?);
 
     let start = Instant::now(rt)?;
-    push(links, queue, stand, from.wrapping_add(BATCH), BATCH)?;
+    push(links, queue, nodes, from.wrapping_add(BATCH), BATCH)?;
     spent.push = spent.push.saturating_add(start.elapsed(rt)?);
 
     let start = Instant::now(rt)?;
@@ -119,8 +131,10 @@ fn round<R: Runtime>(
     Ok(())
 }
 
-/// Times a queue of so many nodes, each of a number of its own.
-fn time<R: Runtime>(rt: &R, alloc: Global, size: u64) -> anyhow::Result<()> {
+/// Times a queue of so many nodes, which stand under so many numbers.
+fn time<R: Runtime>(rt: &R, alloc: Global, size: u64, numbers: u64) -> anyhow::Result<()>
+    requires { 0 < numbers }
+{
     let Some(txn) = TxnId::new(1) else {
         return Ok(());
     };
@@ -135,12 +149,13 @@ fn time<R: Runtime>(rt: &R, alloc: Global, size: u64) -> anyhow::Result<()> {
         wait: 1,
         active: true,
     };
+    let nodes = Nodes { stand, numbers };
     let mut links = Links::new(alloc);
     let queue = Queue {
         id: links.add_record()?,
         kind: QueueKind::Writers,
     };
-    push(&mut links, &queue, &stand, 0, size)?;
+    push(&mut links, &queue, &nodes, 0, size)?;
     let mut spent = Spent {
         shift: Duration::ZERO,
         insert: Duration::ZERO,
@@ -149,7 +164,7 @@ fn time<R: Runtime>(rt: &R, alloc: Global, size: u64) -> anyhow::Result<()> {
     };
     let mut from = size;
     for _ in 0..ROUNDS {
-        round(rt, &mut links, &queue, &stand, from, &mut spent)?;
+        round(rt, &mut links, &queue, &nodes, from, &mut spent)?;
         from = from.wrapping_add(2 * BATCH);
     }
     let push = each(&spent.push, BATCH);
@@ -171,9 +186,13 @@ fn each(spent: &Duration, calls: u64) -> u128
 
 /// Prints what the calls take.
 pub fn report<R: Runtime>(rt: &R, alloc: Global) -> anyhow::Result<()> {
+    println!(rt; "nanoseconds of a call, where the nodes are of 10 numbers")?;
+    for size in [10, 1000, 100000] {
+        time(rt, alloc, size, 10)?;
+    }
     println!(rt; "nanoseconds of a call, where each node is of a number of its own")?;
     for size in [10, 1000, 100000] {
-        time(rt, alloc, size)?;
+        time(rt, alloc, size, u64::MAX)?;
     }
     Ok(())
 }

@@ -83,6 +83,23 @@ fn each_fault_is_told_with_its_line(rt: HostRuntime) {
         ("1 open 7 1.0 :r", 1, Fault::BadKey),
         ("1 open 7 1.0 a", 1, Fault::BadAccess),
         ("1 finish 18446744073709551616 k", 1, Fault::BadTxn),
+        ("1 acq", 1, Fault::BadCall),
+        ("1 acquire 7 20", 1, Fault::BadWords),
+        (
+            "1 acquire 7 20.0 a\n2 open 8 19.4294967295 a",
+            2,
+            Fault::BadAccess,
+        ),
+        (
+            "1 acquire 7 20.0 a\n2 open 8 19.4294967295 a:",
+            2,
+            Fault::BadAccess,
+        ),
+        (
+            "1 open 1 1.0 kkkkkkkkkkkkkkkkkkkkkkkkkkkkkkkkkkkkkkkkkkkkkkkkkkkkkkkkkkkkkkkkk:r",
+            1,
+            Fault::BadKey,
+        ),
         ("# 0\n\n1 leave\r\n1 look \x7f\n0 scan", 4, Fault::BadKey),
     ] {
         assert_eq!(rt; first_fault(read(&rt, text)), Some((line, fault)), "{text}");

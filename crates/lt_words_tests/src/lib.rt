@@ -1,6 +1,7 @@
 //! The growing history on real threads: numbers are drawn and steps made through one book, and a let is polled.
 #![tactic(auto)]
 
+pub mod named;
 pub mod race;
 pub mod shown;
 #[cfg(test)]

@@ -1,3 +1,4 @@
+use crate::named::open_by_name;
 use crate::race::{four_workers, one_step_each, two_workers};
 use crate::shown::show_a_let;
 use lt_ids::Ticket;
@@ -59,5 +60,30 @@ fn a_poll_sees_a_let(rt: HostRuntime) -> Result<(), Fail> {
     let ticket = Ticket::new(1, 1).ok_or("the ticket")?;
     assert_eq!(rt; book.read(&mut waiter), ticket.value());
     assert_eq!(rt; book.read(&mut holder), 0);
+    Ok(())
+}
+
+#[test]
+fn a_refused_open_can_be_made_again(rt: HostRuntime) -> Result<(), Fail> {
+    let opened = match Book::open(rt.alloc(), 2, 3) {
+        Ok(opened) => opened,
+        Err(_) => Book::open(rt.alloc(), 2, 3)?,
+    };
+    let (book, mut passes) = opened;
+    assert_eq!(rt; passes.len(), 3);
+    let mut last = passes.pop().ok_or("pass 3")?;
+    assert_eq!(rt; last.number(), 3);
+    assert_eq!(rt; book.drawn(&mut last), 0);
+    Ok(())
+}
+
+#[test]
+fn a_book_is_used_by_its_name(rt: HostRuntime) -> Result<(), Fail> {
+    let named = match open_by_name(rt.alloc()) {
+        Ok(named) => named,
+        Err(_) => open_by_name(rt.alloc())?,
+    };
+    let (_book, front) = named;
+    front.legal();
     Ok(())
 }
