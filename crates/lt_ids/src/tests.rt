@@ -61,3 +61,17 @@ fn transactions_and_requests_keep_their_ranges(rt: HostRuntime) -> Result<(), Fa
     }
     Ok(())
 }
+
+#[test]
+fn a_refused_key_can_be_made_again(rt: HostRuntime) -> Result<(), Fail> {
+    let key = match Key::from_bytes(rt.alloc(), b"ab") {
+        Err(IdError::Memory) => Key::from_bytes(rt.alloc(), b"ab")?,
+        made => made?,
+    };
+    let copy = match key.copy() {
+        Ok(copy) => copy,
+        Err(_) => key.copy()?,
+    };
+    assert_eq!(rt; copy, key);
+    Ok(())
+}
