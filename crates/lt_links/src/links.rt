@@ -45,7 +45,8 @@ impl Links {
 
     /// No records and no nodes.
     pub fn new(alloc: Global) -> Self
-        ensures { result ≡ no_maps }
+        ensures none { result ≡ no_maps }
+        ensures sound { IsSound result }
     {
         Links {
             nodes: Slab::new(alloc),
@@ -60,6 +61,7 @@ impl Links {
         ensures adds { IfOk result (λ id. AddsRecord self.old self.new id) }
         ensures empty { IfOk result (λ id. IsEmpty self.new id) }
         ensures err { OnErr result (self.new ≡ self.old) }
+        ensures sound { IsSound self.new }
     {
         self.heads.reserve(1)?;
         let key = self.heads.insert_reserved(Heads::new());
@@ -70,7 +72,8 @@ impl Links {
     pub fn drop_record(&mut self, id: RecordId)
         requires record { has_record self.old id ≡ true }
         requires empty { IsEmpty self.old id }
-        ensures { DropsRecord self.old self.new id }
+        ensures drops { DropsRecord self.old self.new id }
+        ensures sound { IsSound self.new }
     {
         self.heads.remove(id.key());
     }
@@ -157,7 +160,8 @@ impl Links {
     /// Writes another stand of the same number at a node.
     pub fn set_stand(&mut self, node: NodeId, stand: Stand)
         requires { number_at self.old node ≡ Some stand.number }
-        ensures { SetsStand self.old self.new node stand }
+        ensures sets { SetsStand self.old self.new node stand }
+        ensures sound { IsSound self.new }
     {
         self.nodes[node.key()].stand = stand;
     }
@@ -167,6 +171,7 @@ impl Links {
         requires { HasNode self.old node }
         ensures stand { stand self.old node ≡ Some result }
         ensures removes { Removes self.old self.new node }
+        ensures sound { IsSound self.new }
     {
         let key = node.key();
         let place = self.nodes[key];
@@ -191,7 +196,8 @@ impl Links {
     pub fn move_front(&mut self, node: NodeId, queue: Queue)
         requires node { HasNode self.old node }
         requires queue { has_record self.old queue.id ≡ true }
-        ensures { MovesFront self.old self.new node queue }
+        ensures moves { MovesFront self.old self.new node queue }
+        ensures sound { IsSound self.new }
     {
         let key = node.key();
         let place = self.nodes[key];
@@ -213,6 +219,7 @@ impl Links {
         ensures fresh { IfOk result (λ node. stand_at self.old node ≡ None) }
         ensures pushes { IfOk result (λ node. PushesFront self.old self.new node queue stand) }
         ensures err { OnErr result (self.new ≡ self.old) }
+        ensures sound { IsSound self.new }
     {
         self.put_after(&queue, None, stand)
     }
@@ -224,6 +231,7 @@ impl Links {
         ensures fresh { IfOk result (λ new. stand_at self.old new ≡ None) }
         ensures inserts { IfOk result (λ new. InsertsAfter self.old self.new node new stand) }
         ensures err { OnErr result (self.new ≡ self.old) }
+        ensures sound { IsSound self.new }
     {
         let queue = self.queue_of(node);
         self.put_after(&queue, Some(node.key()), stand)
@@ -242,6 +250,7 @@ impl Links {
         ensures fresh { IfOk result (λ node. stand_at self.old node ≡ None) }
         ensures puts { IfOk result (λ node. PutsAfter self.old self.new queue.now at node stand) }
         ensures err { OnErr result (self.new ≡ self.old) }
+        ensures sound { IsSound self.new }
     {
         self.nodes.reserve(1)?;
         let key = self.nodes.vacant_key();

@@ -6,6 +6,7 @@ use Rattle.lt_links.specs.Maps.{Maps, AddsRecord}
 use Rattle.lt_links.proofs.Views.{record_is}
 use Rattle.lt_links.proofs.Edits.{Links-head_slots, maps-head_slots, Links-added, AddsRecord-added, IsEmpty-added}
 use Rattle.lt_links.specs.View.{maps_of}
+use Rattle.lt_links.proofs.Shows.{IsSound-links}
 use Rattle.lt_links.proofs.links.Links.add_record.Goals as goal
 
 pub invariant_of-self : goal.invariant_of-self
@@ -46,3 +47,13 @@ returns-clause-adds c =
 
 pub returns-clause-empty : goal.returns-clause-empty
 returns-clause-empty c = IsEmpty-added c.args.self.now _ c.new-2.result (returns-clause-fresh c) (returns-clause-adds c)
+
+pub returns-in_err-reserve-clause-sound : goal.returns-in_err-reserve-clause-sound
+returns-in_err-reserve-clause-sound c =
+    let inv = invariant_of-self c in
+    IsSound-links _ _ _ inv.queues inv.numbers inv.links
+
+pub returns-clause-sound : goal.returns-clause-sound
+returns-clause-sound c =
+    let inv = invariant_of-self-2 c in
+    IsSound-links _ _ _ inv.queues inv.numbers inv.links

@@ -2,6 +2,7 @@ use Rattle.std.proofs.Common.{◌≡◌, true, ◌∙◌, sym}
 use Rattle.lt_links.specs.Maps.{IsEmpty, has_record}
 use Rattle.lt_links.proofs.Views.{record_is}
 use Rattle.lt_links.proofs.Edits.{Links-dropped, DropsRecord-dropped}
+use Rattle.lt_links.proofs.Shows.{IsSound-links}
 use Rattle.lt_links.proofs.links.Links.drop_record.Goals as goal
 
 pub remove-requires : goal.remove-requires
@@ -20,10 +21,15 @@ invariant_of-self c =
           (rw (← c.self.view_is) at empty) (rw c.key.ensures at c.remove.ensures.updates);
     }
 
-pub returns : goal.returns
-returns c =
+pub returns-clause-drops : goal.returns-clause-drops
+returns-clause-drops c =
     let inv = c.self.invariant in
     let empty : IsEmpty c.args.self.now c.args.id = c.requires.empty in
     rw (← c.self.view_is)
     (DropsRecord-dropped c.self.inside.nodes c.self.inside.heads c.remove.new.self c.self.inside.owners inv.queues inv.numbers inv.links c.args.id
     (rw (← c.self.view_is) at empty) (rw c.key.ensures at c.remove.ensures.updates))
+
+pub returns-clause-sound : goal.returns-clause-sound
+returns-clause-sound c =
+    let inv = invariant_of-self c in
+    IsSound-links _ _ _ inv.queues inv.numbers inv.links

@@ -10,6 +10,7 @@ use Rattle.lt_links.specs.declared.node.Node.{Node}
 use Rattle.lt_links.specs.Maps.{queue}
 use Rattle.lt_links.specs.Ring.{is_in}
 use Rattle.lt_links.proofs.Views.{queue_is}
+use Rattle.lt_links.proofs.Shows.{IsSound-links}
 use Rattle.lt_links.proofs.links.Links.put_after.Goals as goal
 
 on_err : {T E P : Type 0} (r : Result T E) → P → OnErr r P
@@ -131,3 +132,18 @@ returns-clause-puts c =
     c.args.at (sym (ap (λ l. is_in l c.args.at) (queue_is c.self.inside.nodes c.self.inside.heads c.self.inside.owners inv.queues inv.numbers inv.links c.args.queue.now)) ∙ (rw (← c.self.view_is) at place))
     c.link.new.nodes c.link.new.ends c.push_owner.new.owners c.in_ok-last.last c.in_ok-last.ensures.ok c.queued-next.result.next (ap (λ j. j.next) c.queued-next.ensures) c.link.ensures
     c.follow_last.new.nodes c.follow_last.ensures))
+
+pub returns-in_err-reserve-clause-sound : goal.returns-in_err-reserve-clause-sound
+returns-in_err-reserve-clause-sound c =
+    let inv = invariant_of-self c in
+    IsSound-links _ _ _ inv.queues inv.numbers inv.links
+
+pub returns-in_err-last-clause-sound : goal.returns-in_err-last-clause-sound
+returns-in_err-last-clause-sound c =
+    let inv = invariant_of-self-in_err-last c in
+    IsSound-links _ _ _ inv.queues inv.numbers inv.links
+
+pub returns-clause-sound : goal.returns-clause-sound
+returns-clause-sound c =
+    let inv = invariant_of-self-2 c in
+    IsSound-links _ _ _ inv.queues inv.numbers inv.links
