@@ -1,0 +1,11 @@
+pub mod Places
+pub mod Written
+pub mod Walks
+pub mod Searches
+pub mod Rows
+pub mod Acts
+pub mod Enqueued
+pub mod Leaves
+pub mod Tables
+pub mod Waits
+pub mod Visits

@@ -1,0 +1,84 @@
+-- Where a request stands at a key.
+use Rattle.std.specs.Prelude.{◌≡◌, ◌≢◌, ◌<◌, ◌≤◌, ℕ, Bool, true, nat_eq, ◌&&◌, Option, Some, None, List, ◌∷◌, ◌++◌, map}
+use Rattle.std.specs.List.{AllByRecursion, last_or}
+use Rattle.lt_ids.specs.Timestamp.{is_below}
+use Rattle.lt_links.specs.declared.stand.Stand.{Stand}
+use Rattle.lt_links.specs.declared.ids.Queue.{Queue}
+use Rattle.lt_links.specs.declared.ids.QueueKind.{QueueKind}
+use Rattle.lt_links.specs.Maps.{Maps, queue, stand, has_record, HasNode, IsSound}
+use Rattle.lt_plain.specs.Visit.{enqueue}
+use Rattle.lt_lock.specs.Linked.{stand_at, stands_at, line, queue_at, request_of, writer_of, IsNamed}
+use Rattle.lt_lock.specs.declared.find.Found.{Found}
+use Rattle.lt_lock.specs.declared.walk.Who.{Who}
+use Rattle.lt_lock.specs.declared.walk.Who.TheVariants.{All, Below, Of}
+
+-- The request of this number stands at this node of a queue.
+pub record IsFound (m : Maps) (id number : ℕ) (node : ℕ) (kind : QueueKind) : Type 0 where
+  pub before : List ℕ
+  pub after : List ℕ
+  pub cut : queue m (queue_at id kind) ≡ before ++ node ∷ after
+  pub number_is : (stand_at m node).number ≡ number
+
+-- No request of this number stands at the key.
+abbrev pub IsMissing : Maps → ℕ → ℕ → Type 0
+IsMissing m id number = (kind : QueueKind) → AllByRecursion (λ s. s.number ≢ number) (line m (queue_at id kind))
+
+-- where a request of this number stands at the key, if it does
+abbrev pub Finds : Maps → ℕ → ℕ → Option Found → Type 0
+Finds m id number None = IsMissing m id number
+Finds m id number (Some f) = IsFound m id number f.node f.kind
+
+-- One queue is written, and nothing else changes.
+pub record Writes (old new : Maps) (to : Queue) (l : List Stand) : Type 0 where
+  pub here : line new to ≡ l
+  pub others : (q : Queue) → q ≢ to → line new q ≡ line old q
+  pub records : (id : ℕ) → has_record new id ≡ has_record old id
+  pub sound : IsSound new
+
+-- who leaves a queue
+abbrev pub leaves : Who → Stand → Bool
+leaves All s = true
+leaves (Below ts) s = is_below s.ts ts
+leaves (Of txn) s = nat_eq s.txn txn
+
+-- and goes on: who waits there
+abbrev pub goes_on : Who → Stand → Bool
+goes_on All s = true
+goes_on (Below ts) s = is_below s.ts ts
+goes_on (Of txn) s = nat_eq s.txn txn && s.active
+
+-- A stand goes from one queue, where these are left, to the front of another.
+pub record BringsOver (old new : Maps) (from to : Queue) (s : Stand) (left : List Stand) : Type 0 where
+  pub left_is : line new from ≡ left
+  pub here : line new to ≡ s ∷ line old to
+  pub others : (q : Queue) → q ≢ from → q ≢ to → line new q ≡ line old q
+  pub records : (id : ℕ) → has_record new id ≡ has_record old id
+  pub sound : IsSound new
+
+-- A stand goes to the front of a queue. In the queue that it comes from these are left.
+pub record Brings (old new : Maps) (from to : Queue) (s : Stand) (left : List Stand) : Type 0 where
+  pub within : from ≡ to → Writes old new to (s ∷ left)
+  pub over : from ≢ to → BringsOver old new from to s left
+
+-- The place of a number in a queue: behind this node, where there is one, which is of a smaller number; and before
+-- these, whose numbers are greater or the same.
+pub record IsPlace (m : Maps) (q : Queue) (number : ℕ) (at : Option ℕ) : Type 0 where
+  pub before : List ℕ
+  pub after : List ℕ
+  pub cut : queue m q ≡ before ++ after
+  pub at_is : at ≡ last_or None before
+  pub smaller : (n : ℕ) → at ≡ Some n → (stand_at m n).number < number
+  pub greater : AllByRecursion (λ s. number ≤ s.number) (stands_at m after)
+
+-- The nodes of the other queues are as before, and each node that was there has the stand that it had.
+pub record KeepsNodes (old new : Maps) (to : Queue) : Type 0 where
+  pub queues : (q : Queue) → q ≢ to → queue new q ≡ queue old q
+  pub stands : (n : ℕ) → HasNode old n → stand new n ≡ stand old n
+
+-- A new request comes in its place among the writers.
+pub record PutsWriter (old new : Maps) (to : Queue) (s : Stand) : Type 0 where
+  pub after : List Stand
+  pub writes : Writes old new to after
+  pub keeps : KeepsNodes old new to
+  pub is_placed : map writer_of after ≡ enqueue (map writer_of (line old to)) (request_of s)
+  pub named : AllByRecursion IsNamed (line old to) → AllByRecursion IsNamed after

@@ -1,0 +1,300 @@
+//! The table: a row for each key that is locked or waited for, over the links.
+ghost use Rattle.std.specs.Prelude.{◌≡◌, [], true, IfOk, OnErr, IsOk};
+ghost use Rattle.std.specs.FinMap as map;
+ghost use Rattle.lt_ids.specs.Ticket.{IsWaitNumber};
+ghost use Rattle.lt_plain.specs.Record.{empty};
+ghost use Rattle.lt_plain.specs.Rules.{TakesNoMemory, acquire, update, finish, leave, take_lock};
+ghost use Rattle.lt_plain.specs.Visit.{visit};
+ghost use Rattle.lt_plain.specs.Step.{look};
+ghost use Rattle.lt_plain.specs.Table.{queued_of, record_at, with_record, IsStep, AreSound};
+ghost use Rattle.lt_lock.specs.Linked.{records_of, request_of, IsNamed, AreLinked};
+ghost use Rattle.lt_lock.specs.Went.{IsTable};
+
+use crate::row;
+use crate::row::Row;
+use crate::visit::visit;
+use lt_ids::{Access, Key, Request, Through, Timestamp, TxnId};
+use lt_links::{Links, Stand};
+use lt_plain::{Holder, KeyTable, Reply};
+use std::alloc::{AllocError, Global};
+use std::collections::BTreeMap;
+use std::marker::Model;
+
+/// A lock table that keeps the waiters of all keys in one [`Links`](lt_links::Links). In a contract it is the map of
+/// its keys' records.
+#[derive(Drop)]
+pub struct LinkedTable {
+    links: Links,
+    rows: BTreeMap<Key, Row>,
+}
+
+impl Model for LinkedTable {
+    ghost use Rattle.std.specs.FinMap as map;
+    ghost use Rattle.std.specs.Coded.{coded_list, coded_ℕ};
+    ghost use Rattle.lt_plain.specs.Table.{Records};
+    ghost use Rattle.lt_plain.specs.contracts.plain_record.PlainRecord as plain_record;
+
+    ghost Value = { Records };
+
+    ghost coded = { map.code (coded_list coded_ℕ) plain_record.the_row.coded };
+
+    ghost use Rattle.lt_lock.specs.Linked.{records_of};
+    ghost use Rattle.lt_lock.specs.Went.{IsTable};
+
+    ghost view = { λ t. records_of t.links t.rows };
+
+    ghost invariant = { λ t. IsTable t.links t.rows };
+}
+
+impl LinkedTable {
+    /// A table of no keys. It takes no memory; what it takes later comes from this allocator.
+    pub fn new(alloc: Global) -> Self
+        ensures { result ≡ map.empty }
+    {
+        LinkedTable {
+            links: Links::new(alloc),
+            rows: BTreeMap::new(alloc),
+        }
+    }
+}
+
+type Rows = BTreeMap<Key, Row>;
+
+fn stand_of(request: &Request, wait: u32) -> Stand
+    requires { IsWaitNumber wait }
+    ensures request { request_of result ≡ queued_of request.now wait }
+    ensures active { result.active ≡ true }
+    ensures named { IsNamed result }
+{
+    Stand {
+        number: request.number,
+        txn: request.txn,
+        ts: request.ts,
+        pass: request.pass,
+        wait,
+        active: true,
+    }
+}
+
+/// Keeps no row that is empty.
+fn drop_if_empty(links: &mut Links, rows: &mut Rows, key: &Key)
+    requires { AreLinked links.old rows.old }
+    ensures linked { AreLinked links.new rows.new }
+    ensures records { records_of links.new rows.new ≡ with_record (records_of links.old rows.old) key.now (record_at (records_of links.old rows.old) key.now) }
+{
+    let Some(row) = rows.get(key) else {
+        return;
+    };
+    if row::is_empty(links, row) {
+        let id = row.id;
+        rows.remove(key);
+        links.drop_record(id);
+    }
+}
+
+fn visit_at(
+    links: &mut Links,
+    rows: &mut Rows,
+    key: &Key,
+    stand: &Stand,
+    access: Access,
+) -> Result<Reply, AllocError>
+    requires table { IsTable links.old rows.old }
+    requires active { stand.now.active ≡ true }
+    requires named { IsNamed stand.now }
+    ensures ok { IfOk result (λ reply. IsStep (records_of links.old rows.old) key.now (λ r. visit r (request_of stand.now) access) reply [] (records_of links.new rows.new)) }
+    ensures linked { AreLinked links.new rows.new }
+    ensures err { OnErr result (records_of links.new rows.new ≡ records_of links.old rows.old) }
+{
+    let Some(row) = rows.get_mut(key) else {
+        return Ok(Reply::Passed);
+    };
+    visit(links, row, stand, access)
+}
+
+fn update_at(
+    links: &mut Links,
+    rows: &mut Rows,
+    key: &Key,
+    txn: TxnId,
+    ts: Timestamp,
+    lets: &mut Vec<Through>,
+) -> Result<Reply, AllocError>
+    requires table { IsTable links.old rows.old }
+    requires lets { lets.old.items ≡ [] }
+    ensures ok { IfOk result (λ reply. IsStep (records_of links.old rows.old) key.now (λ r. update r txn ts) reply lets.new.items (records_of links.new rows.new)) }
+    ensures linked { AreLinked links.new rows.new }
+    ensures err { OnErr result ((records_of links.new rows.new ≡ records_of links.old rows.old) × (lets.new.items ≡ [])) }
+    ensures no_memory { TakesNoMemory (update (record_at (records_of links.old rows.old) key.now) txn ts).reply → IsOk result }
+{
+    let Some(row) = rows.get_mut(key) else {
+        return Ok(Reply::Other);
+    };
+    row::update(links, row, txn, ts, lets)
+}
+
+fn finish_at(
+    links: &mut Links,
+    rows: &mut Rows,
+    key: &Key,
+    txn: TxnId,
+    lets: &mut Vec<Through>,
+) -> Result<Reply, AllocError>
+    requires table { IsTable links.old rows.old }
+    requires lets { lets.old.items ≡ [] }
+    ensures ok { IfOk result (λ reply. IsStep (records_of links.old rows.old) key.now (λ r. finish r txn) reply lets.new.items (records_of links.new rows.new)) }
+    ensures linked { AreLinked links.new rows.new }
+    ensures err { OnErr result ((records_of links.new rows.new ≡ records_of links.old rows.old) × (lets.new.items ≡ [])) }
+    ensures no_memory { TakesNoMemory (finish (record_at (records_of links.old rows.old) key.now) txn).reply → IsOk result }
+{
+    let Some(row) = rows.get_mut(key) else {
+        return Ok(Reply::Other);
+    };
+    row::finish(links, row, txn, lets)
+}
+
+fn leave_at(
+    links: &mut Links,
+    rows: &mut Rows,
+    key: &Key,
+    number: u64,
+    lets: &mut Vec<Through>,
+) -> Result<Reply, AllocError>
+    requires table { IsTable links.old rows.old }
+    requires lets { lets.old.items ≡ [] }
+    ensures ok { IfOk result (λ reply. IsStep (records_of links.old rows.old) key.now (λ r. leave r number) reply lets.new.items (records_of links.new rows.new)) }
+    ensures linked { AreLinked links.new rows.new }
+    ensures err { OnErr result ((records_of links.new rows.new ≡ records_of links.old rows.old) × (lets.new.items ≡ [])) }
+    ensures no_memory { TakesNoMemory (leave (record_at (records_of links.old rows.old) key.now) number).reply → IsOk result }
+{
+    let Some(row) = rows.get_mut(key) else {
+        return Ok(Reply::Absent);
+    };
+    row::leave(links, row, number, lets)
+}
+
+fn look_at(links: &Links, rows: &Rows, key: &Key, number: u64) -> Reply
+    requires { IsTable links.now rows.now }
+    ensures { result ≡ look (record_at (records_of links.now rows.now) key.now) number }
+{
+    match rows.get(key) {
+        None => Reply::Nothing,
+        Some(row) => row::look(links, row, number),
+    }
+}
+
+/// Takes the lock of a key that has no row.
+fn insert_held(
+    links: &mut Links,
+    rows: &mut Rows,
+    key: &Key,
+    holder: &Holder,
+) -> Result<Reply, AllocError>
+    requires table { IsTable links.old rows.old }
+    requires none { record_at (records_of links.old rows.old) key.now ≡ empty }
+    ensures ok { IfOk result (λ reply. IsStep (records_of links.old rows.old) key.now (λ r. take_lock r holder.now) reply [] (records_of links.new rows.new)) }
+    ensures linked { AreLinked links.new rows.new }
+    ensures err { OnErr result (records_of links.new rows.new ≡ records_of links.old rows.old) }
+{
+    let copy = key.copy()?;
+    let queues = links.add_record()?;
+    let row = Row {
+        id: queues,
+        holder: Some(*holder),
+        distinguished: None,
+    };
+    if let Err(refused) = rows.insert(copy, row) {
+        links.drop_record(queues);
+        return Err(refused.into());
+    }
+    Ok(Reply::Taken)
+}
+
+fn acquire_at(
+    links: &mut Links,
+    rows: &mut Rows,
+    key: &Key,
+    txn: TxnId,
+    ts: Timestamp,
+    lets: &mut Vec<Through>,
+) -> Result<Reply, AllocError>
+    requires table { IsTable links.old rows.old }
+    requires lets { lets.old.items ≡ [] }
+    ensures ok { IfOk result (λ reply. IsStep (records_of links.old rows.old) key.now (λ r. acquire r txn ts) reply lets.new.items (records_of links.new rows.new)) }
+    ensures linked { AreLinked links.new rows.new }
+    ensures err { OnErr result ((records_of links.new rows.new ≡ records_of links.old rows.old) × (lets.new.items ≡ [])) }
+    ensures no_memory { TakesNoMemory (acquire (record_at (records_of links.old rows.old) key.now) txn ts).reply → IsOk result }
+{
+    let Some(row) = rows.get_mut(key) else {
+        return insert_held(links, rows, key, &Holder { txn, ts });
+    };
+    row::acquire(links, row, txn, ts, lets)
+}
+
+impl KeyTable for LinkedTable {
+    ghost records = { λ t. t };
+
+    fn visit(
+        &mut self,
+        key: &Key,
+        request: &Request,
+        access: Access,
+        wait: u32,
+        lets: &mut Vec<Through>,
+    ) -> Result<Reply, AllocError> {
+        let stand = stand_of(request, wait);
+        let reply = visit_at(&mut self.links, &mut self.rows, key, &stand, access)?;
+        drop_if_empty(&mut self.links, &mut self.rows, key);
+        Ok(reply)
+    }
+
+    fn acquire(
+        &mut self,
+        key: &Key,
+        txn: TxnId,
+        ts: Timestamp,
+        lets: &mut Vec<Through>,
+    ) -> Result<Reply, AllocError> {
+        let reply = acquire_at(&mut self.links, &mut self.rows, key, txn, ts, lets)?;
+        drop_if_empty(&mut self.links, &mut self.rows, key);
+        Ok(reply)
+    }
+
+    fn update(
+        &mut self,
+        key: &Key,
+        txn: TxnId,
+        ts: Timestamp,
+        lets: &mut Vec<Through>,
+    ) -> Result<Reply, AllocError> {
+        let reply = update_at(&mut self.links, &mut self.rows, key, txn, ts, lets)?;
+        drop_if_empty(&mut self.links, &mut self.rows, key);
+        Ok(reply)
+    }
+
+    fn finish(
+        &mut self,
+        key: &Key,
+        txn: TxnId,
+        lets: &mut Vec<Through>,
+    ) -> Result<Reply, AllocError> {
+        let reply = finish_at(&mut self.links, &mut self.rows, key, txn, lets)?;
+        drop_if_empty(&mut self.links, &mut self.rows, key);
+        Ok(reply)
+    }
+
+    fn leave(
+        &mut self,
+        key: &Key,
+        number: u64,
+        lets: &mut Vec<Through>,
+    ) -> Result<Reply, AllocError> {
+        let reply = leave_at(&mut self.links, &mut self.rows, key, number, lets)?;
+        drop_if_empty(&mut self.links, &mut self.rows, key);
+        Ok(reply)
+    }
+
+    fn look(&self, key: &Key, number: u64) -> Reply {
+        look_at(&self.links, &self.rows, key, number)
+    }
+}

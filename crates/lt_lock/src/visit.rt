@@ -1,0 +1,235 @@
+//! What a visit does to a row and its queues.
+ghost use Rattle.std.specs.Prelude.{◌≡◌, ◌≢◌, [], true, map, slice_get, None, Some, IfOk, OnOk, OnErr};
+ghost use Rattle.std.specs.List.{AllByRecursion};
+ghost use Rattle.lt_links.specs.declared.ids.QueueKind.TheVariants.{Reservation};
+ghost use Rattle.lt_plain.specs.Rules.{stop_reading};
+ghost use Rattle.lt_plain.specs.Lawful.{Rises};
+ghost use Rattle.lt_plain.specs.Visit.{pass, wait_to_write, wait_to_read, displace, visit_held, visit_reserved, visit_lock, visit};
+ghost use Rattle.lt_links.specs.Maps.{has_record, IsSound};
+ghost use Rattle.lt_lock.specs.Linked.{line, queue_at, record_of, request_of, writer_of, IsNamed};
+ghost use Rattle.lt_lock.specs.Found.{Finds, PutsWriter};
+ghost use Rattle.lt_lock.specs.Went.{IsRow, Went};
+
+use crate::find::{Found, find};
+use crate::lines::{bring_first, put_behind, put_first, renew, take_out};
+use crate::row::{Row, queue};
+use crate::settle::{reserved, settle};
+use crate::walk::place_of;
+use lt_ids::Access;
+use lt_links::{Links, Queue, QueueKind, Stand};
+use lt_plain::{Holder, Reply};
+use std::alloc::AllocError;
+use std::cmp::Ordering;
+
+/// Puts a new request in its place among the writers.
+fn put_writer(links: &mut Links, to: &Queue, stand: &Stand) -> Result<(), AllocError>
+    requires there { has_record links.old to.now.id ≡ true }
+    requires sound { IsSound links.old }
+    requires rises { Rises (map writer_of (line links.old to.now)) }
+    requires missing { AllByRecursion (λ s. s.number ≢ stand.now.number) (line links.old to.now) }
+    requires active { stand.now.active ≡ true }
+    requires named { IsNamed stand.now }
+    ensures ok { OnOk result (PutsWriter links.old links.new to.now stand.now) }
+    ensures err { OnErr result (links.new ≡ links.old) }
+{
+    match place_of(links, to, stand.number) {
+        None => put_first(links, to, stand),
+        Some(node) => put_behind(links, node, stand),
+    }
+}
+
+/// The request goes on. Where it waited to read, it waits no longer.
+fn pass(links: &mut Links, row: &Row, found: &Option<Found>, stand: &Stand) -> Reply
+    requires row { IsRow links.old row.now }
+    requires found { Finds links.old row.now.id stand.now.number found.now }
+    ensures { Went links.old links.new row.now row.now.id (pass (stop_reading (record_of links.old row.now) stand.now.number)) result [] }
+{
+    let Some(found) = found else {
+        return Reply::Passed;
+    };
+    if found.kind != QueueKind::Readers {
+        return Reply::Passed;
+    }
+    take_out(links, found.node);
+    Reply::Passed
+}
+
+/// The request takes its place among the writers, or the one that it has already.
+fn wait_to_write(
+    links: &mut Links,
+    row: &Row,
+    found: &Option<Found>,
+    stand: &Stand,
+) -> Result<Reply, AllocError>
+    requires row { IsRow links.old row.now }
+    requires found { Finds links.old row.now.id stand.now.number found.now }
+    requires active { stand.now.active ≡ true }
+    requires named { IsNamed stand.now }
+    ensures ok { IfOk result (λ reply. Went links.old links.new row.now row.now.id (wait_to_write (stop_reading (record_of links.old row.now) stand.now.number) (request_of stand.now)) reply []) }
+    ensures err { OnErr result (links.new ≡ links.old) }
+{
+    let writers = queue(row, QueueKind::Writers);
+    let Some(found) = found else {
+        put_writer(links, &writers, stand)?;
+        return Ok(Reply::MustWait);
+    };
+    if found.kind == QueueKind::Writers {
+        renew(links, found.node, stand);
+        return Ok(Reply::MustWait);
+    }
+    put_writer(links, &writers, stand)?;
+    if found.kind == QueueKind::Readers {
+        take_out(links, found.node);
+        return Ok(Reply::MustWait);
+    }
+    Ok(Reply::MustWait)
+}
+
+/// The request waits at the front of the readers; who stands among the writers already waits there.
+fn wait_to_read(
+    links: &mut Links,
+    row: &Row,
+    found: &Option<Found>,
+    stand: &Stand,
+) -> Result<Reply, AllocError>
+    requires row { IsRow links.old row.now }
+    requires found { Finds links.old row.now.id stand.now.number found.now }
+    requires active { stand.now.active ≡ true }
+    requires named { IsNamed stand.now }
+    ensures ok { IfOk result (λ reply. Went links.old links.new row.now row.now.id (wait_to_read (stop_reading (record_of links.old row.now) stand.now.number) (request_of stand.now)) reply []) }
+    ensures err { OnErr result (links.new ≡ links.old) }
+{
+    let readers = queue(row, QueueKind::Readers);
+    let Some(found) = found else {
+        put_first(links, &readers, stand)?;
+        return Ok(Reply::MustWait);
+    };
+    if found.kind == QueueKind::Reservation {
+        put_first(links, &readers, stand)?;
+        return Ok(Reply::MustWait);
+    }
+    renew(links, found.node, stand);
+    if found.kind == QueueKind::Readers {
+        bring_first(links, found.node, &readers);
+        return Ok(Reply::MustWait);
+    }
+    Ok(Reply::MustWait)
+}
+
+fn visit_held(
+    links: &mut Links,
+    row: &Row,
+    holder: &Holder,
+    found: &Option<Found>,
+    stand: &Stand,
+    access: Access,
+) -> Result<Reply, AllocError>
+    requires row { IsRow links.old row.now }
+    requires found { Finds links.old row.now.id stand.now.number found.now }
+    requires active { stand.now.active ≡ true }
+    requires named { IsNamed stand.now }
+    ensures ok { IfOk result (λ reply. Went links.old links.new row.now row.now.id (visit_held (stop_reading (record_of links.old row.now) stand.now.number) holder.now (request_of stand.now) access) reply []) }
+    ensures err { OnErr result (links.new ≡ links.old) }
+{
+    match access {
+        Access::Read if stand.ts < holder.ts => Ok(pass(links, row, found, stand)),
+        Access::Read => wait_to_read(links, row, found, stand),
+        Access::Write => wait_to_write(links, row, found, stand),
+    }
+}
+
+/// A request of a smaller number takes the place of the one for which the lock is reserved.
+fn displace(
+    links: &mut Links,
+    row: &Row,
+    reservation: &Stand,
+    stand: &Stand,
+) -> Result<Reply, AllocError>
+    requires row { IsRow links.old row.now }
+    requires unheld { row.now.holder ≡ None }
+    requires reserved { slice_get (line links.old (queue_at row.now.id Reservation)) 0 ≡ Some reservation.now }
+    requires named { IsNamed stand.now }
+    ensures ok { IfOk result (λ reply. Went links.old links.new row.now row.now.id (displace (stop_reading (record_of links.old row.now) stand.now.number) (request_of reservation.now) (request_of stand.now)) reply []) }
+    ensures err { OnErr result (links.new ≡ links.old) }
+{
+    let reserved = queue(row, QueueKind::Reservation);
+    put_first(links, &reserved, stand)?;
+    if let Some(node) = links.last(reserved) {
+        let mut back = links.stand(node);
+        back.active = false;
+        renew(links, node, &back);
+        bring_first(links, node, &queue(row, QueueKind::Writers));
+    }
+    Ok(Reply::Passed)
+}
+
+fn visit_reserved(
+    links: &mut Links,
+    row: &Row,
+    reservation: &Stand,
+    found: &Option<Found>,
+    stand: &Stand,
+    access: Access,
+) -> Result<Reply, AllocError>
+    requires row { IsRow links.old row.now }
+    requires unheld { row.now.holder ≡ None }
+    requires reserved { slice_get (line links.old (queue_at row.now.id Reservation)) 0 ≡ Some reservation.now }
+    requires found { Finds links.old row.now.id stand.now.number found.now }
+    requires active { stand.now.active ≡ true }
+    requires named { IsNamed stand.now }
+    ensures ok { IfOk result (λ reply. Went links.old links.new row.now row.now.id (visit_reserved (stop_reading (record_of links.old row.now) stand.now.number) (request_of reservation.now) (request_of stand.now) access) reply []) }
+    ensures err { OnErr result (links.new ≡ links.old) }
+{
+    if access == Access::Read {
+        return Ok(pass(links, row, found, stand));
+    }
+    match stand.number.cmp(&reservation.number) {
+        Ordering::Less => displace(links, row, reservation, stand),
+        Ordering::Equal => Ok(pass(links, row, found, stand)),
+        Ordering::Greater => wait_to_write(links, row, found, stand),
+    }
+}
+
+fn visit_lock(
+    links: &mut Links,
+    row: &Row,
+    found: &Option<Found>,
+    stand: &Stand,
+    access: Access,
+) -> Result<Reply, AllocError>
+    requires row { IsRow links.old row.now }
+    requires found { Finds links.old row.now.id stand.now.number found.now }
+    requires active { stand.now.active ≡ true }
+    requires named { IsNamed stand.now }
+    ensures ok { IfOk result (λ reply. Went links.old links.new row.now row.now.id (visit_lock row.now.holder (record_of links.old row.now).reservation (stop_reading (record_of links.old row.now) stand.now.number) (request_of stand.now) access) reply []) }
+    ensures err { OnErr result (links.new ≡ links.old) }
+{
+    match (&row.holder, &reserved(links, row)) {
+        (Some(holder), _) if holder.txn != stand.txn => {
+            visit_held(links, row, holder, found, stand, access)
+        }
+        (None, Some(reservation)) => {
+            visit_reserved(links, row, reservation, found, stand, access)
+        }
+        _ => Ok(pass(links, row, found, stand)),
+    }
+}
+
+/// A request visits the key.
+pub(crate) fn visit(
+    links: &mut Links,
+    row: &mut Row,
+    stand: &Stand,
+    access: Access,
+) -> Result<Reply, AllocError>
+    requires row { IsRow links.old row.old }
+    requires active { stand.now.active ≡ true }
+    requires named { IsNamed stand.now }
+    ensures ok { IfOk result (λ reply. Went links.old links.new row.new row.old.id (visit (record_of links.old row.old) (request_of stand.now) access) reply []) }
+    ensures err { OnErr result ((links.new ≡ links.old) × (row.new ≡ row.old)) }
+{
+    let found = find(links, row.id, stand.number);
+    let reply = visit_lock(links, row, &found, stand, access)?;
+    settle(links, row);
+    Ok(reply)
+}
