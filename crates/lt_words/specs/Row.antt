@@ -71,7 +71,7 @@ pub record IsPass (p : Seer) : Type 0 where
   pub many : length p.counts ≡ p.of.shards
   pub within : (s : ℕ) → slice_index p.counts s ≤ length (part s p.seen)
 
--- The pass or front is of this book, and it goes on to have seen more.
+-- What is seen afterwards is a history which goes on from what was seen before and of which P holds, and then e.
 abbrev pub GoesTo : List Event → (List Event → Type 0) → Event → List Event → Type 0
 GoesTo old P e new = (h : List Event) × IsPrefix old h × P h × (new ≡ h ++ e ∷ [])
 

@@ -123,8 +123,8 @@ impl Book {
     }
 
     /// Makes a step of a shard of which the front has `count` steps: the shard's word goes from `count` to
-    /// `count + 1`, and in that instant the history gains the entry. It tries again until its exchange succeeds.
-    /// Afterwards pass and front have seen one history.
+    /// `count + 1`, and in that instant the history gains the entry. It tries again until its exchange succeeds, so it
+    /// returns only if nobody else makes a step of the shard before. Afterwards pass and front have seen one history.
     pub fn commit<R: Wait>(
         &self,
         rt: &R,
@@ -148,6 +148,7 @@ impl Book {
         ensures counted { pass.new.counts ≡ slice_set pass.old.counts shard (slice_index pass.old.counts shard + 1) }
         ensures number { pass.new.number ≡ pass.old.number }
     {
+        // Brings what is true of each book into the proof.
         let _ = &self.lines;
         pass.seen.learn(front);
         pass.seen.step(rt, self, front, shard, count, entry);
@@ -157,7 +158,7 @@ impl Book {
     }
 
     /// Afterwards pass and front have seen one history, which has just `count` steps of the shard. It tries again
-    /// until its exchange succeeds.
+    /// until its exchange succeeds, so it returns only if the shard has `count` steps at some time of the call.
     pub fn exact<R: Wait>(
         &self,
         rt: &R,
@@ -175,6 +176,7 @@ impl Book {
         ensures seen { IsPrefix front.old.seen front.new.seen }
         ensures exact { length (part shard front.new.seen) ≡ count }
     {
+        // Brings what is true of each book into the proof.
         let _ = &self.lines;
         pass.seen.learn(front);
         pass.seen.meet(rt, self, shard, count);
