@@ -5,3 +5,7 @@ pub mod Texts
 pub mod Steps
 pub mod Appended
 pub mod Swaps
+pub mod Commands
+pub mod Literals
+pub mod Told
+pub mod Checks

@@ -6,4 +6,7 @@ pub mod Ranges
 pub mod Recorded
 pub mod Deeds
 pub mod Output
+pub mod Check
 pub mod Program
+pub mod Words
+pub mod Work

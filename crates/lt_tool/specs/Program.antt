@@ -1,5 +1,9 @@
 -- How the program ends, and what it says where it fails.
 use Rattle.std.specs.Prelude.{ℕ, List, ◌++◌, decimal, codes, Result, Ok, Err}
+use Rattle.lt_history.specs.declared.checker.CheckError.{CheckError}
+use Rattle.lt_history.specs.declared.checker.CheckError.TheVariants as checks
+use Rattle.lt_history.specs.declared.error.Fault.{Fault as HistoryFault}
+use Rattle.lt_history.specs.declared.error.Fault.TheVariants as histories
 use Rattle.lt_script.specs.declared.error.Fault.{Fault}
 use Rattle.lt_script.specs.declared.error.Fault.TheVariants.{BadPass, BadCall, BadWords, BadTxn, BadTime, BadKey, BadAccess}
 use Rattle.lt_tool.specs.declared.run.Finish.{Finish}
@@ -7,7 +11,9 @@ use Rattle.lt_tool.specs.declared.run.Finish.TheVariants.{Done, TurnsOut}
 use Rattle.lt_tool.specs.declared.run.RunError.{RunError}
 use Rattle.lt_tool.specs.declared.run.RunError.TheVariants.{Read, TooLong, Script, Memory, Write}
 use Rattle.lt_tool.specs.declared.program.Failure.{Failure}
-use Rattle.lt_tool.specs.declared.program.Failure.TheVariants.{CommandLine, Run}
+use Rattle.lt_tool.specs.declared.program.Failure.TheVariants as failures
+use Rattle.lt_tool.specs.declared.check.CheckTextError.{CheckTextError}
+use Rattle.lt_tool.specs.declared.check.CheckTextError.TheVariants as texts
 
 abbrev pub error_status : RunError → ℕ
 error_status (Script line fault) = 1
@@ -16,11 +22,24 @@ error_status Memory = 4
 error_status Read = 5
 error_status Write = 5
 
+abbrev pub check_status : CheckTextError → ℕ
+check_status (texts.Check (checks.Refused line fault)) = 1
+check_status (texts.Check checks.Memory) = 4
+check_status texts.TooLong = 1
+check_status texts.Read = 5
+check_status texts.Write = 5
+
+abbrev pub failure_status : Failure → ℕ
+failure_status failures.CommandLine = 2
+failure_status failures.Memory = 4
+failure_status failures.Help = 5
+failure_status (failures.Run e) = error_status e
+failure_status (failures.Check e) = check_status e
+
 abbrev pub status_of : Result Finish Failure → ℕ
 status_of (Ok Done) = 0
 status_of (Ok TurnsOut) = 3
-status_of (Err CommandLine) = 2
-status_of (Err (Run e)) = error_status e
+status_of (Err e) = failure_status e
 
 abbrev pub fault_end : Fault → List ℕ
 fault_end BadPass = codes ": BadPass\n"
@@ -31,17 +50,36 @@ fault_end BadTime = codes ": BadTime\n"
 fault_end BadKey = codes ": BadKey\n"
 fault_end BadAccess = codes ": BadAccess\n"
 
-abbrev pub line_message : ℕ → Fault → List ℕ
-line_message line fault = codes "lockrun: line " ++ decimal line ++ fault_end fault
+abbrev pub history_end : HistoryFault → List ℕ
+history_end histories.Header = codes ": Header\n"
+history_end histories.Shape = codes ": Shape\n"
+history_end histories.KeyOrder = codes ": KeyOrder\n"
+history_end histories.Index = codes ": Index\n"
+history_end histories.WrongReply = codes ": WrongReply\n"
+history_end histories.WrongLets = codes ": WrongLets\n"
+
+-- the line that tells of a fault, which ends so
+abbrev pub line_message : ℕ → List ℕ → List ℕ
+line_message line end = codes "lockrun: line " ++ decimal line ++ end
 
 abbrev pub error_message : RunError → List ℕ
-error_message (Script line fault) = line_message line fault
+error_message (Script line fault) = line_message line (fault_end fault)
 error_message TooLong = codes "lockrun: text too long\n"
 error_message Memory = codes "lockrun: memory\n"
 error_message Read = codes "lockrun: read\n"
 error_message Write = codes "lockrun: write\n"
 
+abbrev pub check_message : CheckTextError → List ℕ
+check_message (texts.Check (checks.Refused line fault)) = line_message line (history_end fault)
+check_message (texts.Check checks.Memory) = codes "lockrun: memory\n"
+check_message texts.TooLong = codes "lockrun: text too long\n"
+check_message texts.Read = codes "lockrun: read\n"
+check_message texts.Write = codes "lockrun: write\n"
+
 -- the line on standard error
 abbrev pub message_of : Failure → List ℕ
-message_of CommandLine = codes "lockrun: command line\n"
-message_of (Run e) = error_message e
+message_of failures.CommandLine = codes "lockrun: command line\n"
+message_of failures.Memory = codes "lockrun: memory\n"
+message_of failures.Help = codes "lockrun: write\n"
+message_of (failures.Run e) = error_message e
+message_of (failures.Check e) = check_message e

@@ -12,6 +12,7 @@
 #![tactic(auto)]
 
 mod answer;
+mod check;
 mod desk;
 mod guard;
 mod input;
@@ -19,6 +20,11 @@ mod output;
 mod program;
 mod recorder;
 mod run;
+mod words;
+mod work;
 
-pub use program::{Failure, complain, no_words, status};
+pub use check::{CheckTextError, check_text};
+pub use program::{Failure, complain, status};
+
 pub use run::{Finish, Options, RunError, run_script};
+pub use words::{Job, WordsError, read_words};

@@ -1,43 +1,54 @@
-ghost use Rattle.std.specs.Prelude.{◌≡◌, ◌↔◌, ◌++◌, OnOk, IsOk, IfErr, decimal};
+ghost use Rattle.std.specs.Prelude.{◌≡◌, OnOk, decimal};
 ghost use Rattle.std.specs.Io.KnownBytes.{Appends};
-ghost use Rattle.lt_tool.specs.declared.program.Failure.TheVariants.{Run};
-ghost use Rattle.lt_tool.specs.Program.{status_of, message_of, fault_end, line_message};
+ghost use Rattle.lt_tool.specs.Program.{check_message, check_status, error_message, error_status, status_of, message_of, fault_end, history_end, line_message};
 
-use crate::{Finish, RunError};
+use crate::{CheckTextError, Finish, RunError};
 use itoa::Buffer;
-use lt_history::{PrintError, write_out};
+use lt_history::{CheckError, PrintError, write_out};
 use lt_script::Fault;
 use std::io::Write;
 
 /// Why the program did not do its work.
 #[derive(Clone, Copy, Debug, PartialEq, Eq)]
 pub enum Failure {
-    /// There are words behind the program's name.
+    /// The words behind the program's name are none of its words.
     CommandLine,
+    /// Memory ran out before it was known what the words ask for.
+    Memory,
+    /// The help could not be written to its end: a write failed, was interrupted, or took no byte.
+    Help,
+    /// A script was not run, or its output not written. A file that does not open is a read that fails.
     Run(RunError),
+    /// A text of histories was not told to be legal. A file that does not open is a read that fails.
+    Check(CheckTextError),
 }
 
-impl From<RunError> for Failure {
-    ghost from_gives = { λ e f. f ≡ Run e };
-
-    fn from(e: RunError) -> Failure {
-        Failure::Run(e)
-    }
-}
-
-/// The program takes no words.
-pub fn no_words(words: usize) -> Result<(), Failure>
-    ensures ok { IsOk result ↔ (words ≡ 0) }
-    ensures err { IfErr result (λ e. e ≡ Failure.CommandLine) }
+fn error_status(error: RunError) -> u8
+    ensures { result ≡ error_status error }
 {
-    if words > 0 {
-        return Err(Failure::CommandLine);
+    match error {
+        RunError::Script { .. } => 1,
+        RunError::TooLong => 1,
+        RunError::Memory => 4,
+        RunError::Read => 5,
+        RunError::Write => 5,
     }
-    Ok(())
 }
 
-/// The status with which the program ends: 0 done; 1 a script that is refused or too long; 2 the command line; 3 turns
-/// used up; 4 memory; 5 a read or write that failed.
+fn check_status(error: CheckTextError) -> u8
+    ensures { result ≡ check_status error }
+{
+    match error {
+        CheckTextError::Check(CheckError::Refused { .. }) => 1,
+        CheckTextError::Check(CheckError::Memory) => 4,
+        CheckTextError::TooLong => 1,
+        CheckTextError::Read => 5,
+        CheckTextError::Write => 5,
+    }
+}
+
+/// The status with which the program ends: 0 done, also where help is told; 1 a script or a text of histories that is
+/// refused or too long; 2 the command line; 3 turns used up; 4 memory; 5 a read or write that failed.
 pub fn status(ending: &Result<Finish, Failure>) -> u8
     ensures { result ≡ status_of ending.now }
 {
@@ -45,15 +56,14 @@ pub fn status(ending: &Result<Finish, Failure>) -> u8
         Ok(Finish::Done) => 0,
         Ok(Finish::TurnsOut) => 3,
         Err(Failure::CommandLine) => 2,
-        Err(Failure::Run(RunError::Script { .. })) => 1,
-        Err(Failure::Run(RunError::TooLong)) => 1,
-        Err(Failure::Run(RunError::Memory)) => 4,
-        Err(Failure::Run(RunError::Read)) => 5,
-        Err(Failure::Run(RunError::Write)) => 5,
+        Err(Failure::Memory) => 4,
+        Err(Failure::Help) => 5,
+        Err(Failure::Run(error)) => error_status(*error),
+        Err(Failure::Check(error)) => check_status(*error),
     }
 }
 
-/// The end of the line that tells of a fault.
+/// The end of the line that tells of a script's fault.
 fn fault_end(fault: Fault) -> &'static [u8]
     ensures { result.now ≡ fault_end fault }
 {
@@ -68,6 +78,20 @@ fn fault_end(fault: Fault) -> &'static [u8]
     }
 }
 
+/// The end of the line that tells of a history's fault.
+fn history_end(fault: lt_history::Fault) -> &'static [u8]
+    ensures { result.now ≡ history_end fault }
+{
+    match fault {
+        lt_history::Fault::Header => b": Header\n",
+        lt_history::Fault::Shape => b": Shape\n",
+        lt_history::Fault::KeyOrder => b": KeyOrder\n",
+        lt_history::Fault::Index => b": Index\n",
+        lt_history::Fault::WrongReply => b": WrongReply\n",
+        lt_history::Fault::WrongLets => b": WrongLets\n",
+    }
+}
+
 fn write_number<W: Write>(writer: &mut W, n: u64) -> Result<(), PrintError>
     ensures { OnOk result (Appends (W.contents writer.old) (W.contents writer.new) (decimal n)) }
 {
@@ -75,13 +99,39 @@ fn write_number<W: Write>(writer: &mut W, n: u64) -> Result<(), PrintError>
     write_out(writer, buffer.format(n).as_bytes())
 }
 
-fn complain_of_line<W: Write>(writer: &mut W, line: usize, fault: Fault) -> Result<(), PrintError>
-    ensures { OnOk result (Appends (W.contents writer.old) (W.contents writer.new) (line_message line fault)) }
+fn complain_of_line<W: Write>(writer: &mut W, line: usize, end: &[u8]) -> Result<(), PrintError>
+    ensures { OnOk result (Appends (W.contents writer.old) (W.contents writer.new) (line_message line end.now)) }
 {
     write_out(writer, b"lockrun: line ")?;
     write_number(writer, line as u64)?;
-    write_out(writer, fault_end(fault))?;
+    write_out(writer, end)?;
     Ok(())
+}
+
+fn complain_of_script<W: Write>(writer: &mut W, error: RunError) -> Result<(), PrintError>
+    ensures { OnOk result (Appends (W.contents writer.old) (W.contents writer.new) (error_message error)) }
+{
+    match error {
+        RunError::Script { line, fault } => complain_of_line(writer, line, fault_end(fault)),
+        RunError::TooLong => write_out(writer, b"lockrun: text too long\n"),
+        RunError::Memory => write_out(writer, b"lockrun: memory\n"),
+        RunError::Read => write_out(writer, b"lockrun: read\n"),
+        RunError::Write => write_out(writer, b"lockrun: write\n"),
+    }
+}
+
+fn complain_of_check<W: Write>(writer: &mut W, error: CheckTextError) -> Result<(), PrintError>
+    ensures { OnOk result (Appends (W.contents writer.old) (W.contents writer.new) (check_message error)) }
+{
+    match error {
+        CheckTextError::Check(CheckError::Refused { line, fault }) => {
+            complain_of_line(writer, line, history_end(fault))
+        }
+        CheckTextError::Check(CheckError::Memory) => write_out(writer, b"lockrun: memory\n"),
+        CheckTextError::TooLong => write_out(writer, b"lockrun: text too long\n"),
+        CheckTextError::Read => write_out(writer, b"lockrun: read\n"),
+        CheckTextError::Write => write_out(writer, b"lockrun: write\n"),
+    }
 }
 
 /// Writes the one line that says what went wrong. It takes no memory.
@@ -90,10 +140,9 @@ pub fn complain<W: Write>(writer: &mut W, failure: &Failure) -> Result<(), Print
 {
     match failure {
         Failure::CommandLine => write_out(writer, b"lockrun: command line\n"),
-        Failure::Run(RunError::Script { line, fault }) => complain_of_line(writer, *line, *fault),
-        Failure::Run(RunError::TooLong) => write_out(writer, b"lockrun: text too long\n"),
-        Failure::Run(RunError::Memory) => write_out(writer, b"lockrun: memory\n"),
-        Failure::Run(RunError::Read) => write_out(writer, b"lockrun: read\n"),
-        Failure::Run(RunError::Write) => write_out(writer, b"lockrun: write\n"),
+        Failure::Memory => write_out(writer, b"lockrun: memory\n"),
+        Failure::Help => write_out(writer, b"lockrun: write\n"),
+        Failure::Run(error) => complain_of_script(writer, *error),
+        Failure::Check(error) => complain_of_check(writer, *error),
     }
 }

@@ -1,0 +1,63 @@
+-- What is told of a text of histories.
+use Rattle.std.specs.Prelude.{ℕ, ◌≡◌, ◌⊎◌, ◌<◌, ◌^◌, List, [], ◌∷◌, ◌++◌, length, Option, IfSome, Result, Ok, Err, decimal, codes}
+use Rattle.lt_text.specs.Compose.{spaced}
+use Rattle.lt_history.specs.declared.checker.Report.{Report}
+use Rattle.lt_history.specs.declared.checker.CheckError.TheVariants as faults
+use Rattle.lt_history.specs.declared.error.Fault.{Fault}
+use Rattle.lt_history.specs.Print.{AppendsFront}
+use Rattle.lt_history.specs.Text.{Fails}
+use Rattle.lt_history.specs.Verdict.{IsLegalText}
+use Rattle.lt_tool.specs.declared.check.CheckTextError.{CheckTextError}
+use Rattle.lt_tool.specs.declared.check.CheckTextError.TheVariants as errors
+use Rattle.lt_tool.specs.declared.input.Unread.{Unread}
+use Rattle.lt_tool.specs.declared.input.Unread.TheVariants as inputs
+use Rattle.lt_tool.specs.Output.{IsShort}
+
+-- the line of a legal text, with its end
+abbrev pub report_line : Report → List ℕ
+report_line r = codes "ok" ++ spaced (decimal r.keys ∷ codes "keys" ∷ decimal r.steps ∷ codes "steps" ∷ []) ++ 10 ∷ []
+
+-- A text of legal histories, of so many keys and steps, was read to its end; it is the reader's, where those bytes are
+-- known.
+pub record IsChecked (source : Option (List ℕ)) (report : Report) : Type 0 where
+  pub text : List ℕ
+  pub is_read : IfSome source (λ all. text ≡ all)
+  pub short : IsShort text
+  pub legal : IsLegalText text report
+
+-- A text that was read to its end has this fault first, and that on this line.
+pub record IsFaulty (source : Option (List ℕ)) (line : ℕ) (fault : Fault) : Type 0 where
+  pub text : List ℕ
+  pub is_read : IfSome source (λ all. text ≡ all)
+  pub short : IsShort text
+  pub fails : Fails text line fault
+
+-- why a text is not told to be legal
+abbrev pub IsUnchecked : CheckTextError → Option (List ℕ) → Type 0
+IsUnchecked errors.TooLong source = IfSome source (λ text. 2 ^ 24 < length text)
+IsUnchecked (errors.Check (faults.Refused line fault)) source = IsFaulty source line fault
+IsUnchecked _ source = Unit {0}
+
+-- The text was legal, and the writer holds a front of its line more.
+pub record ToldInPart (source old new : Option (List ℕ)) : Type 0 where
+  pub report : Report
+  pub checked : IsChecked source report
+  pub written : AppendsFront old new (report_line report)
+
+-- A read failed, or memory ran out.
+abbrev pub IsStopped : Result Report CheckTextError → Type 0
+IsStopped (Err errors.Read) = Unit {0}
+IsStopped (Err (errors.Check faults.Memory)) = Unit {0}
+IsStopped _ = ⊥
+
+abbrev pub IsStoppedOr : Result Report CheckTextError → Result Report CheckTextError → Type 0
+IsStoppedOr result said = (result ≡ said) ⊎ IsStopped result
+
+-- The same, or a write failed.
+abbrev pub IsUnwrittenOr : Result Report CheckTextError → Result Report CheckTextError → Type 0
+IsUnwrittenOr result said = (result ≡ Err errors.Write) ⊎ IsStoppedOr result said
+
+abbrev pub unread : Unread → CheckTextError
+unread inputs.Read = errors.Read
+unread inputs.TooLong = errors.TooLong
+unread inputs.Memory = errors.Check faults.Memory

@@ -1,0 +1,109 @@
+ghost use Rattle.std.specs.Prelude.{◌≡◌, ◌≢◌, ◌<◌, ◌^◌, ◌++◌, ℕ, IfOk, IfErr, IfSome, OnOk, Ok, Err, length};
+ghost use Rattle.std.specs.Io.KnownBytes.{Appends};
+ghost use Rattle.lt_history.specs.declared.checker.CheckError.TheVariants as faults;
+ghost use Rattle.lt_history.specs.Print.{AppendsFront};
+ghost use Rattle.lt_history.specs.Text.{Fails};
+ghost use Rattle.lt_history.specs.Verdict.{IsLegalText};
+ghost use Rattle.lt_tool.specs.Output.{IsShort};
+ghost use Rattle.lt_tool.specs.Check.{IsChecked, IsUnchecked, IsStoppedOr, IsUnwrittenOr, ToldInPart, report_line, unread};
+
+use crate::input::{Unread, read_text};
+use lt_history::{CheckError, Fault, Report, check, write_out};
+use lt_text::put::{put_number_word, put_word};
+use std::alloc::{AllocError, Global};
+use std::io::{Read, Write};
+use thiserror::Error;
+
+/// Why a text of histories is not told to be legal.
+#[derive(Clone, Copy, Debug, PartialEq, Eq, Drop, Error)]
+pub enum CheckTextError {
+    /// A read failed. Nothing is written.
+    #[error("the histories could not be read")]
+    Read,
+    /// The text has more than 16,777,216 bytes. Nothing is written.
+    #[error("the histories are too long")]
+    TooLong,
+    /// The text is refused, by its first faulty line and the first fault in it, or memory ran out. Nothing is written.
+    #[error("{0}")]
+    Check(CheckError),
+    /// The text is legal, and a write failed, was interrupted, or took no byte. A front of the line is written.
+    #[error("the numbers of keys and steps could not be written to their end")]
+    Write,
+}
+
+fn unread(why: Unread) -> CheckTextError
+    ensures { result ≡ unread why }
+{
+    match why {
+        Unread::Read => CheckTextError::Read,
+        Unread::TooLong => CheckTextError::TooLong,
+        Unread::Memory => CheckTextError::Check(CheckError::Memory),
+    }
+}
+
+/// Checks what the reader has.
+fn report_of<R: Read>(alloc: Global, reader: &mut R) -> Result<Report, CheckTextError>
+    ensures ok { IfOk result (λ report. IsChecked (R.remaining reader.old) report) }
+    ensures err { IfErr result (λ e. IsUnchecked e (R.remaining reader.old)) }
+    ensures legal { IfSome (R.remaining reader.old) (λ text. (report : Report) → IsShort text → IsLegalText text report → IsStoppedOr result (Ok report)) }
+    ensures faulty { IfSome (R.remaining reader.old) (λ text. (line : ℕ) (fault : Fault) → IsShort text → Fails text line fault → IsStoppedOr result (Err (CheckTextError.Check (faults.Refused line fault)))) }
+    ensures too_long { IfSome (R.remaining reader.old) (λ text. 2 ^ 24 < length text → IsStoppedOr result (Err CheckTextError.TooLong)) }
+    ensures unwritten { IfErr result (λ e. e ≢ CheckTextError.Write) }
+{
+    let text = match read_text(alloc, reader) {
+        Ok(text) => text,
+        Err(why) => return Err(unread(why)),
+    };
+    match check(alloc, &text) {
+        Ok(report) => Ok(report),
+        Err(why) => Err(CheckTextError::Check(why)),
+    }
+}
+
+/// The line that tells of a legal text.
+fn line_of(alloc: Global, report: Report) -> Result<Vec<u8>, AllocError>
+    ensures { IfOk result (λ line. line.items ≡ report_line report) }
+{
+    let mut line = Vec::from_slice(alloc, b"ok")?;
+    put_number_word(&mut line, report.keys as u64)?;
+    put_word(&mut line, b"keys")?;
+    put_number_word(&mut line, report.steps as u64)?;
+    put_word(&mut line, b"steps")?;
+    line.push(b'\n')?;
+    Ok(line)
+}
+
+/// Reads a text of histories, checks it, and writes one line: `ok`, the number of keys and `keys`, the number of steps
+/// and `steps`. The whole text is checked before the first write. It answers exactly by what is so: the numbers of a
+/// legal text, the first faulty line and the first fault in it of any other; it is kept from that by a read or a write
+/// that fails, and by want of memory, alone.
+pub fn check_text<R: Read, W: Write>(
+    alloc: Global,
+    reader: &mut R,
+    writer: &mut W,
+) -> Result<Report, CheckTextError>
+    // The text is legal, with these numbers, and the writer has their line more, and nothing else.
+    ensures done { IfOk result (λ report. IsChecked (R.remaining reader.old) report) }
+    ensures told { IfOk result (λ report. Appends (W.contents writer.old) (W.contents writer.new) (report_line report)) }
+
+    // A text that is refused has this fault, and that on this line, first.
+    ensures refused { IfErr result (λ e. IsUnchecked e (R.remaining reader.old)) }
+    ensures unwritten { IfErr result (λ e. e ≢ CheckTextError.Write → writer.new ≡ writer.old) }
+
+    // After a write that failed the text is legal, and the writer holds a front of its line.
+    ensures write { IfErr result (λ e. e ≡ CheckTextError.Write → ToldInPart (R.remaining reader.old) (W.contents writer.old) (W.contents writer.new)) }
+
+    // No text is told to be what it is not.
+    ensures legal { IfSome (R.remaining reader.old) (λ text. (report : Report) → IsShort text → IsLegalText text report → IsUnwrittenOr result (Ok report)) }
+    ensures faulty { IfSome (R.remaining reader.old) (λ text. (line : ℕ) (fault : Fault) → IsShort text → Fails text line fault → IsStoppedOr result (Err (CheckTextError.Check (faults.Refused line fault)))) }
+    ensures too_long { IfSome (R.remaining reader.old) (λ text. 2 ^ 24 < length text → IsStoppedOr result (Err CheckTextError.TooLong)) }
+{
+    let report = report_of(alloc, reader)?;
+    let Ok(line) = line_of(alloc, report) else {
+        return Err(CheckTextError::Check(CheckError::Memory));
+    };
+    match write_out(writer, &line) {
+        Ok(()) => Ok(report),
+        Err(_) => Err(CheckTextError::Write),
+    }
+}
