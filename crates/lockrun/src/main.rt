@@ -1,30 +1,41 @@
-//! Runs a script over an empty lock table: the script comes on standard input, and the answers of its lines and the
-//! histories of its keys go to standard output. What is decided here is decided in `lt_tool`.
+//! Runs a script over an empty lock table, or checks a text of histories: `lockrun run [SCRIPT]`, `lockrun check [FILE]`.
+//! What is decided here is decided in `lt_tool`; the program hands its words and streams over.
 #![tactic(auto)]
 
-use lt_tool::{Failure, Finish, Options, RunError, complain, no_words, run_script, status};
+use lt_tool::{Failure, Finish, complain, perform, status};
+use std::alloc::AllocError;
 use std::env;
 use std::io::ErrorKind;
 use std::process::ExitCode;
 
-/// How many words stand behind the program's name.
-fn words(rt: &HostRuntime) -> Result<usize, Failure> {
+/// The words behind the program's name.
+fn words(rt: &HostRuntime) -> Result<Vec<String>, Failure> {
     match env::args(rt) {
-        Ok(args) => Ok(args.count().saturating_sub(1)),
-        Err(e) if e.kind() == ErrorKind::OutOfMemory => Err(Failure::Run(RunError::Memory)),
+        Ok(args) => match args.skip(1).collect(rt.alloc()) {
+            Ok(words) => Ok(words),
+            Err(_) => Err(Failure::Memory),
+        },
+        Err(e) if e.kind() == ErrorKind::OutOfMemory => Err(Failure::Memory),
         Err(_) => Err(Failure::CommandLine),
     }
 }
 
+fn texts<'a>(rt: &HostRuntime, words: &'a [String]) -> Result<Vec<&'a str>, AllocError> {
+    words.iter().map(|word| word.as_str()).collect(rt.alloc())
+}
+
 fn run(rt: &HostRuntime) -> Result<Finish, Failure> {
-    no_words(words(rt)?)?;
-    let finish = run_script(
+    let words = words(rt)?;
+    let Ok(texts) = texts(rt, &words) else {
+        return Err(Failure::Memory);
+    };
+    perform(
         rt.alloc(),
+        rt,
+        texts.as_slice(),
         &mut rt.stdin(),
         &mut rt.stdout(),
-        &Options::default(),
-    )?;
-    Ok(finish)
+    )
 }
 
 fn main(rt: HostRuntime) -> ExitCode {

@@ -1,6 +1,7 @@
 -- What the program did for its words.
 use Rattle.std.specs.Prelude.{ℕ, ◌≡◌, List, Option, Some, None, Result, Ok, Err}
 use Rattle.std.specs.Io.KnownBytes.{Appends}
+use Rattle.std.specs.String.{string_bytes}
 use Rattle.lt_tool.specs.declared.check.CheckTextError.{CheckTextError}
 use Rattle.lt_tool.specs.declared.check.CheckTextError.TheVariants as checks
 use Rattle.lt_tool.specs.declared.program.Failure.{Failure}
@@ -9,7 +10,13 @@ use Rattle.lt_tool.specs.declared.run.RunError.{RunError}
 use Rattle.lt_tool.specs.declared.run.RunError.TheVariants as runs
 use Rattle.lt_history.specs.declared.checker.Report.{Report}
 use Rattle.lt_tool.specs.Check.{IsChecked, IsUnchecked, ToldInPart, report_line}
-use Rattle.lt_tool.specs.Output.{IsRefused, RanInPart}
+use Rattle.lt_tool.specs.declared.words.Job.{Job}
+use Rattle.lt_tool.specs.declared.words.Job.TheVariants as jobs
+use Rattle.lt_tool.specs.declared.words.WordsError.{WordsError}
+use Rattle.lt_tool.specs.declared.words.WordsError.TheVariants as errors
+use Rattle.lt_history.specs.Print.{AppendsFront}
+use Rattle.lt_tool.specs.Output.{IsRefused, Ran, RanInPart}
+use Rattle.lt_tool.specs.Words.{IsReadOf}
 
 -- The text is legal, and the writer holds its line more, and nothing else.
 pub record Told (source old new : Option (List ℕ)) : Type 0 where
@@ -35,3 +42,43 @@ LeavesOutput failures.Help = ⊥
 LeavesOutput (failures.Run runs.Write) = ⊥
 LeavesOutput (failures.Check checks.Write) = ⊥
 LeavesOutput _ = Unit {0}
+
+-- ---- jobs
+
+-- the bytes that a job reads: those of the input, or of its file, which are not known
+abbrev pub source_of : {A : Type 0} → Option A → Option (List ℕ) → Option (List ℕ)
+source_of None input = input
+source_of (Some file) input = None
+
+abbrev pub IsDone : Job → Option (List ℕ) → Option (List ℕ) → Option (List ℕ) → Type 0
+IsDone (jobs.Run file options) input old new = Ran (source_of file input) old new
+IsDone (jobs.Check file) input old new = Told (source_of file input) old new
+
+abbrev pub IsFailed : Job → Failure → Option (List ℕ) → Option (List ℕ) → Option (List ℕ) → Type 0
+IsFailed (jobs.Run file options) e input old new = IsFailedRun e (source_of file input) old new
+IsFailed (jobs.Check file) e input old new = IsFailedCheck e (source_of file input) old new
+
+-- ---- words
+
+-- What was read of the words is done: their job, or their help told.
+abbrev pub IsDoneFor : Result Job WordsError → Option (List ℕ) → Option (List ℕ) → Option (List ℕ) → Type 0
+IsDoneFor (Ok job) input old new = IsDone job input old new
+IsDoneFor (Err (errors.Help text)) input old new = Appends old new (string_bytes text)
+IsDoneFor (Err _) input old new = ⊥
+
+-- Why that is not done.
+abbrev pub IsFailedFor : Result Job WordsError → Failure → Option (List ℕ) → Option (List ℕ) → Option (List ℕ) → Type 0
+IsFailedFor (Ok job) e input old new = IsFailed job e input old new
+IsFailedFor (Err (errors.Help text)) e input old new = (e ≡ failures.Help) × AppendsFront old new (string_bytes text)
+IsFailedFor (Err errors.Refused) e input old new = e ≡ failures.CommandLine
+IsFailedFor (Err errors.Memory) e input old new = e ≡ failures.Memory
+
+pub record Performs (words : List (List ℕ)) (input old new : Option (List ℕ)) : Type 0 where
+  pub said : Result Job WordsError
+  pub read : IsReadOf words said
+  pub done : IsDoneFor said input old new
+
+pub record Fails (words : List (List ℕ)) (e : Failure) (input old new : Option (List ℕ)) : Type 0 where
+  pub said : Result Job WordsError
+  pub read : IsReadOf words said
+  pub failed : IsFailedFor said e input old new

@@ -25,6 +25,6 @@ mod work;
 
 pub use check::{CheckTextError, check_text};
 pub use program::{Failure, complain, status};
-
 pub use run::{Finish, Options, RunError, run_script};
 pub use words::{Job, WordsError, read_words};
+pub use work::perform;

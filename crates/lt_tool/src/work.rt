@@ -1,8 +1,9 @@
-ghost use Rattle.std.specs.Prelude.{◌≡◌, false, IfOk, IfErr};
-
+ghost use Rattle.std.specs.Prelude.{◌≡◌, None, false, IfOk, IfErr};
+ghost use Rattle.std.specs.Io.KnownBytes.{Appends};
+ghost use Rattle.lt_history.specs.Print.{AppendsFront};
 ghost use Rattle.lt_tool.specs.Output.{Ran};
-
-ghost use Rattle.lt_tool.specs.Work.{IsFailedRun, IsFailedCheck, Told, LeavesOutput};
+ghost use Rattle.lt_tool.specs.Words.{HasDefaultOptions, texts};
+ghost use Rattle.lt_tool.specs.Work.{IsFailedRun, IsFailedCheck, Told, LeavesOutput, IsDone, IsFailed, Performs, Fails};
 
 use crate::{
     CheckTextError, Failure, Finish, Job, Options, RunError, WordsError, check_text, read_words,
@@ -42,5 +43,91 @@ fn check_from<R: Read, W: Write>(
     match check_text(alloc, input, output) {
         Ok(_) => Ok(Finish::Done),
         Err(error) => Err(Failure::Check(error)),
+    }
+}
+
+fn run_file<F: Files, W: Write>(
+    alloc: Global,
+    files: &F,
+    name: &str,
+    output: &mut W,
+    options: &Options,
+) -> Result<Finish, Failure>
+    requires { options.now.threads ≡ false }
+    ensures ok { IfOk result (λ finish. (finish ≡ Finish.Done) × Ran None (W.contents output.old) (W.contents output.new)) }
+    ensures err { IfErr result (λ e. IsFailedRun e None (W.contents output.old) (W.contents output.new)) }
+    ensures unwritten { IfErr result (λ e. LeavesOutput e → output.new ≡ output.old) }
+{
+    match File::open(files, name) {
+        Ok(mut file) => run_from(alloc, &mut file, output, options),
+        Err(_) => Err(Failure::Run(RunError::Read)),
+    }
+}
+
+fn check_file<F: Files, W: Write>(
+    alloc: Global,
+    files: &F,
+    name: &str,
+    output: &mut W,
+) -> Result<Finish, Failure>
+    ensures ok { IfOk result (λ finish. (finish ≡ Finish.Done) × Told None (W.contents output.old) (W.contents output.new)) }
+    ensures err { IfErr result (λ e. IsFailedCheck e None (W.contents output.old) (W.contents output.new)) }
+    ensures unwritten { IfErr result (λ e. LeavesOutput e → output.new ≡ output.old) }
+{
+    match File::open(files, name) {
+        Ok(mut file) => check_from(alloc, &mut file, output),
+        Err(_) => Err(Failure::Check(CheckTextError::Read)),
+    }
+}
+
+/// Does the job: a job with a file reads that, and one without reads the input.
+fn work<F: Files, R: Read, W: Write>(
+    alloc: Global,
+    files: &F,
+    job: Job<'_>,
+    input: &mut R,
+    output: &mut W,
+) -> Result<Finish, Failure>
+    requires { HasDefaultOptions job }
+    ensures ok { IfOk result (λ finish. (finish ≡ Finish.Done) × IsDone job.entry (R.remaining input.old) (W.contents output.old) (W.contents output.new)) }
+    ensures err { IfErr result (λ e. IsFailed job.entry e (R.remaining input.old) (W.contents output.old) (W.contents output.new)) }
+    ensures unwritten { IfErr result (λ e. LeavesOutput e → output.new ≡ output.old) }
+{
+    match job {
+        Job::Run(None, options) => run_from(alloc, input, output, &options),
+        Job::Run(Some(name), options) => run_file(alloc, files, name, output, &options),
+        Job::Check(None) => check_from(alloc, input, output),
+        Job::Check(Some(name)) => check_file(alloc, files, name, output),
+    }
+}
+
+fn tell_help<W: Write>(output: &mut W, text: &str) -> Result<Finish, Failure>
+    ensures ok { IfOk result (λ finish. (finish ≡ Finish.Done) × Appends (W.contents output.old) (W.contents output.new) text.now) }
+    ensures err { IfErr result (λ e. (e ≡ Failure.Help) × AppendsFront (W.contents output.old) (W.contents output.new) text.now) }
+{
+    match write_out(output, text.as_bytes()) {
+        Ok(()) => Ok(Finish::Done),
+        Err(_) => Err(Failure::Help),
+    }
+}
+
+/// Reads the words behind the program's name, and does what they ask for: the program, but for its streams. Help is
+/// written to the output, and nothing went wrong then. The input is read only where no file is named.
+pub fn perform<'a, F: Files, R: Read, W: Write>(
+    alloc: Global,
+    files: &F,
+    words: &'a [&'a str],
+    input: &mut R,
+    output: &mut W,
+) -> Result<Finish, Failure>
+    ensures done { IfOk result (λ finish. (finish ≡ Finish.Done) × Performs (texts words.now) (R.remaining input.old) (W.contents output.old) (W.contents output.new)) }
+    ensures failed { IfErr result (λ e. Fails (texts words.now) e (R.remaining input.old) (W.contents output.old) (W.contents output.new)) }
+    ensures unwritten { IfErr result (λ e. LeavesOutput e → output.new ≡ output.old) }
+{
+    match read_words(alloc, words) {
+        Ok(job) => work(alloc, files, job, input, output),
+        Err(WordsError::Help(text)) => tell_help(output, &text),
+        Err(WordsError::Refused) => Err(Failure::CommandLine),
+        Err(WordsError::Memory) => Err(Failure::Memory),
     }
 }
