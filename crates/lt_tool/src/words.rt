@@ -1,6 +1,7 @@
 ghost use Rattle.std.specs.Prelude.{◌≡◌, [], ◌∷◌, List, None, Some, false, IfOk, IfSome, codes, option_map};
-ghost use Rattle.clap.specs.Words.{Text, app_of, rule_of, kind_of, subcommand_rows_of};
-ghost use Rattle.lt_tool.specs.Words.{file_rule, lockrun, order, order_of, IsToldBy, run as runs, check as checks, default_options, texts, HasDefaultOptions, IsReadOf, is_option, IsCommand, IsStray, Gives, Helps, Refuses};
+ghost use Rattle.clap.specs.Words.{Text, app_of, new_app, rule_of, kind_of, subcommand_rows_of, with_rule};
+ghost use Rattle.clap.specs.declared.builder.command.Command.TheViews.{out-Command};
+ghost use Rattle.lt_tool.specs.Words.{file_rule, program, lockrun, order, order_of, IsToldBy, run as runs, check as checks, default_options, texts, HasDefaultOptions, IsReadOf, is_option, IsCommand, IsStray, Gives, Helps, Refuses};
 
 use crate::Options;
 use clap::error::ErrorKind;
@@ -35,30 +36,52 @@ fn file<'a>(alloc: Global, name: &'a str, help: &'a str) -> Arg<'a>
     Arg::new(alloc, "file").value_name(name).help(help)
 }
 
+/// A command that reads a file.
+fn reader<'a>(
+    alloc: Global,
+    name: &'a str,
+    about: &'a str,
+    file: Arg<'a>,
+) -> Result<Command<'a>, AllocError>
+    requires rule { rule_of file ≡ file_rule }
+    requires alone { file.global ≡ false }
+    ensures reads { IfOk result (λ c. app_of c ≡ with_rule (new_app name.now) file_rule) }
+    ensures alone { IfOk result (λ c. (out-Command c).has_globals ≡ false) }
+{
+    Command::new(alloc, name).about(about).arg(file)
+}
+
+/// The program without its commands.
+fn program<'a>(alloc: Global) -> Result<Command<'a>, AllocError>
+    ensures { IfOk result (λ c. app_of c ≡ program) }
+{
+    Command::new(alloc, "lockrun")
+        .no_binary_name(true)
+        .about("Runs scripts of calls of a lock table, and checks histories of its keys. Without a word it is `run`.")
+        .bin_name("lockrun")
+}
+
 /// The program's command line.
 fn command<'a>(alloc: Global) -> Result<Command<'a>, AllocError>
     ensures { IfOk result (λ c. app_of c ≡ lockrun) }
 {
-    let run = Command::new(alloc, "run")
-        .about("Runs a script, and writes its answers and the histories of its keys")
-        .arg(file(
+    let run = reader(
+        alloc,
+        "run",
+        "Runs a script and writes its answers and the histories of its keys",
+        file(
             alloc,
             "SCRIPT",
-            "The script; without it standard input is read",
-        ))?;
-    let check = Command::new(alloc, "check")
-        .about("Checks whether a text tells legal histories of keys")
-        .arg(file(
-            alloc,
-            "FILE",
-            "The text; without it standard input is read",
-        ))?;
-    let whole = Command::new(alloc, "lockrun")
-        .about("Runs scripts of calls of a lock table, and checks histories; without a word it runs standard input")
-        .no_binary_name(true)
-        .subcommand(run)?
-        .subcommand(check)?;
-    Ok(whole)
+            "The script; standard input where none is named",
+        ),
+    )?;
+    let check = reader(
+        alloc,
+        "check",
+        "Checks whether a text tells legal histories of keys",
+        file(alloc, "FILE", "The text; standard input where none is named"),
+    )?;
+    program(alloc)?.subcommand(run)?.subcommand(check)
 }
 
 /// The job that the matches name.

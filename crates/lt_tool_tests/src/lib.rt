@@ -1,5 +1,11 @@
-//! What runs of scripts write, byte by byte, and how they fail.
+//! What runs of scripts and checks of histories write, byte by byte, and how they fail.
 #![tactic(auto)]
 
 #[cfg(test)]
-mod tests;
+mod checks;
+#[cfg(test)]
+mod scripts;
+#[cfg(test)]
+mod streams;
+#[cfg(test)]
+mod words;

@@ -1,7 +1,5 @@
-use lt_script::Fault;
-use lt_tool::{Failure, Finish, Options, RunError, complain, run_script, status};
-use std::io;
-use std::io::{Read, Write};
+use crate::streams::{LineEnds, Paper, blank};
+use lt_tool::{Finish, Options, RunError, run_script};
 use std::test::*;
 
 /// What each run shows, its script, and what it writes.
@@ -104,69 +102,6 @@ const RUNS: [(&str, &str, &str); 20] = [
     ),
 ];
 
-/// A writer that takes some bytes at once, and fails once it holds so many.
-#[derive(Drop)]
-struct Paper {
-    bytes: [u8; 1024],
-    len: usize,
-    at_once: usize,
-    stops_at: usize,
-}
-
-fn blank(at_once: usize, stops_at: usize) -> Paper {
-    Paper {
-        bytes: [0; 1024],
-        len: 0,
-        at_once,
-        stops_at,
-    }
-}
-
-impl Paper {
-    fn written(&self) -> &[u8] {
-        match self.bytes.get(..self.len) {
-            Some(written) => written,
-            None => &[],
-        }
-    }
-}
-
-impl Write for Paper {
-    fn write(&mut self, buf: &[u8]) -> io::Result<usize> {
-        let end = self.stops_at.min(1024);
-        if self.len >= end {
-            return Err(io::Error::from(io::ErrorKind::Other));
-        }
-        let n = buf.len().min(self.at_once).min(end - self.len);
-        let upto = self.len + n;
-        self.bytes[self.len..upto].copy_from_slice(&buf[..n]);
-        self.len = upto;
-        Ok(n)
-    }
-
-    fn flush(&mut self) -> io::Result<()> {
-        Ok(())
-    }
-}
-
-/// A reader that gives the same byte for ever, or fails at its second read.
-#[derive(Drop)]
-struct Source {
-    reads: usize,
-    is_torn: bool,
-}
-
-impl Read for Source {
-    fn read(&mut self, buf: &mut [u8]) -> io::Result<usize> {
-        if self.is_torn && self.reads == 1 {
-            return Err(io::Error::from(io::ErrorKind::Other));
-        }
-        self.reads = 1;
-        buf.fill(b'\n');
-        Ok(buf.len())
-    }
-}
-
 /// One run, and a second one where the first was refused memory: then nothing was written.
 fn run(rt: &HostRuntime, script: &str, writer: &mut Paper) -> Result<Finish, RunError> {
     for _ in 0..2 {
@@ -176,7 +111,7 @@ fn run(rt: &HostRuntime, script: &str, writer: &mut Paper) -> Result<Finish, Run
             writer,
             &Options::default(),
         );
-        if ended != Err(RunError::Memory) || writer.len != 0 {
+        if ended != Err(RunError::Memory) || !writer.written().is_empty() {
             return ended;
         }
     }
@@ -195,58 +130,35 @@ fn scripts_are_answered_and_their_steps_told(rt: HostRuntime) {
     }
 }
 
-/// Where a run fails nothing is written but a front of the output, and the program says why.
+/// A write that fails leaves a front of the output.
 #[test]
-fn failures_are_told(rt: HostRuntime) {
-    for (script, error, code, message) in [
-        (
-            "1 acquire 7 20.0 a\n0 scan\n",
-            RunError::Script {
-                line: 2,
-                fault: Fault::BadPass,
-            },
-            1,
-            "lockrun: line 2: BadPass\n",
-        ),
-        ("", RunError::Write, 5, "lockrun: write\n"),
-    ] {
-        let mut writer = blank(1024, 5);
-        let ended = run(&rt, script, &mut writer);
-        assert_eq!(rt; ended, Err(error));
-        let is_write = error == RunError::Write;
-        assert_eq!(rt;
-            writer.written(),
-            if is_write {
-                b"locks".as_slice()
-            } else {
-                b"".as_slice()
-            }
-        );
-        let failure = Failure::Run(error);
-        let mut told = blank(1, 1024);
-        assert_eq!(rt; complain(&mut told, &failure), Ok(()));
-        assert_eq!(rt; told.written(), message.as_bytes());
-        assert_eq!(rt; status(&Err(failure)), code);
-    }
+fn a_write_that_fails(rt: HostRuntime) {
+    let mut writer = blank(1024, 5);
+    assert_eq!(rt; run(&rt, "", &mut writer), Err(RunError::Write));
+    assert_eq!(rt; writer.written(), b"locks".as_slice());
 }
 
-/// A reader that fails, and one that never ends.
+/// A reader that fails, one whose text is too long by a byte, and one that never ends.
 #[test]
 fn readers_that_fail_or_never_end(rt: HostRuntime) {
-    for (is_torn, error) in [(true, RunError::Read), (false, RunError::TooLong)] {
+    for (left, fails_at, error) in [
+        (16_777_216, 1, RunError::Read),
+        (16_777_217, usize::MAX, RunError::TooLong),
+        (usize::MAX, usize::MAX, RunError::TooLong),
+    ] {
         let mut writer = blank(1024, 1024);
         let mut ended = Err(RunError::Memory);
         for _ in 0..2 {
             if ended == Err(RunError::Memory) {
-                ended = run_script(
-                    rt.alloc(),
-                    &mut Source { reads: 0, is_torn },
-                    &mut writer,
-                    &Options::default(),
-                );
+                let mut reader = LineEnds {
+                    left,
+                    reads: 0,
+                    fails_at,
+                };
+                ended = run_script(rt.alloc(), &mut reader, &mut writer, &Options::default());
             }
         }
         assert_eq!(rt; ended, Err(error));
-        assert_eq!(rt; writer.len, 0);
+        assert_eq!(rt; writer.written(), b"".as_slice());
     }
 }

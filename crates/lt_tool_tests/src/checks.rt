@@ -1,0 +1,148 @@
+use crate::streams::{LineEnds, Paper, Torn, blank};
+use lt_history::{CheckError, Fault, Report};
+use lt_tool::{CheckTextError, check_text};
+use std::io::{ErrorKind, Read};
+use std::test::*;
+
+/// A key that is taken, a reader that waits for it, and a look at the reader.
+const THREE_STEPS: &str = "locks 1\na 1 1 acquire 7 20.0 = taken\na 2 2 visit 1.1 8 20.0 r = wait\na 3 2 look 1 = first 7 held\n";
+
+const LINE: &str = "ok 1 keys 3 steps\n";
+
+type Ending = Result<Report, CheckTextError>;
+
+/// One check, and a second one where the first was refused memory: then nothing was written.
+fn checked<R: Read + Drop>(rt: &HostRuntime, mut readers: [R; 2], writer: &mut Paper) -> Ending {
+    for reader in &mut readers {
+        let ended = check_text(rt.alloc(), reader, writer);
+        if ended != Err(CheckTextError::Check(CheckError::Memory)) || !writer.written().is_empty() {
+            return ended;
+        }
+    }
+    Err(CheckTextError::Check(CheckError::Memory))
+}
+
+fn torn(text: &str, fails_at: usize) -> Torn<'_> {
+    Torn {
+        rest: text.as_bytes(),
+        reads: 0,
+        fails_at,
+    }
+}
+
+fn line_ends(left: usize) -> LineEnds {
+    LineEnds {
+        left,
+        reads: 0,
+        fails_at: usize::MAX,
+    }
+}
+
+fn three_steps() -> Ending {
+    Ok(Report { keys: 1, steps: 3 })
+}
+
+/// A text of 97 bytes is read by ten reads of up to ten bytes, and an eleventh that finds its end.
+#[test]
+fn reads_that_fail(rt: HostRuntime) {
+    assert_eq!(rt; THREE_STEPS.len(), 97);
+    for fails_at in 0..12 {
+        let mut writer = blank(1024, 1024);
+        let readers = [torn(THREE_STEPS, fails_at), torn(THREE_STEPS, fails_at)];
+        let ended = checked(&rt, readers, &mut writer);
+        let (ending, written) = if fails_at < 11 {
+            (Err(CheckTextError::Read), "")
+        } else {
+            (three_steps(), LINE)
+        };
+        assert_eq!(rt; ended, ending);
+        assert_eq!(rt; writer.written(), written.as_bytes());
+    }
+}
+
+/// A writer that fails after so many bytes holds the front of the line that long; so does one that takes nothing, or is
+/// interrupted.
+#[test]
+fn writes_that_fail(rt: HostRuntime) {
+    for stops_at in 0..19 {
+        for (at_once, fault) in [
+            (1024, ErrorKind::Other),
+            (1, ErrorKind::Interrupted),
+            (0, ErrorKind::Other),
+        ] {
+            let mut writer = blank(at_once, stops_at);
+            writer.fault = fault;
+            let readers = [torn(THREE_STEPS, 99), torn(THREE_STEPS, 99)];
+            let ended = checked(&rt, readers, &mut writer);
+            let held = if at_once == 0 { 0 } else { stops_at };
+            assert_eq!(rt; ended, if held == 18 { three_steps() } else { Err(CheckTextError::Write) });
+            assert_eq!(rt; Some(writer.written()), LINE.as_bytes().get(..held));
+        }
+    }
+}
+
+/// The longest text, and ones that are too long.
+#[test]
+fn long_texts(rt: HostRuntime) {
+    let header = CheckError::Refused {
+        line: 1,
+        fault: Fault::Header,
+    };
+    for (left, error) in [
+        (16_777_216, CheckTextError::Check(header)),
+        (16_777_217, CheckTextError::TooLong),
+        (usize::MAX, CheckTextError::TooLong),
+    ] {
+        let mut writer = blank(1024, 1024);
+        let ended = checked(&rt, [line_ends(left), line_ends(left)], &mut writer);
+        assert_eq!(rt; ended, Err(error));
+        assert_eq!(rt; writer.written(), b"".as_slice());
+    }
+}
+
+/// What the rules say of the front of so many bytes, whose line ends are counted.
+fn ending_of_cut(len: usize, ends: usize, is_whole: bool) -> Ending {
+    if len < 8 {
+        return Err(CheckTextError::Check(CheckError::Refused {
+            line: 1,
+            fault: Fault::Header,
+        }));
+    }
+    if is_whole {
+        let steps = ends.saturating_sub(1);
+        return Ok(Report {
+            keys: steps.min(1),
+            steps,
+        });
+    }
+    Err(CheckTextError::Check(CheckError::Refused {
+        line: ends.saturating_add(1),
+        fault: Fault::Shape,
+    }))
+}
+
+/// A text that is cut inside its first line has no header; inside a later line, that line is no line; after its header
+/// and some lines, it tells that many steps.
+#[test]
+fn cut_texts(rt: HostRuntime) {
+    let mut ends: usize = 0;
+    let mut is_whole = false;
+    for len in 0..98 {
+        let mut writer = blank(1024, 1024);
+        let front = THREE_STEPS.get(..len).unwrap_or("");
+        let ended = checked(&rt, [front.as_bytes(), front.as_bytes()], &mut writer);
+        assert_eq!(rt; ended, ending_of_cut(len, ends, is_whole));
+        let written = match (is_whole, ends) {
+            (true, 1) => "ok 0 keys 0 steps\n",
+            (true, 2) => "ok 1 keys 1 steps\n",
+            (true, 3) => "ok 1 keys 2 steps\n",
+            (true, 4) => LINE,
+            _ => "",
+        };
+        assert_eq!(rt; writer.written(), written.as_bytes());
+        is_whole = THREE_STEPS.as_bytes().get(len) == Some(&b'\n');
+        if is_whole {
+            ends = ends.saturating_add(1);
+        }
+    }
+}
