@@ -57,7 +57,9 @@ fn program<'a>(alloc: Global) -> Result<Command<'a>, AllocError>
 {
     Command::new(alloc, "lockrun")
         .no_binary_name(true)
-        .about("Runs scripts of calls of a lock table, and checks histories of its keys. Without a word it is `run`.")
+        .about(
+            "Runs scripts of calls of a lock table, and checks histories of its keys. Without a word it is `run`.",
+        )
         .bin_name("lockrun")
 }
 
@@ -79,7 +81,11 @@ fn command<'a>(alloc: Global) -> Result<Command<'a>, AllocError>
         alloc,
         "check",
         "Checks whether a text tells legal histories of keys",
-        file(alloc, "FILE", "The text; standard input where none is named"),
+        file(
+            alloc,
+            "FILE",
+            "The text; standard input where none is named",
+        ),
     )?;
     program(alloc)?.subcommand(run)?.subcommand(check)
 }

@@ -5,7 +5,8 @@ use std::io::{ErrorKind, Read};
 use std::test::*;
 
 /// A key that is taken, a reader that waits for it, and a look at the reader.
-const THREE_STEPS: &str = "locks 1\na 1 1 acquire 7 20.0 = taken\na 2 2 visit 1.1 8 20.0 r = wait\na 3 2 look 1 = first 7 held\n";
+const THREE_STEPS: &str =
+    "locks 1\na 1 1 acquire 7 20.0 = taken\na 2 2 visit 1.1 8 20.0 r = wait\na 3 2 look 1 = first 7 held\n";
 
 const LINE: &str = "ok 1 keys 3 steps\n";
 
@@ -75,7 +76,14 @@ fn writes_that_fail(rt: HostRuntime) {
             let readers = [torn(THREE_STEPS, 99), torn(THREE_STEPS, 99)];
             let ended = checked(&rt, readers, &mut writer);
             let held = if at_once == 0 { 0 } else { stops_at };
-            assert_eq!(rt; ended, if held == 18 { three_steps() } else { Err(CheckTextError::Write) });
+            assert_eq!(rt;
+                ended,
+                if held == 18 {
+                    three_steps()
+                } else {
+                    Err(CheckTextError::Write)
+                }
+            );
             assert_eq!(rt; Some(writer.written()), LINE.as_bytes().get(..held));
         }
     }

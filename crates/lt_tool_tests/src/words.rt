@@ -9,57 +9,321 @@ use std::test::*;
 /// What each line shows: the words behind the program's name, standard input, the status, standard output, and standard
 /// error.
 const ENDS: [(&str, &[&str], &str, u8, &str, &str); 38] = [
-    ("a script that is not there", &["run", "no-such-file"], "", 5, "", "lockrun: read\n"),
-    ("histories that are not there", &["check", "no-such-file"], "", 5, "", "lockrun: read\n"),
-    ("a script on standard input", &["run"], "1 acquire 7 20.0 a\n2 open 8 19.4294967295 a:r\n2 scan\n3 open 9 20.1 a:r\n3 scan\n1 finish 7 a\n", 0, "1 1 taken\n1 6 freed\n2 2 request 1\n2 3 proceed\n3 4 request 2\n3 5 waiting a\nlocks 1\na 1 1 acquire 7 20.0 = taken\na 2 2 visit 1.1 8 19.4294967295 r = pass\na 3 3 visit 2.1 9 20.1 r = wait\na 4 1 finish 7 = freed let 2.1\n", ""),
-    ("an option of a check", &["check", "--shards", "1"], "", 2, "", "lockrun: command line\n"),
-    ("two scripts", &["run", "a", "b"], "", 2, "", "lockrun: command line\n"),
-    ("an option that is none", &["run", "--jump"], "", 2, "", "lockrun: command line\n"),
-    ("an option without its number", &["run", "--steps"], "", 2, "", "lockrun: command line\n"),
-    ("a command that is none", &["upgrade"], "locks 1\na 1 1 acquire 7 20.0 = taken\na 2 2 visit 1.1 8 20.0 r = wait\na 3 2 look 1 = first 7 held\n", 2, "", "lockrun: command line\n"),
-    ("a reader that waits", &["check"], "locks 1\na 1 1 acquire 7 20.0 = taken\na 2 2 visit 1.1 8 20.0 r = wait\na 3 2 look 1 = first 7 held\n", 0, "ok 1 keys 3 steps\n", ""),
-    ("a reader that should wait", &["check"], "locks 1\na 1 1 acquire 7 20.0 = taken\na 2 2 visit 1.1 8 20.0 r = pass\na 3 2 look 1 = first 7 held\n", 1, "", "lockrun: line 3: WrongReply\n"),
-    ("a step left out", &["check"], "locks 1\na 1 1 acquire 7 20.0 = taken\na 3 2 visit 1.1 8 20.0 r = wait\na 3 2 look 1 = first 7 held\n", 1, "", "lockrun: line 3: Index\n"),
-    ("a number with a zero before it", &["check"], "locks 1\na 1 1 acquire 7 20.0 = taken\na 02 2 visit 1.1 8 20.0 r = wait\na 3 2 look 1 = first 7 held\n", 1, "", "lockrun: line 3: Shape\n"),
-    ("a cut in the last line", &["check"], "locks 1\na 1 1 acquire 7 20.0 = taken\na 2 2 visit 1.1 8 20.0 r = wait\na 3 2 look 1 = first 7 he", 1, "", "lockrun: line 4: Shape\n"),
-    ("no last line end", &["check"], "locks 1\na 1 1 acquire 7 20.0 = taken\na 2 2 visit 1.1 8 20.0 r = wait\na 3 2 look 1 = first 7 held", 1, "", "lockrun: line 4: Shape\n"),
-    ("a cut after a line", &["check"], "locks 1\na 1 1 acquire 7 20.0 = taken\na 2 2 visit 1.1 8 20.0 r = wait\n", 0, "ok 1 keys 2 steps\n", ""),
-    ("no bytes", &["check"], "", 1, "", "lockrun: line 1: Header\n"),
-    ("a let that is missing", &["check"], "locks 1\na 1 3 acquire 9 10.0 = taken\na 2 2 visit 2.1 2 10.0 w = wait\na 3 1 visit 1.1 1 10.0 w = wait\na 4 3 finish 9 = freed\na 5 2 look 2 = first 1 reserved\n", 1, "", "lockrun: line 5: WrongLets\n"),
-    ("keys that fall", &["check"], "locks 1\nb 1 2 finish 8 = other\na 1 1 acquire 7 20.0 = taken\na 2 1 acquire 7 5.0 = kept\na 3 1 update 7 20.0 = kept\na 4 2 acquire 8 30.0 = other\na 5 2 update 8 40.0 = other\na 6 2 finish 8 = other\n", 1, "", "lockrun: line 3: KeyOrder\n"),
-    ("an option with a number", &["run", "--shards", "0"], "", 2, "", "lockrun: command line\n"),
-    ("the least numbers", &["check"], "locks 1\na 1 1 visit 1.1 1 1.0 w = pass\n", 0, "ok 1 keys 1 steps\n", ""),
-    ("the greatest numbers", &["check"], "locks 1\na 1 1 visit 1099511627775.16777215 18446744073709551615 1.0 w = pass\n", 0, "ok 1 keys 1 steps\n", ""),
-    ("a number of 0", &["check"], "locks 1\na 1 1 visit 0.1 1 1.0 w = pass\n", 1, "", "lockrun: line 2: Shape\n"),
-    ("a number too great", &["check"], "locks 1\na 1 1 visit 1099511627776.1 1 1.0 w = pass\n", 1, "", "lockrun: line 2: Shape\n"),
-    ("a wait of 0", &["check"], "locks 1\na 1 1 visit 1.0 1 1.0 w = pass\n", 1, "", "lockrun: line 2: Shape\n"),
-    ("a wait too great", &["check"], "locks 1\na 1 1 visit 1.16777216 1 1.0 w = pass\n", 1, "", "lockrun: line 2: Shape\n"),
-    ("a transaction of 0", &["check"], "locks 1\na 1 1 visit 1.1 0 1.0 w = pass\n", 1, "", "lockrun: line 2: Shape\n"),
-    ("a transaction too great", &["check"], "locks 1\na 1 1 visit 1.1 18446744073709551616 1.0 w = pass\n", 1, "", "lockrun: line 2: Shape\n"),
-    ("a request that waits twice", &["check"], "locks 1\na 1 9 acquire 9 10.0 = taken\na 2 1 visit 1.1 1 12.0 r = wait\na 3 1 visit 1.2 1 12.0 r = wait\na 4 9 update 9 13.0 = raised let 1.2\na 5 2 visit 2.1 2 12.0 w = wait\na 6 2 visit 2.2 2 12.0 r = pass\na 7 3 visit 3.1 3 20.0 w = wait\na 8 3 visit 3.2 3 20.0 r = wait\na 9 9 finish 9 = freed let 2.1\na 10 3 look 3 = first 2 reserved\na 11 2 leave 2 = left let 3.2\na 12 3 look 3 = reserved\na 13 3 leave 3 = left\na 14 3 look 3 = nothing\n", 0, "ok 1 keys 14 steps\n", ""),
-    ("no steps", &["check"], "locks 1\n", 0, "ok 0 keys 0 steps\n", ""),
-    ("a word that is none", &["jump"], "", 2, "", "lockrun: command line\n"),
-    ("an option without its command", &["--shards", "1"], "", 2, "", "lockrun: command line\n"),
-    ("a file without bytes is a script", &["run", "/dev/null"], "1 jump\n", 0, "locks 1\n", ""),
-    ("a file without bytes is no histories", &["check", "/dev/null"], "locks 1\n", 1, "", "lockrun: line 1: Header\n"),
+    (
+        "a script that is not there",
+        &["run", "no-such-file"],
+        "",
+        5,
+        "",
+        "lockrun: read\n",
+    ),
+    (
+        "histories that are not there",
+        &["check", "no-such-file"],
+        "",
+        5,
+        "",
+        "lockrun: read\n",
+    ),
+    (
+        "a script on standard input",
+        &["run"],
+        "1 acquire 7 20.0 a\n2 open 8 19.4294967295 a:r\n2 scan\n3 open 9 20.1 a:r\n3 scan\n1 finish 7 a\n",
+        0,
+        "1 1 taken\n1 6 freed\n2 2 request 1\n2 3 proceed\n3 4 request 2\n3 5 waiting a\nlocks 1\na 1 1 acquire 7 20.0 = taken\na 2 2 visit 1.1 8 19.4294967295 r = pass\na 3 3 visit 2.1 9 20.1 r = wait\na 4 1 finish 7 = freed let 2.1\n",
+        "",
+    ),
+    (
+        "an option of a check",
+        &["check", "--shards", "1"],
+        "",
+        2,
+        "",
+        "lockrun: command line\n",
+    ),
+    (
+        "two scripts",
+        &["run", "a", "b"],
+        "",
+        2,
+        "",
+        "lockrun: command line\n",
+    ),
+    (
+        "an option that is none",
+        &["run", "--jump"],
+        "",
+        2,
+        "",
+        "lockrun: command line\n",
+    ),
+    (
+        "an option without its number",
+        &["run", "--steps"],
+        "",
+        2,
+        "",
+        "lockrun: command line\n",
+    ),
+    (
+        "a command that is none",
+        &["upgrade"],
+        "locks 1\na 1 1 acquire 7 20.0 = taken\na 2 2 visit 1.1 8 20.0 r = wait\na 3 2 look 1 = first 7 held\n",
+        2,
+        "",
+        "lockrun: command line\n",
+    ),
+    (
+        "a reader that waits",
+        &["check"],
+        "locks 1\na 1 1 acquire 7 20.0 = taken\na 2 2 visit 1.1 8 20.0 r = wait\na 3 2 look 1 = first 7 held\n",
+        0,
+        "ok 1 keys 3 steps\n",
+        "",
+    ),
+    (
+        "a reader that should wait",
+        &["check"],
+        "locks 1\na 1 1 acquire 7 20.0 = taken\na 2 2 visit 1.1 8 20.0 r = pass\na 3 2 look 1 = first 7 held\n",
+        1,
+        "",
+        "lockrun: line 3: WrongReply\n",
+    ),
+    (
+        "a step left out",
+        &["check"],
+        "locks 1\na 1 1 acquire 7 20.0 = taken\na 3 2 visit 1.1 8 20.0 r = wait\na 3 2 look 1 = first 7 held\n",
+        1,
+        "",
+        "lockrun: line 3: Index\n",
+    ),
+    (
+        "a number with a zero before it",
+        &["check"],
+        "locks 1\na 1 1 acquire 7 20.0 = taken\na 02 2 visit 1.1 8 20.0 r = wait\na 3 2 look 1 = first 7 held\n",
+        1,
+        "",
+        "lockrun: line 3: Shape\n",
+    ),
+    (
+        "a cut in the last line",
+        &["check"],
+        "locks 1\na 1 1 acquire 7 20.0 = taken\na 2 2 visit 1.1 8 20.0 r = wait\na 3 2 look 1 = first 7 he",
+        1,
+        "",
+        "lockrun: line 4: Shape\n",
+    ),
+    (
+        "no last line end",
+        &["check"],
+        "locks 1\na 1 1 acquire 7 20.0 = taken\na 2 2 visit 1.1 8 20.0 r = wait\na 3 2 look 1 = first 7 held",
+        1,
+        "",
+        "lockrun: line 4: Shape\n",
+    ),
+    (
+        "a cut after a line",
+        &["check"],
+        "locks 1\na 1 1 acquire 7 20.0 = taken\na 2 2 visit 1.1 8 20.0 r = wait\n",
+        0,
+        "ok 1 keys 2 steps\n",
+        "",
+    ),
+    (
+        "no bytes",
+        &["check"],
+        "",
+        1,
+        "",
+        "lockrun: line 1: Header\n",
+    ),
+    (
+        "a let that is missing",
+        &["check"],
+        "locks 1\na 1 3 acquire 9 10.0 = taken\na 2 2 visit 2.1 2 10.0 w = wait\na 3 1 visit 1.1 1 10.0 w = wait\na 4 3 finish 9 = freed\na 5 2 look 2 = first 1 reserved\n",
+        1,
+        "",
+        "lockrun: line 5: WrongLets\n",
+    ),
+    (
+        "keys that fall",
+        &["check"],
+        "locks 1\nb 1 2 finish 8 = other\na 1 1 acquire 7 20.0 = taken\na 2 1 acquire 7 5.0 = kept\na 3 1 update 7 20.0 = kept\na 4 2 acquire 8 30.0 = other\na 5 2 update 8 40.0 = other\na 6 2 finish 8 = other\n",
+        1,
+        "",
+        "lockrun: line 3: KeyOrder\n",
+    ),
+    (
+        "an option with a number",
+        &["run", "--shards", "0"],
+        "",
+        2,
+        "",
+        "lockrun: command line\n",
+    ),
+    (
+        "the least numbers",
+        &["check"],
+        "locks 1\na 1 1 visit 1.1 1 1.0 w = pass\n",
+        0,
+        "ok 1 keys 1 steps\n",
+        "",
+    ),
+    (
+        "the greatest numbers",
+        &["check"],
+        "locks 1\na 1 1 visit 1099511627775.16777215 18446744073709551615 1.0 w = pass\n",
+        0,
+        "ok 1 keys 1 steps\n",
+        "",
+    ),
+    (
+        "a number of 0",
+        &["check"],
+        "locks 1\na 1 1 visit 0.1 1 1.0 w = pass\n",
+        1,
+        "",
+        "lockrun: line 2: Shape\n",
+    ),
+    (
+        "a number too great",
+        &["check"],
+        "locks 1\na 1 1 visit 1099511627776.1 1 1.0 w = pass\n",
+        1,
+        "",
+        "lockrun: line 2: Shape\n",
+    ),
+    (
+        "a wait of 0",
+        &["check"],
+        "locks 1\na 1 1 visit 1.0 1 1.0 w = pass\n",
+        1,
+        "",
+        "lockrun: line 2: Shape\n",
+    ),
+    (
+        "a wait too great",
+        &["check"],
+        "locks 1\na 1 1 visit 1.16777216 1 1.0 w = pass\n",
+        1,
+        "",
+        "lockrun: line 2: Shape\n",
+    ),
+    (
+        "a transaction of 0",
+        &["check"],
+        "locks 1\na 1 1 visit 1.1 0 1.0 w = pass\n",
+        1,
+        "",
+        "lockrun: line 2: Shape\n",
+    ),
+    (
+        "a transaction too great",
+        &["check"],
+        "locks 1\na 1 1 visit 1.1 18446744073709551616 1.0 w = pass\n",
+        1,
+        "",
+        "lockrun: line 2: Shape\n",
+    ),
+    (
+        "a request that waits twice",
+        &["check"],
+        "locks 1\na 1 9 acquire 9 10.0 = taken\na 2 1 visit 1.1 1 12.0 r = wait\na 3 1 visit 1.2 1 12.0 r = wait\na 4 9 update 9 13.0 = raised let 1.2\na 5 2 visit 2.1 2 12.0 w = wait\na 6 2 visit 2.2 2 12.0 r = pass\na 7 3 visit 3.1 3 20.0 w = wait\na 8 3 visit 3.2 3 20.0 r = wait\na 9 9 finish 9 = freed let 2.1\na 10 3 look 3 = first 2 reserved\na 11 2 leave 2 = left let 3.2\na 12 3 look 3 = reserved\na 13 3 leave 3 = left\na 14 3 look 3 = nothing\n",
+        0,
+        "ok 1 keys 14 steps\n",
+        "",
+    ),
+    (
+        "no steps",
+        &["check"],
+        "locks 1\n",
+        0,
+        "ok 0 keys 0 steps\n",
+        "",
+    ),
+    (
+        "a word that is none",
+        &["jump"],
+        "",
+        2,
+        "",
+        "lockrun: command line\n",
+    ),
+    (
+        "an option without its command",
+        &["--shards", "1"],
+        "",
+        2,
+        "",
+        "lockrun: command line\n",
+    ),
+    (
+        "a file without bytes is a script",
+        &["run", "/dev/null"],
+        "1 jump\n",
+        0,
+        "locks 1\n",
+        "",
+    ),
+    (
+        "a file without bytes is no histories",
+        &["check", "/dev/null"],
+        "locks 1\n",
+        1,
+        "",
+        "lockrun: line 1: Header\n",
+    ),
     ("no words", &[], "1 scan\n", 0, "1 1 none\nlocks 1\n", ""),
-    ("a refused script", &["run"], "1 acquire 7 20.0 a\n0 scan\n", 1, "", "lockrun: line 2: BadPass\n"),
-    ("no name of a file", &["run", ""], "", 5, "", "lockrun: read\n"),
-    ("two texts", &["check", "a", "b"], "", 2, "", "lockrun: command line\n"),
-    ("two commands", &["check", "run", "check"], "", 2, "", "lockrun: command line\n"),
+    (
+        "a refused script",
+        &["run"],
+        "1 acquire 7 20.0 a\n0 scan\n",
+        1,
+        "",
+        "lockrun: line 2: BadPass\n",
+    ),
+    (
+        "no name of a file",
+        &["run", ""],
+        "",
+        5,
+        "",
+        "lockrun: read\n",
+    ),
+    (
+        "two texts",
+        &["check", "a", "b"],
+        "",
+        2,
+        "",
+        "lockrun: command line\n",
+    ),
+    (
+        "two commands",
+        &["check", "run", "check"],
+        "",
+        2,
+        "",
+        "lockrun: command line\n",
+    ),
 ];
 
-/// The help of the program, and of its two commands.
-const HELPS: [(&[&str], &str); 4] = [
-    (&["--help"], HELP),
-    (&["help"], HELP),
-    (&["run", "--help"], RUN_HELP),
-    (&["check", "-h"], CHECK_HELP),
+/// The help of the program, and of its two commands, with its first eight bytes.
+const HELPS: [(&[&str], &str, &str); 4] = [
+    (&["--help"], HELP, "Runs scr"),
+    (&["help"], HELP, "Runs scr"),
+    (&["run", "--help"], RUN_HELP, "Runs a s"),
+    (&["check", "-h"], CHECK_HELP, "Checks w"),
 ];
 
-const HELP: &str = "Runs scripts of calls of a lock table, and checks histories of its keys. Without a word it is `run`.\n\nUsage: lockrun [COMMAND]\n\nCommands:\n  run    Runs a script and writes its answers and the histories of its keys\n  check  Checks whether a text tells legal histories of keys\n  help   Print this message or the help of the given subcommand(s)\n\nOptions:\n  -h, --help  Print help\n";
-const RUN_HELP: &str = "Runs a script and writes its answers and the histories of its keys\n\nUsage: lockrun run [SCRIPT]\n\nArguments:\n  [SCRIPT]  The script; standard input where none is named\n\nOptions:\n  -h, --help  Print help\n";
-const CHECK_HELP: &str = "Checks whether a text tells legal histories of keys\n\nUsage: lockrun check [FILE]\n\nArguments:\n  [FILE]  The text; standard input where none is named\n\nOptions:\n  -h, --help  Print help\n";
+const HELP: &str =
+    "Runs scripts of calls of a lock table, and checks histories of its keys. Without a word it is `run`.\n\nUsage: lockrun [COMMAND]\n\nCommands:\n  run    Runs a script and writes its answers and the histories of its keys\n  check  Checks whether a text tells legal histories of keys\n  help   Print this message or the help of the given subcommand(s)\n\nOptions:\n  -h, --help  Print help\n";
+
+const RUN_HELP: &str =
+    "Runs a script and writes its answers and the histories of its keys\n\nUsage: lockrun run [SCRIPT]\n\nArguments:\n  [SCRIPT]  The script; standard input where none is named\n\nOptions:\n  -h, --help  Print help\n";
+
+const CHECK_HELP: &str =
+    "Checks whether a text tells legal histories of keys\n\nUsage: lockrun check [FILE]\n\nArguments:\n  [FILE]  The text; standard input where none is named\n\nOptions:\n  -h, --help  Print help\n";
 
 /// What one run of the program ends with, and a second one where the first was refused memory: then nothing was written.
 fn ended(
@@ -95,13 +359,13 @@ fn words_and_texts_end_as_the_rules_say(rt: HostRuntime) {
 /// Help is written to standard output, and its status is 0; where it cannot be written a front of it is.
 #[test]
 fn help_is_told(rt: HostRuntime) {
-    for (words, help) in HELPS {
-        let mut output = blank(1024, 1024);
-        assert_eq!(rt; ended(&rt, words, "", &mut output), Ok(Finish::Done));
-        assert_eq!(rt; output.written(), help.as_bytes());
-        let mut short = blank(1024, 9);
-        assert_eq!(rt; ended(&rt, words, "", &mut short), Err(Failure::Help));
-        assert_eq!(rt; Some(short.written()), help.as_bytes().get(..9));
+    for (words, help, front) in HELPS {
+        for (stops_at, code, written) in [(1024, 0, help), (8, 5, front)] {
+            let mut output = blank(1024, stops_at);
+            let ending = ended(&rt, words, "", &mut output);
+            assert_eq!(rt; status(&ending), code);
+            assert_eq!(rt; output.written(), written.as_bytes());
+        }
     }
 }
 
@@ -144,14 +408,26 @@ fn failures_are_told(rt: HostRuntime) {
         (Failure::CommandLine, 2, "lockrun: command line\n"),
         (Failure::Memory, 4, "lockrun: memory\n"),
         (Failure::Help, 5, "lockrun: write\n"),
-        (Failure::Run(script), 1, "lockrun: line 18446744073709551615: BadAccess\n"),
-        (Failure::Run(RunError::TooLong), 1, "lockrun: text too long\n"),
+        (
+            Failure::Run(script),
+            1,
+            "lockrun: line 18446744073709551615: BadAccess\n",
+        ),
+        (
+            Failure::Run(RunError::TooLong),
+            1,
+            "lockrun: text too long\n",
+        ),
         (Failure::Run(RunError::Memory), 4, "lockrun: memory\n"),
         (Failure::Run(RunError::Read), 5, "lockrun: read\n"),
         (Failure::Run(RunError::Write), 5, "lockrun: write\n"),
         (Failure::Check(faulty), 1, "lockrun: line 10: WrongLets\n"),
         (Failure::Check(memory), 4, "lockrun: memory\n"),
-        (Failure::Check(CheckTextError::TooLong), 1, "lockrun: text too long\n"),
+        (
+            Failure::Check(CheckTextError::TooLong),
+            1,
+            "lockrun: text too long\n",
+        ),
         (Failure::Check(CheckTextError::Read), 5, "lockrun: read\n"),
         (Failure::Check(CheckTextError::Write), 5, "lockrun: write\n"),
     ] {
