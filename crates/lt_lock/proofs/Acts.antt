@@ -1,12 +1,11 @@
 -- What freeing, raising and taking a lock make of a row's record.
-use Rattle.std.proofs.Common.{◌≡◌, ◌≢◌, ◌≤◌, ℕ, Bool, true, false, not, cond, List, [], ◌∷◌, ◌++◌, length, map, filter, Option, Some, None, slice_get, refl, sym, ap, ◌∙◌, subst, arith, nat_eq, append-nil, Result, Ok, Err, ◌&&◌}
+use Rattle.std.proofs.Common.{◌≡◌, ◌≢◌, ◌≤◌, ℕ, Bool, true, false, not, cond, List, [], ◌∷◌, ◌++◌, length, map, filter, Some, None, slice_get, refl, sym, ap, ◌∙◌, subst, arith, nat_eq, append-nil, ◌&&◌}
 use Rattle.std.specs.Prelude.{drop, take}
 use Rattle.lt_ids.specs.declared.ticket.Through.{Through}
 use Rattle.lt_ids.specs.declared.timestamp.Timestamp.{Timestamp}
 use Rattle.lt_ids.specs.Timestamp.{is_below}
 use Rattle.std.specs.List.{AllByRecursion}
 use Rattle.std.specs.Option.{option_map}
-use Rattle.std.specs.Result.{OnOk}
 use Rattle.std.proofs.lemmas.List.{map-append}
 use Rattle.std.proofs.lemmas.List.Elements.{filter-append}
 use Rattle.lt_links.specs.declared.ids.Queue.{Queue}
@@ -18,12 +17,12 @@ use Rattle.lt_links.specs.declared.ids.QueueKind.{QueueKind}
 use Rattle.lt_links.specs.declared.ids.QueueKind.TheVariants.{Writers, Readers, Reservation}
 use Rattle.lt_links.specs.Maps.{Maps, queue, stand, is_kind, IsSound}
 use Rattle.lt_lock.specs.declared.row.Row.{Row}
-use Rattle.lt_lock.specs.declared.walk.Who.{Who}
 use Rattle.lt_lock.specs.declared.walk.Who.TheVariants.{All, Below, Of}
 use Rattle.lt_lock.specs.Linked.{stand_at, stands_at, line, queue_at, record_of, request_of, writer_of, IsNamed, IsLinked}
 use Rattle.lt_lock.specs.Found.{leaves, goes_on, Writes, Brings}
 use Rattle.lt_lock.specs.Went.{KeepsOthers, IsRewritten}
-use Rattle.lt_lock.proofs.Rows.{record_by, record_lines, line_written, linked_written, others_written, others_twice, others_same, stand_is}
+use Rattle.lt_lock.proofs.Rows.{record_by, record_lines, line_written, linked_written, others_written, others_twice, others_same}
+use Rattle.lt_lock.proofs.Written.{stand_is}
 
 -- ---- who goes on when a lock comes free
 
@@ -61,10 +60,6 @@ no_line m q p is none = empty_first (queue m p) (none ∙ ap (λ x. slice_get (q
 -- a queue's first node has the first of its line
 pub first_line : (m : Maps) (q p : Queue) (node : ℕ) (ys : List ℕ) (s : Stand) → q ≡ p → queue m q ≡ node ∷ ys → stand m node ≡ Some s → line m p ≡ s ∷ stands_at m ys
 first_line m q p node ys s is cut at = ap (λ x. line m x) (sym is) ∙ ap (stands_at m) cut ∙ ap (λ t. t ∷ stands_at m ys) (stand_is m node s at)
-
-pub when_ok : {T E P Q : Type 0} (r : Result T E) → (P → Q) → OnOk r P → OnOk r Q
-when_ok (Ok v) f p = f p
-when_ok (Err e) f p = tt
 
 -- ---- what a row's queues hold, and what it means
 

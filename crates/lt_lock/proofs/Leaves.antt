@@ -1,5 +1,5 @@
 -- What it means for a row's record that a request stands at it, and that it leaves.
-use Rattle.std.proofs.Common.{◌≡◌, ◌≢◌, ◌≤◌, ℕ, Bool, true, false, not, cond, List, [], ◌∷◌, ◌++◌, length, map, filter, Option, Some, None, slice_get, refl, sym, ap, ◌∙◌, subst, arith, nat_eq, ◌⊎◌, inl, inr}
+use Rattle.std.proofs.Common.{◌≡◌, ◌≢◌, ◌≤◌, ℕ, true, false, cond, List, [], ◌∷◌, ◌++◌, length, map, Some, None, slice_get, refl, sym, ap, ◌∙◌, subst, arith, nat_eq, ◌⊎◌, inl, inr}
 use Rattle.std.specs.List.{AllByRecursion, IsDistinct, list_any, find}
 use Rattle.std.specs.Option.{option_map}
 use Rattle.std.proofs.lemmas.Bool.Decides.{nat_tests}
@@ -14,15 +14,13 @@ use Rattle.lt_plain.specs.Lawful.{IsLawful, numbers}
 use Rattle.lt_plain.proofs.Lawfulness.{step_keeps_lawful}
 use Rattle.lt_plain.proofs.Cases.{all_append, all_front, all_back}
 use Rattle.lt_links.specs.declared.stand.Stand.{Stand}
-use Rattle.lt_links.specs.declared.ids.Queue.{Queue}
 use Rattle.lt_links.specs.declared.ids.QueueKind.{QueueKind}
 use Rattle.lt_links.specs.declared.ids.QueueKind.TheVariants.{Writers, Readers, Reservation}
 use Rattle.lt_links.specs.Maps.{Maps}
 use Rattle.lt_lock.specs.declared.row.Row.{Row}
 use Rattle.lt_lock.specs.Linked.{stand_at, stands_at, line, queue_at, record_of, request_of, writer_of, IsNamed, IsLinked}
 use Rattle.lt_lock.specs.Found.{IsFound, IsMissing, Writes}
-use Rattle.lt_lock.specs.Went.{IsRewritten}
-use Rattle.lt_lock.proofs.Rows.{HasNot, StandsAlone, found_alone, none_among, one_among, none_found, one_found, without_none, without_one, record_lines, line_written, linked_written, others_written}
+use Rattle.lt_lock.proofs.Rows.{HasNot, StandsAlone, found_alone, none_among, one_among, none_found, one_found, without_none, without_one, record_lines, line_written, linked_written}
 use Rattle.lt_lock.proofs.Acts.{few_others}
 
 -- ---- what a step leaves of a lawful record is lawful

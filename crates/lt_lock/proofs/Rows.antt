@@ -1,26 +1,25 @@
 -- What queues that are written make of a row's record.
 use Rattle.std.proofs.Common.{◌≡◌, ◌≢◌, ◌≤◌, ℕ, Bool, true, false, not, cond, List, [], ◌∷◌, ◌++◌, length, map, filter, Option, Some, None, slice_get, refl, sym, ap, ◌∙◌, subst, arith, nat_eq, ◌&&◌, ◌||◌, append_assoc}
-use Rattle.std.specs.Prelude.{option_to_list, drop, unwrap_or}
+use Rattle.std.specs.Prelude.{option_to_list}
 use Rattle.std.specs.List.{AllByRecursion, IsDistinct, list_any, find}
 use Rattle.std.specs.Option.{option_map}
 use Rattle.std.proofs.lemmas.List.{map-append}
 use Rattle.std.proofs.lemmas.Bool.Decides.{nat_tests}
-use mathlib.Core.Bool.{true≢false}
 use Rattle.lt_plain.specs.declared.queued.QueuedRequest.{QueuedRequest}
 use Rattle.lt_plain.specs.Record.{Record, number_of, writer_number, is_eligible, eligible}
 use Rattle.lt_plain.proofs.Queue.{any_eligible, first_without_readers, first_of_readers}
 use Rattle.lt_plain.specs.Lawful.{numbers}
-use Rattle.lt_plain.proofs.Cases.{all_front, all_back, all_map, all_unmap, all_weaker, all_append}
+use Rattle.lt_plain.proofs.Cases.{all_front, all_back, all_unmap, all_weaker}
 use Rattle.lt_links.specs.declared.stand.Stand.{Stand}
 use Rattle.lt_links.specs.declared.ids.Queue.{Queue}
 use Rattle.lt_links.specs.declared.ids.QueueKind.{QueueKind}
 use Rattle.lt_links.specs.declared.ids.QueueKind.TheVariants.{Writers, Readers, Reservation}
 use Rattle.lt_links.specs.Ring.{has}
-use Rattle.lt_links.specs.Maps.{Maps, queue, stand, is_kind, HasNode, IsSound}
-use Rattle.lt_links.proofs.Rings.{is_itself}
+use Rattle.lt_links.specs.Maps.{Maps, queue, is_kind, HasNode, IsSound}
+use Rattle.lt_lock.proofs.Places.{has_cut}
 use Rattle.lt_lock.specs.declared.row.Row.{Row}
-use Rattle.lt_lock.specs.Linked.{stand_at, no_stand, stands_at, line, queue_at, record_of, request_of, writer_of, IsNamed, IsLinked}
-use Rattle.lt_lock.specs.Found.{IsFound, IsMissing, Writes, Brings}
+use Rattle.lt_lock.specs.Linked.{stand_at, stands_at, line, queue_at, record_of, request_of, writer_of, IsNamed, IsLinked}
+use Rattle.lt_lock.specs.Found.{IsFound, IsMissing, Writes}
 use Rattle.lt_lock.specs.Went.{KeepsOthers}
 
 -- ---- one queue of a row is written
@@ -269,22 +268,15 @@ one_eligible reservation n (t ∷ before) after s e b a = let no : t.number ≢ 
 
 -- ---- the node that is found
 
-has_middle : (n : ℕ) (xs ys : List ℕ) → has n (xs ++ n ∷ ys) ≡ true
-has_middle n [] ys = rw (is_itself n) refl
-has_middle n (x ∷ xs) ys = rw (has_middle n xs ys) (elim (nat_eq n x) as (λ b. cond b true true ≡ true) [ true ↦ refl | false ↦ refl ])
-
 module _ (m : Maps) (sound : IsSound m) where
   pub cut_there : (q : Queue) (node : ℕ) (xs ys : List ℕ) → queue m q ≡ xs ++ node ∷ ys → HasNode m node
-  cut_there q node xs ys cut = sound.queued_there q node (ap (has node) cut ∙ has_middle node xs ys)
+  cut_there q node xs ys cut = sound.queued_there q node (ap (has node) cut ∙ has_cut node xs ys)
 
   pub first_cut : (q : Queue) (node : ℕ) → Some node ≡ slice_get (queue m q) 0 → (ys : List ℕ) × (queue m q ≡ node ∷ ys)
   first_cut q node first = elim (queue m q) as (λ l. Some node ≡ slice_get l 0 → (ys : List ℕ) × (l ≡ node ∷ ys)) [
     | [] ↦ λ e. absurd (cc)
     | x ∷ xs ↦ λ e. (xs, let same : node ≡ x = cc in ap (λ y. y ∷ xs) (sym same))
   ] first
-
-pub stand_is : (m : Maps) (node : ℕ) (s : Stand) → stand m node ≡ Some s → stand_at m node ≡ s
-stand_is m node s e = ap (λ o. unwrap_or o no_stand) e
 
 -- ---- who may be the distinguished waiter
 

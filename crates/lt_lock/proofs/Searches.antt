@@ -1,17 +1,16 @@
 -- The search for a request's stand at a key, through the list of its number.
-use Rattle.std.proofs.Common.{◌≡◌, ◌≢◌, ℕ, Bool, true, false, Option, Some, None, List, [], ◌∷◌, ◌++◌, refl, sym, ap, ◌∙◌, subst, inl, inr}
-use Rattle.std.specs.Prelude.{is_some, unwrap_or, slice_get}
+use Rattle.std.proofs.Common.{◌≡◌, ◌≢◌, ℕ, true, Option, Some, None, List, [], ◌∷◌, refl, sym, ap, ◌∙◌, subst, inl, inr}
+use Rattle.std.specs.Prelude.{is_some, slice_get}
 use Rattle.std.specs.List.{AllByRecursion}
 use mathlib.Core.Bool.{true≢false}
 use Rattle.lt_links.specs.declared.stand.Stand.{Stand}
 use Rattle.lt_links.specs.declared.ids.Queue.{Queue}
-use Rattle.lt_links.specs.declared.ids.QueueKind.{QueueKind}
-use Rattle.lt_links.specs.Ring.{has, is_in, Distinct}
-use Rattle.lt_links.specs.Maps.{Maps, queue, owned, stand, HasNode, IsSound}
+use Rattle.lt_links.specs.Ring.{has, is_in}
+use Rattle.lt_links.specs.Maps.{Maps, queue, owned, stand, IsSound}
 use Rattle.lt_links.proofs.Rings.{same_or_apart}
 use Rattle.lt_lock.specs.Linked.{stand_at, queue_at}
 use Rattle.lt_lock.specs.Found.{IsFound, IsMissing}
-use Rattle.lt_lock.proofs.Places.{rest_from, Follows, has_first, has_later, cut_at, rest_first, in_first, rest_next, in_next}
+use Rattle.lt_lock.proofs.Places.{rest_from, Follows, cut_at, rest_first, in_first, rest_next, in_next}
 use Rattle.lt_lock.proofs.Written.{stand_is}
 use Rattle.lt_lock.proofs.Walks.{all_nodes}
 

@@ -18,7 +18,7 @@ use Rattle.lt_lock.specs.declared.row.Row.{Row}
 use Rattle.lt_lock.specs.Linked.{stand_at, stands_at, line, queue_at, record_of, request_of, IsNamed}
 use Rattle.lt_lock.specs.Found.{Writes, Brings}
 use Rattle.lt_lock.specs.Went.{IsRow, Went}
-use Rattle.lt_lock.proofs.Rows.{stand_is}
+use Rattle.lt_lock.proofs.Written.{stand_is}
 use Rattle.lt_lock.proofs.Acts.{rewritten_by}
 
 -- ---- after the visit the numbers still differ

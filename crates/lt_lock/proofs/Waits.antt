@@ -1,17 +1,15 @@
 -- What it makes of a row's record that a request comes to wait, or waits no longer to read.
-use Rattle.std.proofs.Common.{◌≡◌, ◌≢◌, ◌<◌, ◌≤◌, ℕ, Bool, true, false, not, cond, List, [], ◌∷◌, ◌++◌, length, map, filter, Option, Some, None, refl, sym, ap, ◌∙◌, subst, arith, nat_eq}
+use Rattle.std.proofs.Common.{◌≡◌, ◌≢◌, ◌<◌, ℕ, true, false, List, [], ◌∷◌, ◌++◌, map, refl, sym, ap, ◌∙◌, subst, arith, nat_eq}
 use Rattle.std.specs.List.{AllByRecursion, IsDistinct, list_any}
 use Rattle.std.proofs.lemmas.List.{map-append}
 use Rattle.std.proofs.lemmas.Bool.Decides.{nat_tests}
-use Rattle.std.specs.Ordering.{nat_cmp, match_ordering}
-use Rattle.lt_ids.specs.declared.ticket.Through.{Through}
 use Rattle.lt_plain.specs.declared.queued.QueuedRequest.{QueuedRequest}
 use Rattle.lt_plain.specs.declared.queued.QueuedWriter.{QueuedWriter}
 use Rattle.lt_plain.specs.declared.call.Reply.TheVariants.{MustWait, Passed}
-use Rattle.lt_plain.specs.Record.{Record, number_of, writer_number}
-use Rattle.lt_plain.specs.Rules.{Outcome, IsOutcome, stop_reading, without_reader, without_writer}
+use Rattle.lt_plain.specs.Record.{number_of, writer_number}
+use Rattle.lt_plain.specs.Rules.{Outcome, stop_reading, without_reader}
 use Rattle.lt_plain.specs.Visit.{pass, enqueue, waiting, is_queued, wait_to_write, wait_to_read}
-use Rattle.lt_plain.specs.Lawful.{IsLawful, Rises, numbers}
+use Rattle.lt_plain.specs.Lawful.{Rises, numbers}
 use Rattle.lt_plain.proofs.Cases.{all_append, all_front, all_back}
 use Rattle.lt_links.specs.declared.stand.Stand.{Stand}
 use Rattle.lt_links.specs.declared.ids.Queue.{Queue}
@@ -19,11 +17,10 @@ use Rattle.lt_links.specs.declared.ids.QueueKind.{QueueKind}
 use Rattle.lt_links.specs.declared.ids.QueueKind.TheVariants.{Writers, Readers, Reservation}
 use Rattle.lt_links.specs.Maps.{Maps, queue}
 use Rattle.lt_lock.specs.declared.row.Row.{Row}
-use Rattle.lt_lock.specs.declared.find.Found.{Found}
 use Rattle.lt_lock.specs.Linked.{stand_at, stands_at, line, queue_at, record_of, request_of, writer_of, IsNamed, IsLinked}
 use Rattle.lt_lock.specs.Found.{IsFound, IsMissing, Writes, PutsWriter, Brings}
-use Rattle.lt_lock.specs.Went.{KeepsOthers, IsRow, Went}
-use Rattle.lt_lock.proofs.Rows.{HasNot, StandsAlone, found_alone, none_among, one_among, without_none, without_one, record_lines, line_written, linked_written, others_written, others_twice, others_same}
+use Rattle.lt_lock.specs.Went.{KeepsOthers, Went}
+use Rattle.lt_lock.proofs.Rows.{HasNot, StandsAlone, found_alone, none_among, one_among, without_none, record_lines, line_written, linked_written, others_written, others_twice, others_same}
 use Rattle.lt_lock.proofs.Acts.{few_others}
 use Rattle.lt_lock.proofs.Leaves.{left, left_row, left_linked, other_readers, other_writers, left_readers}
 

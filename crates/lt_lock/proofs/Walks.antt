@@ -1,21 +1,21 @@
 -- Walks through a list of distinct numbers: what is done, and then what is still to do, is what there was to do.
-use Rattle.std.proofs.Common.{◌≡◌, ◌≢◌, ◌⊎◌, ℕ, ◌+◌, ◌-◌, ◌<◌, ◌≤◌, length, Bool, true, false, cond, Option, Some, None, List, [], ◌∷◌, ◌++◌, refl, sym, ap, ◌∙◌, inl, inr, arith, subst, append_assoc}
-use Rattle.std.specs.Prelude.{nat_eq, slice_get, is_some, unwrap_or, not, map, filter}
+use Rattle.std.proofs.Common.{◌≡◌, ◌≢◌, ℕ, ◌-◌, ◌<◌, ◌≤◌, length, Bool, true, false, cond, Option, Some, None, List, [], ◌∷◌, ◌++◌, refl, sym, ap, ◌∙◌, inl, inr, arith, subst, append_assoc}
+use Rattle.std.specs.Prelude.{slice_get, not, map, filter}
 use Rattle.std.specs.List.{AllByRecursion, last_or, find}
-use Rattle.std.proofs.lemmas.List.{map-append, append_cancel_right, append-nil, length-append}
+use Rattle.std.proofs.lemmas.List.{append_cancel_right, append-nil, length-append}
 use Rattle.std.proofs.lemmas.List.Elements.{filter-append}
 use mathlib.Core.Bool.{true≢false}
 use Rattle.lt_ids.specs.declared.ticket.Through.{Through}
 use Rattle.lt_links.specs.declared.stand.Stand.{Stand}
 use Rattle.lt_links.specs.declared.ids.Queue.{Queue}
-use Rattle.lt_links.specs.Ring.{has, is_in, Distinct, without}
-use Rattle.lt_links.specs.Maps.{Maps, queue, stand, has_record, HasNode, IsSound, Removes}
-use Rattle.lt_links.proofs.Rings.{same_or_apart, is_itself}
+use Rattle.lt_links.specs.Ring.{has, is_in, Distinct}
+use Rattle.lt_links.specs.Maps.{Maps, queue, stand, has_record, IsSound, Removes}
+use Rattle.lt_links.proofs.Rings.{same_or_apart}
 use Rattle.lt_plain.specs.Record.{through_of}
 use Rattle.lt_lock.specs.declared.walk.Who.{Who}
-use Rattle.lt_lock.specs.Linked.{line, stand_at, stands_at, no_stand, request_of}
+use Rattle.lt_lock.specs.Linked.{line, stand_at, stands_at, request_of}
 use Rattle.lt_lock.specs.Found.{Writes, IsPlace, leaves, goes_on}
-use Rattle.lt_lock.proofs.Places.{rest_from, behind, Follows, has_later, has_first, cut_at, rest_first, in_first, rest_next, in_next, rest_here, first_in, rest_part, rest_cut, behind_cut, behind_part, off_front, off_back, without_cut, ends, last_end, last_in}
+use Rattle.lt_lock.proofs.Places.{rest_from, behind, Follows, has_later, has_first, cut_at, rest_first, in_first, rest_next, in_next, rest_here, first_in, rest_part, rest_cut, behind_cut, behind_part, off_front, off_back, last_end, last_in}
 use Rattle.lt_lock.proofs.Written.{stand_is, line_cut, stands_off, written_else, Writes-removed, removed_queue}
 
 -- A walk through the list has come to a place of it, and what f gives of the rest is x.

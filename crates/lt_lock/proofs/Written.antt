@@ -1,16 +1,16 @@
 -- What an edit of the links does to the lines of stands.
-use Rattle.std.proofs.Common.{◌≡◌, ◌≢◌, ◌⊎◌, ℕ, Bool, true, false, cond, Option, Some, None, List, [], ◌∷◌, ◌++◌, refl, sym, ap, ◌∙◌, inl, inr, subst}
+use Rattle.std.proofs.Common.{◌≡◌, ◌≢◌, ℕ, true, false, cond, Option, Some, None, List, [], ◌∷◌, ◌++◌, refl, sym, ap, ◌∙◌, inl, inr, subst}
 use Rattle.std.specs.Prelude.{nat_eq, is_some, unwrap_or}
 use Rattle.std.proofs.lemmas.List.{map-append}
 use mathlib.Core.Bool.{true≢false}
 use Rattle.lt_links.specs.declared.stand.Stand.{Stand}
 use Rattle.lt_links.specs.declared.ids.Queue.{Queue}
 use Rattle.lt_links.specs.Ring.{has, Distinct, without, put_after}
-use Rattle.lt_links.specs.Maps.{Maps, queue, stand, has_record, HasNode, IsSound, is_queue, PushesFront, InsertsAfter, Removes, MovesFront, SetsStand}
+use Rattle.lt_links.specs.Maps.{Maps, queue, stand, HasNode, IsSound, PushesFront, InsertsAfter, Removes, MovesFront, SetsStand}
 use Rattle.lt_links.proofs.Rings.{same_or_apart, is_itself, without_absent, put_after_absent}
 use Rattle.lt_links.proofs.Steps.{is_same, is_other}
 use Rattle.lt_lock.specs.Linked.{line, stand_at, stands_at, no_stand}
-use Rattle.lt_lock.specs.Found.{Writes, Brings, BringsOver, KeepsNodes}
+use Rattle.lt_lock.specs.Found.{Writes, Brings, KeepsNodes}
 use Rattle.lt_lock.proofs.Places.{is_false, has_cut, off_front, off_back, without_cut, put_after_cut}
 
 -- nodes with the same stands make the same line

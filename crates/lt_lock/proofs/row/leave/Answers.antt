@@ -1,9 +1,5 @@
-use Rattle.std.proofs.Common.{rules, ◌≢◌, ◌∙◌, ap, refl, subst, sym}
-use Rattle.std.specs.List.{IsDistinct}
-use Rattle.std.specs.Prelude.{nat_eq}
-use Rattle.lt_plain.specs.Record.{Record}
+use Rattle.std.proofs.Common.{rules, ◌≢◌, ◌∙◌, ap, refl, sym}
 use Rattle.lt_plain.specs.Rules.{settle}
-use Rattle.lt_plain.specs.Lawful.{numbers}
 use Rattle.lt_links.specs.declared.ids.QueueKind.TheVariants.{Reservation}
 use Rattle.lt_lock.specs.Linked.{record_of}
 use Rattle.lt_lock.proofs.Rows.{cut_there, others_same, others_written}

@@ -1,11 +1,11 @@
-use Rattle.std.proofs.Common.{◌≡◌, ◌++◌, ◌∷◌, [], ◌∙◌, sym, ap, rules, subst}
+use Rattle.std.proofs.Common.{◌++◌, ◌∷◌, [], ◌∙◌, sym, ap, rules, subst}
 use Rattle.std.specs.List.{AllByRecursion}
 use Rattle.lt_plain.specs.Record.{through_of}
 use Rattle.lt_links.specs.declared.ids.QueueKind.TheVariants.{Writers, Readers}
-use Rattle.lt_links.specs.Maps.{queue}
 use Rattle.lt_lock.specs.Linked.{queue_at, line, request_of, IsNamed}
+use Rattle.std.proofs.lemmas.Result.{on_ok_weaker}
 use Rattle.lt_lock.proofs.Rows.{first_cut}
-use Rattle.lt_lock.proofs.Acts.{filled, no_line, first_line, lets_without_writers, lets_of_idle, lets_of_active, when_ok}
+use Rattle.lt_lock.proofs.Acts.{filled, no_line, first_line, lets_without_writers, lets_of_idle, lets_of_active}
 use Rattle.lt_lock.proofs.row.let_first.Goals as goal
 
 pub returns-in_default-clause-ok : goal.returns-in_default-clause-ok
@@ -30,5 +30,5 @@ returns-clause-ok c =
     let m = c.args.links.now in
     let cut = first_cut m c.requires.linked.sound _ c.in-Some.node c.in-Some.ensures.first in
     let readers = filled m _ c.args.row.now.id _ _ c.requires.lets c.queue.ensures c.in_ok-let_through.ensures.ok in
-    when_ok c.let_one.result (λ e. e ∙ ap (λ l. l ++ through_of (request_of c.stand-first.result) ∷ []) readers
+    on_ok_weaker c.let_one.result (λ e. e ∙ ap (λ l. l ++ through_of (request_of c.stand-first.result) ∷ []) readers
     ∙ sym (lets_of_active (line m (queue_at c.args.row.now.id Readers)) (line m (queue_at c.args.row.now.id Writers)) _ c.stand-first.result (first_line m _ _ c.in-Some.node cut.0 c.stand-first.result c.queue-2.ensures cut.1 c.stand-first.ensures.stand) (search rules))) c.let_one.ensures.ok

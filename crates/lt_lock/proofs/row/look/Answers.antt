@@ -1,7 +1,8 @@
 use Rattle.std.proofs.Common.{◌∙◌, ap, sym, Some}
 use Rattle.lt_plain.specs.Step.{look_waiter}
 use Rattle.lt_lock.specs.Linked.{record_of, writer_of}
-use Rattle.lt_lock.proofs.Rows.{cut_there, stand_is}
+use Rattle.lt_lock.proofs.Rows.{cut_there}
+use Rattle.lt_lock.proofs.Written.{stand_is}
 use Rattle.lt_lock.proofs.Leaves.{missing_looks, found_reads, found_writes}
 use Rattle.lt_lock.proofs.row.look.Goals as goal
 

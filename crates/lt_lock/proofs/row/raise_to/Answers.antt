@@ -7,8 +7,7 @@ use Rattle.lt_plain.specs.Lawful.{numbers}
 use Rattle.lt_links.specs.declared.ids.QueueKind.TheVariants.{Readers}
 use Rattle.lt_lock.specs.declared.walk.Who.TheVariants.{Below}
 use Rattle.lt_lock.specs.Found.{leaves, goes_on}
-use Rattle.lt_lock.specs.Linked.{record_of, request_of, line, queue_at}
-use Rattle.lt_plain.specs.Rules as rules
+use Rattle.lt_lock.specs.Linked.{request_of, line, queue_at}
 use Rattle.std.proofs.Common.{Some}
 use Rattle.lt_lock.proofs.Acts.{left_linked, left_others, below_left, lets_below, put_behind_none}
 use Rattle.lt_lock.proofs.row.raise_to.Goals as goal

@@ -1,14 +1,13 @@
-use Rattle.std.proofs.Common.{◌∙◌, ap, refl, subst, sym, map, filter, ◌++◌, Some, None}
+use Rattle.std.proofs.Common.{◌∙◌, ap, refl, subst, sym, map, filter, Some}
 use Rattle.std.specs.List.{IsDistinct}
 use Rattle.std.specs.Prelude.{nat_eq, not}
-use Rattle.std.proofs.lemmas.List.Elements.{filter-append}
 use Rattle.lt_plain.specs.Record.{Record, through_of}
-use Rattle.lt_plain.specs.Rules.{settle, set_back, is_of}
+use Rattle.lt_plain.specs.Rules.{settle}
 use Rattle.lt_plain.specs.Lawful.{numbers}
 use Rattle.lt_links.specs.declared.ids.QueueKind.TheVariants.{Writers}
 use Rattle.lt_lock.specs.declared.walk.Who.TheVariants.{Of}
 use Rattle.lt_lock.specs.Found.{leaves, goes_on}
-use Rattle.lt_lock.specs.Linked.{record_of, request_of, line, queue_at}
+use Rattle.lt_lock.specs.Linked.{request_of, line, queue_at}
 use Rattle.lt_lock.proofs.Rows.{others_twice}
 use Rattle.lt_lock.proofs.Acts.{left_linked, left_others, lets_own, put_behind_none, taken_record}
 use Rattle.lt_lock.proofs.row.take_lock.Goals as goal

@@ -1,5 +1,3 @@
-use Rattle.std.proofs.Common.{◌≡◌, ◌∷◌, ◌++◌, ℕ, List, Ok, Err}
-use Rattle.std.specs.Result.{OnOk}
 use Rattle.lt_lock.proofs.Enqueued.{place_there, PutsWriter-first, PutsWriter-behind, on_ok, on_ok_both}
 use Rattle.lt_lock.proofs.visit.put_writer.Goals as goal
 

@@ -1,5 +1,5 @@
-use Rattle.std.proofs.Common.{rules, ◌≡◌, ◌≢◌, ◌∷◌, ◌∙◌, ap, subst, sym, refl, true}
-use Rattle.lt_links.specs.declared.ids.QueueKind.TheVariants.{Writers, Readers, Reservation}
+use Rattle.std.proofs.Common.{rules, ◌≡◌, ◌≢◌, ◌∷◌, ◌∙◌, subst, sym, refl, true}
+use Rattle.lt_links.specs.declared.ids.QueueKind.TheVariants.{Readers, Reservation}
 use Rattle.lt_links.specs.Maps.{has_record}
 use Rattle.lt_lock.specs.Linked.{line}
 use Rattle.lt_lock.specs.Found.{Writes}

@@ -1,7 +1,7 @@
-use Rattle.std.proofs.Common.{ℕ, List, ◌≡◌, ◌∙◌, ◌<◌, sym, Some, None, length}
+use Rattle.std.proofs.Common.{◌∙◌, sym}
 use Rattle.lt_links.specs.Maps.{queue}
-use Rattle.lt_lock.proofs.Places.{rest_from, rest_falls}
-use Rattle.lt_lock.proofs.Walks.{IsDropping, IsDropping-first, IsDropping-stays, IsDropping-leaves, IsDropping-end, dropping_falls}
+use Rattle.lt_lock.proofs.Places.{rest_falls}
+use Rattle.lt_lock.proofs.Walks.{IsDropping-first, IsDropping-stays, IsDropping-leaves, IsDropping-end, dropping_falls}
 use Rattle.lt_lock.proofs.walk.drop_where.Goals as goal
 
 pub loop-at-init : goal.loop-at-init

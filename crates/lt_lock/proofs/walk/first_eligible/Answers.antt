@@ -1,4 +1,4 @@
-use Rattle.std.proofs.Common.{ℕ, List, Bool, ◌≡◌, ◌∙◌, ◌<◌, sym, ap, refl, Option, Some, None, length}
+use Rattle.std.proofs.Common.{ℕ, List, Bool, ◌∙◌, sym, ap, refl, Option}
 use Rattle.std.specs.List.{find}
 use Rattle.std.specs.Option.{option_map}
 use Rattle.lt_links.specs.declared.stand.Stand.{Stand}

@@ -1,6 +1,4 @@
-use Rattle.std.proofs.Common.{ℕ, List, ◌≡◌, ◌<◌, ◌-◌, Some, None, length}
-use Rattle.lt_links.specs.Maps.{queue}
-use Rattle.lt_lock.proofs.Walks.{IsPlacing, IsPlacing-last, IsPlacing-prev, IsPlace-here, placing_falls}
+use Rattle.lt_lock.proofs.Walks.{IsPlacing-last, IsPlacing-prev, IsPlace-here, placing_falls}
 use Rattle.lt_lock.proofs.walk.place_of.Goals as goal
 
 pub loop-at-init : goal.loop-at-init

@@ -1,10 +1,10 @@
-use Rattle.std.proofs.Common.{ℕ, List, [], ◌∷◌, ◌++◌, ◌<◌, ◌≡◌, ◌∙◌, sym, ap, Some, refl, rules, length, subst}
+use Rattle.std.proofs.Common.{ℕ, List, [], ◌∷◌, ◌++◌, ◌≡◌, ◌∙◌, sym, ap, refl, subst}
 use Rattle.lt_links.specs.Maps.{queue}
 use Rattle.lt_plain.specs.Record.{through_of}
 use Rattle.lt_lock.specs.Linked.{line, request_of, IsNamed}
 use Rattle.lt_lock.proofs.Written.{stand_is}
 use Rattle.lt_lock.proofs.Places.{rest_falls}
-use Rattle.lt_lock.proofs.Walks.{IsWalk, IsWalk-first, IsWalk-next, lets_and, lets_of, lets_more, lets_same, all_at}
+use Rattle.lt_lock.proofs.Walks.{IsWalk-first, IsWalk-next, lets_and, lets_of, lets_more, lets_same, all_at}
 use Rattle.lt_lock.proofs.walk.put_lets.Goals as goal
 use Rattle.lt_lock.proofs.walk.put_lets.Goals.{then-goes_on+in_ok-push, else-goes_on}
 
