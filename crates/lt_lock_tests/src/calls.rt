@@ -1,0 +1,88 @@
+//! Calls as the tests make them, and what the requests then find.
+ghost use Rattle.std.specs.Prelude.{◌<◌};
+
+use lt_ids::{Access, IdError, Key, Through, Ticket, Timestamp, TxnId};
+use lt_plain::{Call, KeyTable, Reply, step};
+use std::alloc::{AllocError, Global};
+use std::process::Abort;
+use std::test::Fail;
+
+/// Requests have the numbers below this one, from 1 on.
+pub const NUMBERS: u64 = 41;
+
+pub const PASS: u32 = 3;
+
+/// What the request of each number finds; number 0 is nobody's.
+pub type Found = [Reply; 41];
+
+pub fn txn(number: u64) -> Result<TxnId, Fail> {
+    Ok(TxnId::new(number).ok_or("a transaction of this number")?)
+}
+
+pub fn at(wall: u64) -> Timestamp {
+    Timestamp { wall, logical: 0 }
+}
+
+pub fn ticket(number: u64, wait: u32) -> Result<Ticket, Fail> {
+    Ok(Ticket::new(number, wait).ok_or("a ticket")?)
+}
+
+/// A visit of a request whose transaction has its number.
+pub fn visit(number: u64, wall: u64, access: Access, wait: u32) -> Result<Call, Fail> {
+    Ok(Call::Visit {
+        ticket: ticket(number, wait)?,
+        txn: txn(number)?,
+        ts: at(wall),
+        access,
+    })
+}
+
+/// The key that these bytes spell.
+pub fn key(alloc: Global, bytes: &[u8]) -> Result<Key, IdError> {
+    match Key::from_bytes(alloc, bytes) {
+        Err(IdError::Memory) => Key::from_bytes(alloc, bytes),
+        made => made,
+    }
+}
+
+/// What each request finds, in an array, so that looking takes no memory.
+pub fn looks<T: KeyTable>(table: &T, key: &Key) -> Found {
+    let mut found = [Reply::Nothing; 41];
+    for number in 0..NUMBERS {
+        found[number as usize] = table.look(key, number);
+    }
+    found
+}
+
+/// Whether a call that answers this takes no memory.
+fn takes_none(reply: Reply) -> bool {
+    matches!(reply, Reply::Other | Reply::Kept | Reply::Absent)
+}
+
+/// Makes the call, where this is found before it. Where memory was refused, the same is found as before, and the
+/// call is made again.
+pub fn make<T: KeyTable>(
+    rt: &impl Abort,
+    table: &mut T,
+    key: &Key,
+    before: &Found,
+    call: &Call,
+    lets: &mut Vec<Through>,
+) -> Result<Reply, AllocError> {
+    lets.clear();
+    let made = step::make(table, key, PASS, call, lets);
+    if made.is_ok() {
+        return made;
+    }
+    assert!(rt; lets.is_empty(), "a refused call let somebody through");
+    assert!(rt;
+        looks(table, key) == *before,
+        "a refused call changed what is found"
+    );
+    let reply = step::make(table, key, PASS, call, lets)?;
+    assert!(rt;
+        !takes_none(reply),
+        "a call that changes nothing wanted memory"
+    );
+    Ok(reply)
+}

@@ -1,0 +1,237 @@
+ghost use Rattle.std.specs.Prelude.{◌<◌};
+
+use crate::calls::{Found, NUMBERS, PASS, at, key, looks, make, ticket, txn, visit};
+use lt_ids::{Access, Key, Through};
+use lt_lock::LinkedTable;
+use lt_plain::{Call, KeyTable, PlainTable, Reply};
+use std::alloc::Global;
+use std::process::Abort;
+use std::test::Fail;
+
+/// A key from its first lock to its last waiter, and locked again, with values worked out by hand.
+fn expect_the_example<T: KeyTable>(
+    rt: &impl Abort,
+    alloc: Global,
+    table: &mut T,
+) -> Result<(), Fail> {
+    let a = key(alloc, b"a")?;
+    let nine = txn(9)?;
+    let take = Call::Acquire {
+        txn: nine,
+        ts: at(10),
+    };
+    let steps = [
+        (take, Reply::Taken, None),
+        (visit(1, 12, Access::Read, 1)?, Reply::MustWait, None),
+        // It stands once, and waits anew: the raise lets it through once, with the second wait.
+        (visit(1, 12, Access::Read, 2)?, Reply::MustWait, None),
+        (take, Reply::Kept, None),
+        (
+            Call::Update {
+                txn: nine,
+                ts: at(13),
+            },
+            Reply::Raised,
+            Some((1, 2)),
+        ),
+        (
+            Call::Update {
+                txn: txn(8)?,
+                ts: at(14),
+            },
+            Reply::Other,
+            None,
+        ),
+        (visit(2, 12, Access::Write, 1)?, Reply::MustWait, None),
+        // Below the lock it reads on, and its stand keeps the first wait.
+        (visit(2, 12, Access::Read, 2)?, Reply::Passed, None),
+        (visit(3, 20, Access::Write, 1)?, Reply::MustWait, None),
+        // A writer that now reads waits anew where it stands.
+        (visit(3, 20, Access::Read, 2)?, Reply::MustWait, None),
+        (Call::Leave { number: 1 }, Reply::Absent, None),
+        (Call::Finish { txn: txn(8)? }, Reply::Other, None),
+        (Call::Finish { txn: nine }, Reply::Freed, Some((2, 1))),
+        (
+            Call::Look { number: 3 },
+            Reply::WaitFirst(txn(2)?, false),
+            None,
+        ),
+        (Call::Leave { number: 2 }, Reply::Left, Some((3, 2))),
+        (Call::Look { number: 3 }, Reply::Reserved, None),
+        (Call::Leave { number: 3 }, Reply::Left, None),
+        (Call::Look { number: 3 }, Reply::Nothing, None),
+        (Call::Leave { number: 3 }, Reply::Absent, None),
+        // Nothing was left of the key.
+        (take, Reply::Taken, None),
+        (Call::Finish { txn: nine }, Reply::Freed, None),
+        (Call::Look { number: 3 }, Reply::Nothing, None),
+    ];
+    for (call, reply, through) in &steps {
+        // Each call has lets of its own, so that the memory of each is refused in turn.
+        let mut lets = Vec::new(alloc);
+        let before = looks(table, &a);
+        assert_eq!(rt; make(rt, table, &a, &before, call, &mut lets)?, *reply);
+        let want = match through {
+            None => None,
+            Some((number, wait)) => Some(Through {
+                pass: PASS,
+                ticket: ticket(*number, *wait)?,
+            }),
+        };
+        assert_eq!(rt; lets.first().copied(), want);
+        assert!(rt; lets.len() <= 1);
+    }
+    Ok(())
+}
+
+#[test]
+fn the_plain_table_follows_the_example(rt: HostRuntime) -> Result<(), Fail> {
+    expect_the_example(&rt, rt.alloc(), &mut PlainTable::new(rt.alloc()))
+}
+
+#[test]
+fn the_linked_table_follows_the_example(rt: HostRuntime) -> Result<(), Fail> {
+    expect_the_example(&rt, rt.alloc(), &mut LinkedTable::new(rt.alloc()))
+}
+
+/// A linear congruential generator.
+#[derive(Drop)]
+struct Random {
+    state: u64,
+}
+
+impl Random {
+    fn below(&mut self, bound: u64) -> u64
+        requires { 0 < bound }
+        ensures { result < bound }
+    {
+        self.state = self
+            .state
+            .wrapping_mul(6364136223846793005)
+            .wrapping_add(1442695040888963407);
+        (self.state >> 33) % bound
+    }
+}
+
+const TXNS: u64 = 8;
+
+// Few, so that equal timestamps come about.
+const WALLS: u64 = 6;
+
+/// A call at random: mostly visits while the queues are to grow, else mostly calls that let through.
+fn random_call(random: &mut Random, grows: bool) -> Result<Call, Fail> {
+    let number = 1 + random.below(NUMBERS - 1);
+    let txn = txn(1 + random.below(TXNS))?;
+    let ts = at(random.below(WALLS));
+    let visits = if grows { 27 } else { 1 };
+    if random.below(32) < visits {
+        return Ok(Call::Visit {
+            ticket: ticket(number, 1 + random.below(9) as u32)?,
+            txn,
+            ts,
+            access: if random.below(3) == 0 {
+                Access::Read
+            } else {
+                Access::Write
+            },
+        });
+    }
+    Ok(match random.below(8) {
+        0 | 1 => Call::Acquire { txn, ts },
+        2 => Call::Update { txn, ts },
+        3 | 4 | 5 => Call::Finish { txn },
+        _ => Call::Leave { number },
+    })
+}
+
+/// How many requests stand at the key.
+fn stands(found: &Found) -> u64 {
+    let mut count: u64 = 0;
+    for reply in found {
+        if *reply != Reply::Nothing {
+            count = count.wrapping_add(1);
+        }
+    }
+    count
+}
+
+const CALLS: u64 = 30_000;
+
+// The queues grow for so many calls, and drain for as many.
+const SPELL: u64 = 1_000;
+
+/// Random calls at three keys, the same at both tables, compared after each call.
+fn compare(rt: &impl Abort, alloc: Global, seed: u64) -> Result<(), Fail> {
+    let mut random = Random { state: seed };
+    let mut plain = PlainTable::new(alloc);
+    let mut linked = LinkedTable::new(alloc);
+    let keys = [key(alloc, b"a")?, key(alloc, b"b")?, key(alloc, b"key")?];
+    // What is found at each key, the same at both tables.
+    let mut found = [
+        looks(&plain, &keys[0]),
+        looks(&plain, &keys[1]),
+        looks(&plain, &keys[2]),
+    ];
+    let mut longest: u64 = 0;
+    let mut emptied: u64 = 0;
+    for turn in 0..CALLS {
+        let place = random.below(3) as usize;
+        let at = &keys[place];
+        let call = random_call(&mut random, turn / SPELL % 2 == 0)?;
+        let mut lets = Vec::new(alloc);
+        let mut others = Vec::new(alloc);
+        let reply = make(rt, &mut plain, at, &found[place], &call, &mut lets)?;
+        let other = make(rt, &mut linked, at, &found[place], &call, &mut others)?;
+        assert!(rt;
+            reply == other,
+            "the replies differ, seed {seed}, call {turn}"
+        );
+        assert!(rt; lets == others, "the lets differ, seed {seed}, call {turn}");
+        found[place] = looks(&plain, at);
+        assert!(rt;
+            found[place] == looks(&linked, at),
+            "the looks differ, seed {seed}, call {turn}"
+        );
+        if turn % 64 == 0 {
+            for (every, same) in keys.iter().zip(&found) {
+                assert!(rt;
+                    looks(&plain, every) == *same && looks(&linked, every) == *same,
+                    "the looks at another key differ, seed {seed}, call {turn}"
+                );
+            }
+        }
+        let standing = stands(&found[place]);
+        longest = longest.max(standing);
+        if standing == 0 {
+            emptied = emptied.wrapping_add(1);
+        }
+    }
+    assert!(rt;
+        longest >= 30,
+        "the longest queues had {longest}, seed {seed}"
+    );
+    assert!(rt; emptied >= 100, "empty after {emptied} calls, seed {seed}");
+    Ok(())
+}
+
+// Several tests, since each has a limit of its own when it runs with checks.
+
+#[test]
+fn random_calls_from_seed_1_do_the_same_at_both_tables(rt: HostRuntime) -> Result<(), Fail> {
+    compare(&rt, rt.alloc(), 1)
+}
+
+#[test]
+fn random_calls_from_seed_2_do_the_same_at_both_tables(rt: HostRuntime) -> Result<(), Fail> {
+    compare(&rt, rt.alloc(), 2)
+}
+
+#[test]
+fn random_calls_from_seed_3_do_the_same_at_both_tables(rt: HostRuntime) -> Result<(), Fail> {
+    compare(&rt, rt.alloc(), 3)
+}
+
+#[test]
+fn random_calls_from_seed_4_do_the_same_at_both_tables(rt: HostRuntime) -> Result<(), Fail> {
+    compare(&rt, rt.alloc(), 4)
+}
