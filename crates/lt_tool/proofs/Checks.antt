@@ -1,8 +1,7 @@
 -- What the check of a text says of the reader that had it.
-use Rattle.std.proofs.Common.{◌≡◌, ℕ, List, Option, Some, None, Result, Ok, Err, inl, inr, refl, sym, subst, ap, ◌∙◌}
+use Rattle.std.proofs.Common.{◌≡◌, ℕ, List, Option, Some, None, Result, Ok, Err, inl, inr, sym, subst, ap, ◌∙◌}
 use Rattle.std.specs.Prelude.{IfSome}
 use Rattle.lt_history.specs.declared.checker.CheckError.{CheckError}
-use Rattle.lt_history.specs.declared.checker.CheckError.TheVariants as faults
 use Rattle.lt_history.specs.declared.checker.Report.{Report}
 use Rattle.lt_history.specs.Verdict.{IsLegalText, IsOrMemory}
 use Rattle.lt_tool.specs.declared.check.CheckTextError.{CheckTextError}

@@ -1,11 +1,11 @@
 -- What clap makes of words that are written out.
-use Rattle.std.proofs.Common.{◌≡◌, ◌≢◌, ◌⊎◌, ℕ, List, [], ◌∷◌, Bool, true, false, Some, None, inl, inr, refl, sym, codes}
+use Rattle.std.proofs.Common.{◌≡◌, ◌≢◌, List, [], ◌∷◌, Bool, true, false, Some, None, inl, inr, refl, sym, codes}
 use Rattle.std.specs.Str.{bytes_eq}
 use Rattle.std.proofs.lemmas.Slice.Eq.{bytes_eq-Decides}
 use Rattle.clap.specs.Words.{Text, IsAmong, is_simple_and_free, is_simple}
 use Rattle.clap.specs.declared.error.kind.ErrorKind.TheVariants as kind
 use Rattle.clap.proofs.OnLiterals.{clap_on_literals}
-use Rattle.lt_tool.specs.Words.{Order, run, check, default_options, lockrun, named, faults, is_option, IsCommand, IsStray}
+use Rattle.lt_tool.specs.Words.{run, check, default_options, lockrun, named, faults, is_option, IsCommand, IsStray}
 
 pub is_plain : is_simple_and_free lockrun ≡ true
 unfolding clap_on_literals

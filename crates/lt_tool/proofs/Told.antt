@@ -1,5 +1,5 @@
 -- What follows for the words of a command line from what clap makes of them.
-use Rattle.std.proofs.Common.{◌≡◌, ◌≢◌, ◌⊎◌, ℕ, List, [], ◌∷◌, Bool, true, false, Option, Some, None, Result, Ok, Err, inl, inr, refl, sym, subst, ap, ◌∙◌}
+use Rattle.std.proofs.Common.{◌≡◌, ◌⊎◌, List, [], ◌∷◌, true, Option, Some, None, Result, Ok, Err, inl, inr, sym, subst, ap, ◌∙◌}
 use Rattle.clap.specs.Words.{App, Text, HasKind, HasMatchesOf, IsAmong, Kinds, fault_of, is_simple_and_free, kind_of, subcommand_rows_of}
 use Rattle.clap.specs.declared.error.Error.{Error}
 use Rattle.clap.specs.declared.parser.matches.ArgMatches.{ArgMatches}
@@ -9,7 +9,7 @@ use Rattle.lt_tool.proofs.Literals.{is_plain, is_exact}
 use Rattle.lt_tool.specs.declared.words.Job.{Job}
 use Rattle.lt_tool.specs.declared.words.WordsError.{WordsError}
 use Rattle.lt_tool.specs.declared.words.WordsError.TheVariants as errors
-use Rattle.lt_tool.specs.Words.{Order, order, order_of, lockrun, named, faults, IsMistaken, IsReadOf, IsToldBy, Gives, Helps, Refuses}
+use Rattle.lt_tool.specs.Words.{Order, order, order_of, lockrun, named, faults, IsReadOf, IsToldBy, Gives, Helps, Refuses}
 
 -- An error of clap's is told as what it is.
 pub is_told : (words : List Text) (k : ErrorKind) (e : WordsError) → IsToldBy k e → (k ≡ kind.OutOfMemory) ⊎ IsAmong k (faults words) → IsReadOf words (Err e)

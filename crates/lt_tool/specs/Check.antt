@@ -1,5 +1,5 @@
 -- What is told of a text of histories.
-use Rattle.std.specs.Prelude.{ℕ, ◌≡◌, ◌⊎◌, ◌<◌, ◌^◌, List, [], ◌∷◌, ◌++◌, length, Option, IfSome, Result, Ok, Err, decimal, codes}
+use Rattle.std.specs.Prelude.{ℕ, ◌≡◌, ◌⊎◌, ◌<◌, ◌^◌, List, [], ◌∷◌, ◌++◌, length, Option, IfSome, Result, Err, decimal, codes}
 use Rattle.lt_text.specs.Compose.{spaced}
 use Rattle.lt_history.specs.declared.checker.Report.{Report}
 use Rattle.lt_history.specs.declared.checker.CheckError.TheVariants as faults

@@ -1,6 +1,5 @@
 -- How the program ends, and what it says where it fails.
 use Rattle.std.specs.Prelude.{ℕ, List, ◌++◌, decimal, codes, Result, Ok, Err}
-use Rattle.lt_history.specs.declared.checker.CheckError.{CheckError}
 use Rattle.lt_history.specs.declared.checker.CheckError.TheVariants as checks
 use Rattle.lt_history.specs.declared.error.Fault.{Fault as HistoryFault}
 use Rattle.lt_history.specs.declared.error.Fault.TheVariants as histories

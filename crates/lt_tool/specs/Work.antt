@@ -2,11 +2,9 @@
 use Rattle.std.specs.Prelude.{ℕ, ◌≡◌, List, Option, Some, None, Result, Ok, Err}
 use Rattle.std.specs.Io.KnownBytes.{Appends}
 use Rattle.std.specs.String.{string_bytes}
-use Rattle.lt_tool.specs.declared.check.CheckTextError.{CheckTextError}
 use Rattle.lt_tool.specs.declared.check.CheckTextError.TheVariants as checks
 use Rattle.lt_tool.specs.declared.program.Failure.{Failure}
 use Rattle.lt_tool.specs.declared.program.Failure.TheVariants as failures
-use Rattle.lt_tool.specs.declared.run.RunError.{RunError}
 use Rattle.lt_tool.specs.declared.run.RunError.TheVariants as runs
 use Rattle.lt_history.specs.declared.checker.Report.{Report}
 use Rattle.lt_tool.specs.Check.{IsChecked, IsUnchecked, ToldInPart, report_line}

@@ -1,5 +1,4 @@
-use Rattle.std.proofs.Common.{◌≡◌, ◌∙◌, List, [], ◌∷◌, codes, ap, inl, inr}
-use Rattle.clap.specs.Words.{Text}
+use Rattle.std.proofs.Common.{◌∙◌, ap}
 use Rattle.lt_tool.specs.Words.{run as runs, check as checks, default_options, texts, faults, named}
 use Rattle.std.proofs.Common.{None, Some}
 use Rattle.lt_tool.proofs.Literals as literals
