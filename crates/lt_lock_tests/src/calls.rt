@@ -3,7 +3,7 @@ ghost use Rattle.std.specs.Prelude.{◌<◌};
 
 use lt_ids::{Access, IdError, Key, Through, Ticket, Timestamp, TxnId};
 use lt_plain::{Call, KeyTable, Reply, step};
-use std::alloc::{AllocError, Global};
+use std::alloc::Global;
 use std::process::Abort;
 use std::test::Fail;
 
@@ -54,11 +54,6 @@ pub fn looks<T: KeyTable>(table: &T, key: &Key) -> Found {
     found
 }
 
-/// Whether a call that answers this takes no memory.
-fn takes_none(reply: Reply) -> bool {
-    matches!(reply, Reply::Other | Reply::Kept | Reply::Absent)
-}
-
 /// Makes the call, where this is found before it. Where memory was refused, the same is found as before, and the
 /// call is made again.
 pub fn make<T: KeyTable>(
@@ -68,21 +63,23 @@ pub fn make<T: KeyTable>(
     before: &Found,
     call: &Call,
     lets: &mut Vec<Through>,
-) -> Result<Reply, AllocError> {
+) -> Result<Reply, Fail> {
     lets.clear();
-    let made = step::make(table, key, PASS, call, lets);
-    if made.is_ok() {
-        return made;
+    match step::make(table, key, PASS, call, lets) {
+        Ok(reply) => Ok(reply),
+        Err(_) => {
+            assert!(rt; lets.is_empty(), "a refused call let somebody through");
+            assert!(rt;
+                looks(table, key) == *before,
+                "a refused call changed what is found"
+            );
+            match step::make(table, key, PASS, call, lets)? {
+                // These change nothing, so they take no memory.
+                Reply::Other | Reply::Kept | Reply::Absent => {
+                    Err(Fail::from("a call that changes nothing was refused"))
+                }
+                reply => Ok(reply),
+            }
+        }
     }
-    assert!(rt; lets.is_empty(), "a refused call let somebody through");
-    assert!(rt;
-        looks(table, key) == *before,
-        "a refused call changed what is found"
-    );
-    let reply = step::make(table, key, PASS, call, lets)?;
-    assert!(rt;
-        !takes_none(reply),
-        "a call that changes nothing wanted memory"
-    );
-    Ok(reply)
 }
