@@ -11,8 +11,8 @@
 //! All memory is taken before the first change, that of the lets too, so an error changes nothing.
 //!
 //! `specs/Linked.antt` says what a row and its queues mean: the record of a key. In `src/`, `find` finds a request's
-//! stand, `lines` writes queues, `walk` goes through them, `row` has what each call does to one row, and `table` the
-//! table.
+//! stand, `lines` writes queues, `walk` goes through them, `settle` sees to the distinguished waiter, `visit` and `row`
+//! have what the calls do to one row, and `table` the table.
 #![tactic(auto)]
 
 mod find;
