@@ -309,11 +309,6 @@ module _ (m : Maps) (r : Row) (n : ℕ) where
     pub reserved_may_not : kind ≡ Reservation → may_be ≡ false
     reserved_may_not e = among_eligible m r n false false (none_among request_of number_of (λ s. refl) n _ (alone.elsewhere Readers (λ f. cc))) (none_eligible _ n _ (alone.elsewhere Writers (λ f. cc)))
 
-    pub reader_may : kind ≡ Readers → may_be ≡ true
-    reader_may e =
-        let cut = rw e at alone.cut in
-        among_eligible m r n true false (ap (λ l. list_any (λ q. nat_eq (number_of q) n) (map request_of l)) cut ∙ one_among request_of number_of (λ s. refl) n _ _ _ alone.number_is) (none_eligible _ n _ (alone.elsewhere Writers (λ f. cc)))
-
     pub writer_may : kind ≡ Writers → may_be ≡ is_eligible (record_of m r).reservation (writer_of (stand_at m node))
     writer_may e =
         let cut = rw e at alone.cut in
