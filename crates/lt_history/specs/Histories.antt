@@ -8,9 +8,12 @@ use Rattle.std.specs.Str.{bytes_eq}
 use Rattle.std.specs.Ordering.{nat_cmp, is_lt}
 use Rattle.std.specs.Cmp.Lexicographic.{slice_cmp}
 use Rattle.lt_ids.specs.Key.{IsKey}
+use Rattle.lt_ids.specs.Ticket.{IsNumber}
 use Rattle.lt_text.specs.Fields.{IsTicket}
 use Rattle.lt_text.specs.Calls.{IsCall}
 use Rattle.lt_text.specs.Replies.{IsReply}
+use Rattle.lt_plain.specs.declared.call.Call.{Call}
+use Rattle.lt_plain.specs.declared.call.Call.TheVariants.{Leave, Look}
 use Rattle.lt_plain.specs.Step.{Event, IsLegal}
 use Rattle.lt_history.specs.declared.entry.Entry.{Entry}
 use Rattle.lt_history.specs.Lines.{Parts}
@@ -38,6 +41,12 @@ pub record IsInRange (e : Entry) : Type 0 where
   pub call : IsCall e.call
   pub reply : IsReply e.reply
   pub lets : AllByRecursion IsTicket (map (λ t. t.ticket) e.lets)
+
+-- The number that a leave or a look names is one that a request can have.
+abbrev pub NamesNumber : Call → Type 0
+NamesNumber (Leave number) = IsNumber number
+NamesNumber (Look number) = IsNumber number
+NamesNumber _ = Unit {0}
 
 -- ---- the keys of a history
 

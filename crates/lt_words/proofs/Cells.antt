@@ -6,9 +6,9 @@ use Rattle.std.proofs.lemmas.List.{set-get_or}
 use Rattle.logbook.specs.Pages.{Cell, cell}
 use Rattle.lt_history.specs.declared.entry.Entry.{Entry}
 use Rattle.lt_words.specs.declared.event.Event.{Event}
-use Rattle.lt_words.specs.declared.event.Event.TheVariants.{Draw, Step}
+use Rattle.lt_words.specs.declared.event.Event.TheVariants.{Opened, Draw, Step}
 use Rattle.lt_words.specs.History.{part, draws_of, shard_of, MayFollow}
-use Rattle.lt_words.specs.Rules.{IsKept, IsStatus}
+use Rattle.lt_words.specs.Rules.{IsKept, IsStatus, ShowsLet}
 use Rattle.lt_words.proofs.Histories.{part-append, draws_of-append, let_more, legal_draw, legal_step}
 
 abbrev pub off : Cell
@@ -24,9 +24,16 @@ by_place cs j k c P inside hit miss =
 home_after : (cs : List Cell) (k n : ℕ) → k < length cs → ((j : ℕ) → j < length cs → (cell cs j).1 ≡ true) → (j : ℕ) → j < length (set cs k (n, true)) → (cell (set cs k (n, true)) j).1 ≡ true
 home_after cs k n inside home j lt = by_place cs j k (n, true) (λ c. c.1 ≡ true) inside (λ e. refl) (λ ne. home j (omega (arith, length-set cs k (n, true))))
 
+shows_more : (h more : List Event) (p n : ℕ) → ShowsLet h p n → ShowsLet (h ++ more) p n
+shows_more h more p n l = record { ticket = l.ticket; number = l.number; wait = l.wait; value = l.value; through = let_more h more p l.ticket l.through }
+
 -- a status word goes on to say what it says
 pub status_more : (h more : List Event) (p t : ℕ) → IsStatus h p t → IsStatus (h ++ more) p t
-status_more h more p t s = ⊎_elim (λ z. inl z) (λ l. inr (l.0, l.1, let_more h more p l.0 l.2)) s
+status_more h more p t s = ⊎_elim (λ z. inl z) (λ l. inr (shows_more h more p t l)) s
+
+-- the opening entry lets nobody through
+pub status_opened : (shards passes : ℕ) (h : List Event) (p n : ℕ) → IsStatus h p n → IsStatus (Opened shards passes ∷ h) p n
+status_opened shards passes h p n s = ⊎_elim (λ z. inl z) (λ l. inr (record { ticket = l.ticket; number = l.number; wait = l.wait; value = l.value; through = l.through })) s
 
 -- nothing changes
 pub kept_same : (cs : List Cell) (log : List Event) (k : ℕ) → IsKept cs log → k < length cs → IsKept (set cs k ((cell cs k).0, true)) (log ++ [])

@@ -7,13 +7,13 @@ use Rattle.logbook.proofs.Lists.{exchanged}
 use Rattle.lt_history.specs.declared.entry.Entry.{Entry}
 use Rattle.lt_words.specs.declared.event.Event.{Event}
 use Rattle.lt_words.specs.declared.event.Event.TheVariants.{Opened, Draw, Step}
-use Rattle.lt_ids.specs.Ticket.{Wait, value_of}
+use Rattle.lt_ids.specs.Ticket.{Wait, value_of, IsNumber, IsWaitNumber}
 use Rattle.lt_words.specs.History.{part, draws_of, shard_of, IsLegalHistory, MayFollow, LetIn}
 use Rattle.lt_words.specs.Rules.{history_of, IsLog, IsKept, IsStatus, IsGood, Counts, Reads, AddsDraw, AddsStep, Meets, Sees}
 use Rattle.lt_words.specs.Row.{GoesTo}
 use Rattle.lt_words.proofs.Prefixes.{prefix_trans, prefix_head, prefix_tail}
 use Rattle.lt_words.proofs.Histories.{part_same, let_more}
-use Rattle.lt_words.proofs.Cells.{kept_same, kept_draw, kept_step, kept_status}
+use Rattle.lt_words.proofs.Cells.{kept_same, kept_draw, kept_step, kept_status, status_opened}
 
 abbrev pub shown : List Event → List Event
 shown log = []
@@ -160,20 +160,20 @@ read_moves shards passes v pass ask is low high = loads (pass + 64) v (Reads (st
     let sizes = same_sizes shards passes v kept.shards kept.passes kept.history log is kept.opened pre in
     let back : (pass + 64) - 64 ≡ pass = omega arith in
     let said : IsStatus kept.history pass (cell cs (pass + 64)).0 = kept.status pass low (omega (arith, sizes.1)) in
-    let whole : IsStatus log pass (cell cs (pass + 64)).0 = subst (λ (l : List Event). IsStatus l pass (cell cs (pass + 64)).0) (sym kept.opened) said in
+    let whole : IsStatus log pass (cell cs (pass + 64)).0 = subst (λ (l : List Event). IsStatus l pass (cell cs (pass + 64)).0) (sym kept.opened) (status_opened kept.shards kept.passes kept.history pass (cell cs (pass + 64)).0 said) in
     (omega (arith, kept.many, sizes.1), (good cs log kept, subst (λ (p : ℕ). IsStatus log p (cell cs (pass + 64)).0) (sym back) whole)))
 
 -- a status word goes to a ticket that was let through
-pub signal_moves : (shards passes : ℕ) (v : List Event) (pass old new : ℕ) (t : Wait) (ask : Event) → IsLog shards passes v → 0 < pass → pass ≤ passes → new ≡ value_of t → LetIn (history_of v) pass t
+pub signal_moves : (shards passes : ℕ) (v : List Event) (pass old new : ℕ) (t : Wait) (ask : Event) → IsLog shards passes v → 0 < pass → pass ≤ passes → IsNumber t.number → IsWaitNumber t.wait → new ≡ value_of t → LetIn (history_of v) pass t
     → Moves IsKept shown moved (pass + 64) (at_rest v) (λ n. either (n == old) new n) (Sees (step (pass + 64) old new ask) (at_rest v))
-signal_moves shards passes v pass old new t ask is low high value let_in =
+signal_moves shards passes v pass old new t ask is low high number wait value let_in =
     exchanges (pass + 64) v old new (Sees (step (pass + 64) old new ask) (at_rest v))
     (λ cs log kept pre.
     let sizes = same_sizes shards passes v kept.shards kept.passes kept.history log is kept.opened pre in omega (arith, kept.many, sizes.1))
     (λ cs log kept pre e.
     let sizes = same_sizes shards passes v kept.shards kept.passes kept.history log is kept.opened pre in
     let now : LetIn kept.history pass t = subst (λ (l : List Event). LetIn l pass t) sizes.2.1 (let_more (history_of v) sizes.2.0 pass t let_in) in
-    let next = kept_status cs log pass new kept low (omega (arith, sizes.1)) (inr (t, value, now)) in
+    let next = kept_status cs log pass new kept low (omega (arith, sizes.1)) (inr (record { ticket = t; number = number; wait = wait; value = value; through = now })) in
     ([], next, good _ _ next))
     (λ cs log kept pre ne. good cs log kept)
 

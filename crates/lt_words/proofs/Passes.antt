@@ -19,6 +19,7 @@ pub pass_on : (of : Opening) (n : ℕ) (old new : List Event) (counts : List ℕ
 pass_on of n old new counts p pre = record {
   low = p.low;
   high = p.high;
+  few = p.few;
   many = p.many;
   within = λ s. omega (arith, p.within s, part_length s old new pre);
 }
@@ -36,6 +37,7 @@ pass_steps of n old counts s c e P new p small is g =
     let later = goes_on old P (Step s e) new g in record {
       low = p.low;
       high = p.high;
+      few = p.few;
       many = length-set counts s (c + 1) ∙ p.many;
       within = λ t. dite (ℕ_discrete t s)
           (λ same.

@@ -68,6 +68,7 @@ seer number sight counts = record { of = sight.of; number = number; seen = sight
 pub record IsPass (p : Seer) : Type 0 where
   pub low : 0 < p.number
   pub high : p.number ≤ p.of.passes
+  pub few : p.number ≤ 1024
   pub many : length p.counts ≡ p.of.shards
   pub within : (s : ℕ) → slice_index p.counts s ≤ length (part s p.seen)
 

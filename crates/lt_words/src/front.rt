@@ -197,6 +197,8 @@ impl Front {
             .plain::<Nothing, Drawing, Asks>(&Drawing { pass: 0, number: 0 });
         let mut pen = self.seen.no_pen();
         let word = &book.lines[pass as usize + 64].word;
+        // Brings the ranges of a ticket's parts into the proof.
+        let _ = (ticket.number(), ticket.wait());
         let found = word.compare_exchange::<Signal, Nothing>(
             old,
             ticket.value(),

@@ -51,6 +51,9 @@ impl Pass {
         ensures number { result ≡ self.now.number }
         ensures low { 0 < result }
         ensures high { result ≤ self.now.of.passes }
+        ensures few { result ≤ 1024 }
+        // Its counts have a place for each shard.
+        ensures counts { length self.now.counts ≡ self.now.of.shards }
     {
         self.number
     }

@@ -21,5 +21,5 @@ compare_exchange-found-requires c =
       sym (ap (λ w. w.book) h),
       pen.0 ∙ sym (ap (λ w. w.book) h),
       offer.0,
-      rw (ap (λ w. w.key) h, pen.1, offer.3) (signal_moves (shards_in log) (passes_in log) log c.args.pass c.args.old c.value.result c.args.ticket c.plain-offer.result.ask c.self.invariant c.requires.low high c.value.ensures.value through),
+      rw (ap (λ w. w.key) h, pen.1, offer.3) (signal_moves (shards_in log) (passes_in log) log c.args.pass c.args.old c.value.result c.args.ticket c.plain-offer.result.ask c.self.invariant c.requires.low high (rw (← c.number.ensures.value) c.number.ensures.range) (rw (← c.wait.ensures.value) c.wait.ensures.range) c.value.ensures.value through),
     )
