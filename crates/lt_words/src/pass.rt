@@ -1,6 +1,7 @@
 ghost use Rattle.std.specs.Prelude.{◌≡◌, ◌+◌, ◌<◌, ◌≤◌, [], length, slice_index, IfOk};
+ghost use mathlib.Core.List.{IsPrefix};
 ghost use Rattle.lt_words.specs.History.{part, IsLegalHistory};
-ghost use Rattle.lt_words.specs.Row.{fresh};
+ghost use Rattle.lt_words.specs.Row.{SeesMore, fresh};
 
 use crate::front::Front;
 use std::alloc::{AllocError, Global};
@@ -73,6 +74,15 @@ impl Pass {
         ensures seen { result.seen ≡ self.now.seen }
     {
         self.seen.again()
+    }
+
+    /// Afterwards it has seen what the front has, too.
+    pub fn learn(&mut self, front: &Front)
+        requires { front.now.of ≡ self.old.of }
+        ensures more { SeesMore self.old self.new }
+        ensures that { IsPrefix front.now.seen self.new.seen }
+    {
+        self.seen.learn(front);
     }
 
     /// What it has seen is legal.
