@@ -53,19 +53,19 @@ let_last (Step r f ∷ xs) s e p t h = inr (let_last xs s e p t h)
 
 draws_then_draw : (n : ℕ) (h : List Event) (p k : ℕ) → DrawsCount n h → k ≡ n + draws_of h + 1 → DrawsCount n (h ++ Draw p k ∷ [])
 draws_then_draw n [] p k c e = (omega arith, tt)
-draws_then_draw n (Opened a b ∷ h) p k c e = draws_then_draw n h p k c e
+draws_then_draw n (Opened a b ∷ h) p k c e = absurd c
 draws_then_draw n (Draw q m ∷ h) p k c e = (c.0, draws_then_draw (n + 1) h p k c.1 (omega arith))
 draws_then_draw n (Step s f ∷ h) p k c e = draws_then_draw n h p k c e
 
 draws_then_step : (n : ℕ) (h : List Event) (s : ℕ) (e : Entry) → DrawsCount n h → DrawsCount n (h ++ Step s e ∷ [])
 draws_then_step n [] s e c = tt
-draws_then_step n (Opened a b ∷ h) s e c = draws_then_step n h s e c
+draws_then_step n (Opened a b ∷ h) s e c = absurd c
 draws_then_step n (Draw q m ∷ h) s e c = (c.0, draws_then_step (n + 1) h s e c.1)
 draws_then_step n (Step r f ∷ h) s e c = draws_then_step n h s e c
 
 home_more : (shards : ℕ) (xs ys : List Event) → StepsAtHome shards xs → StepsAtHome shards ys → StepsAtHome shards (xs ++ ys)
 home_more shards [] ys h k = k
-home_more shards (Opened a b ∷ xs) ys h k = home_more shards xs ys h k
+home_more shards (Opened a b ∷ xs) ys h k = absurd h
 home_more shards (Draw p n ∷ xs) ys h k = home_more shards xs ys h k
 home_more shards (Step s e ∷ xs) ys h k = (h.0, home_more shards xs ys h.1 k)
 
@@ -105,7 +105,7 @@ beside shards s t k e p w false is at home h =
 -- a key's steps all stand in the part of its shard
 pub key_in_part : (shards s : ℕ) (k : List ℕ) (h : List Event) → s ≡ shard_of k shards → StepsAtHome shards h → key_part k (part s h) ≡ key_part k (steps_of h)
 key_in_part shards s k [] at home = refl
-key_in_part shards s k (Opened a b ∷ h) at home = key_in_part shards s k h at home
+key_in_part shards s k (Opened a b ∷ h) at home = absurd home
 key_in_part shards s k (Draw p n ∷ h) at home = key_in_part shards s k h at home
 key_in_part shards s k (Step t e ∷ h) at home = beside shards s t k e (part s h) (steps_of h) (bytes_eq e.key k) refl at home.0 (key_in_part shards s k h at home.1)
 
