@@ -9,6 +9,7 @@ pub mod Counts
 pub mod Steps
 pub mod Tickets
 pub mod Places
+pub mod OneMore
 pub mod LetsLaws
 pub mod PartsLaws
 pub mod LineLaws

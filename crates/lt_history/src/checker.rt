@@ -23,7 +23,8 @@ pub enum CheckError {
     /// The first line with a fault, from 1, and the first fault in it.
     #[error("line {line}: {fault}")]
     Refused { line: usize, fault: Fault },
-    /// Memory ran out before a faulty line was known. The text may be legal.
+    /// Memory ran out before the check had come to its end. The first line is `locks 1` and the text goes on after it;
+    /// whether it is legal is not known.
     #[error("out of memory")]
     Memory,
 }
@@ -102,9 +103,9 @@ fn judge(alloc: Global, text: &[u8]) -> Result<Report, CheckError>
     }
 }
 
-/// Whether the text is one of legal key histories, line by line. It answers exactly by what is so: the numbers of keys
-/// and steps of a legal text, the first faulty line and the first fault in it of any other, and want of memory only
-/// before a faulty line.
+/// Whether the text is one of legal key histories, line by line. A legal text is answered by its numbers of keys and
+/// steps, any other by its first faulty line and the first fault in it. Want of memory can stand in for either answer,
+/// but not where the first line is wrong, or is the only one.
 #[tactic(auto, using(crate::proofs::Verdicts::is_said, crate::proofs::Verdicts::legal_is_said, crate::proofs::Verdicts::fault_is_said))]
 pub fn check(alloc: Global, text: &[u8]) -> Result<Report, CheckError>
     // What is said is right.

@@ -13,7 +13,7 @@
 //!   front of the text.
 //! - `check` answers `Ok` exactly on the texts of legal histories, with their numbers of keys and steps. Any other text
 //!   is refused by its first faulty line and the first fault in it, and no text has two verdicts. Want of memory alone
-//!   can keep it from its verdict, and is told only before a faulty line (`specs/Verdict.antt`).
+//!   can keep it from its verdict, and not where the first line is wrong or is the only one (`specs/Verdict.antt`).
 //!
 //! `specs/Lines.antt` has the form of a line, `specs/Text.antt` the order of faults; `docs/FORMATS.md` tells
 //! the format to a stranger. `src/composer.rt` is the writer's side, `src/checker.rt` the reader's.

@@ -5,8 +5,10 @@
 //! number decides who goes first. Each time that a request has to wait, the wait is named by a [`Ticket`], and a
 //! [`Through`] lets that wait go on.
 //!
-//! Each type keeps its own range, so that no layer above tests it again. `specs/` has the ranges and the order of
-//! a key's faults; `docs/RULES.md` says what the names are for.
+//! A key, a transaction, a request and a ticket keep their ranges, so who is given one need not test it. A number that
+//! stands alone has the range of its Rust type and no more, as the pass of a `Through` or the parts of a timestamp.
+//! `specs/` has the ranges, the order of a key's faults and the order of timestamps; `docs/RULES.md` says what the names
+//! are for.
 #![tactic(auto)]
 
 mod error;

@@ -4,7 +4,7 @@ ghost use Rattle.lt_ids.specs.Ticket.{Wait, value_of, IsNumber, IsWaitNumber};
 use std::marker::Model;
 
 /// Names one wait: the number of the request, and which of its waits it is, from 1.
-#[derive(Clone, Copy, Debug, PartialEq, Eq, PartialOrd, Ord, Hash)]
+#[derive(Clone, Copy, Debug, PartialEq, Eq)]
 pub struct Ticket {
     number: u64,
     wait: u32,

@@ -1,8 +1,10 @@
+-- What the proofs of a table over the links may cite: facts on lists of nodes, and which queue is another.
 pub mod Rings
-pub mod Joints
-pub mod Views
 pub mod Steps
-pub mod Pushes
-pub mod Shows
-pub mod Edits
-pub mod Placed
+-- These serve this crate alone.
+mod Joints
+mod Views
+mod Pushes
+mod Shows
+mod Edits
+mod Placed

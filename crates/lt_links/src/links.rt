@@ -192,7 +192,7 @@ impl Links {
         self.nodes.remove(key).stand
     }
 
-    /// Takes a node out of its queue, to the front of a queue.
+    /// Moves a node from its queue to the front of a queue, of the same record or of another.
     pub fn move_front(&mut self, node: NodeId, queue: Queue)
         requires node { HasNode self.old node }
         requires queue { has_record self.old queue.id ≡ true }

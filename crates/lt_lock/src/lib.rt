@@ -1,7 +1,7 @@
 //! A lock table whose waiters are linked by index.
 //!
-//! [`LinkedTable`] is the table that a store runs: it keeps the contract of [`KeyTable`](lt_plain::KeyTable), so each
-//! call is the step of the rules on its key alone, as with the plain table. What it adds is speed. The waiters of all
+//! [`LinkedTable`] keeps the contract of [`KeyTable`](lt_plain::KeyTable), so each call is the step of the rules on its
+//! key alone, as with the plain table. What it adds is speed. The waiters of all
 //! keys are nodes of one [`Links`](lt_links::Links); the map of keys has only a row for each key that is locked or
 //! waited for: who holds its lock, who is its distinguished waiter, and where its queues are. A request's stand at a
 //! key is found in the list of the request's own stands, so no queue is walked for it; a new writer is put in from

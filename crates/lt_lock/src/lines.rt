@@ -53,7 +53,7 @@ pub(crate) fn renew(links: &mut Links, node: NodeId, stand: &Stand)
     links.set_stand(node, *stand);
 }
 
-/// Takes a node out of its queue, to the front of a queue of the same record or of another.
+/// Moves a node from its queue to the front of a queue, of the same record or of another.
 pub(crate) fn bring_first(links: &mut Links, node: NodeId, to: &Queue)
     requires node { HasNode links.old node }
     requires there { has_record links.old to.now.id ≡ true }

@@ -29,14 +29,12 @@ pub struct LinkedTable {
 }
 
 impl Model for LinkedTable {
-    ghost use Rattle.std.specs.FinMap as map;
-    ghost use Rattle.std.specs.Coded.{coded_list, coded_ℕ};
+    ghost use Rattle.lt_plain.specs.Codes.{records_code};
     ghost use Rattle.lt_plain.specs.Table.{Records};
-    ghost use Rattle.lt_plain.specs.contracts.plain_record.PlainRecord as plain_record;
 
     ghost Value = { Records };
 
-    ghost coded = { map.code (coded_list coded_ℕ) plain_record.the_row.coded };
+    ghost coded = { records_code };
 
     ghost use Rattle.lt_lock.specs.Linked.{records_of};
     ghost use Rattle.lt_lock.specs.Went.{IsTable};

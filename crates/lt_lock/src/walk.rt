@@ -50,7 +50,7 @@ fn through(stand: &Stand) -> Through
     }
 }
 
-/// Puts behind `lets` what lets go on who leaves and waits. After an error `lets` may have some of it.
+/// Adds to the end of `lets` a let for each stand that leaves and waits. After an error some of them may be there.
 fn put_lets(
     links: &Links,
     queue: &Queue,
@@ -72,7 +72,7 @@ fn put_lets(
     Ok(())
 }
 
-/// Puts behind `lets` what lets go on who leaves and waits. After an error `lets` is empty.
+/// Adds to the end of `lets` a let for each stand that leaves and waits. After an error `lets` is empty.
 pub(crate) fn let_through(
     links: &Links,
     queue: &Queue,
@@ -91,7 +91,7 @@ pub(crate) fn let_through(
     done
 }
 
-/// Puts behind `lets` what lets one stand go on. After an error `lets` is empty.
+/// Adds the let of one stand to the end of `lets`. After an error `lets` is empty.
 pub(crate) fn let_one(stand: &Stand, lets: &mut Vec<Through>) -> Result<(), AllocError>
     requires { IsNamed stand.now }
     ensures ok { OnOk result (lets.new.items ≡ lets.old.items ++ through_of (request_of stand.now) ∷ []) }

@@ -261,18 +261,18 @@ module _ (P : QueuedRequest → Type 0) (rs : List QueuedRequest) (d : Option �
 abbrev AllWaiting : List Event → Record → Type 0
 AllWaiting past r = EachActive (λ x. IsWaiting past (through_of x)) r
 
-waits_on : (past : List Event) (e : Event) (t : Through) → IsWaiting past t → Spares e t → IsWaiting (past ++ e ∷ []) t
+waits_on : (past : List Event) (e : Event) (t : Through) → IsWaiting past t → Spares e t.ticket → IsWaiting (past ++ e ∷ []) t
 waits_on past e t w s = record {
   before = w.before;
   told = w.told;
   since = w.since ++ e ∷ [];
   joined = ap (λ l. l ++ e ∷ []) w.joined ∙ append_assoc w.before (w.told ∷ w.since) (e ∷ []);
   tells = w.tells;
-  spared = all_append (λ x. Spares x t) w.since (e ∷ []) w.spared (s, tt);
+  spared = all_append (λ x. Spares x t.ticket) w.since (e ∷ []) w.spared (s, tt);
 }
 
-missed_spares : (e : Event) (x : QueuedRequest) → Misses e.lets x → Spares e (through_of x)
-missed_spares e x m = all_weaker (λ t. nat_eq t.ticket.number (number_of x) ≡ false) (λ t. t ≢ through_of x) (λ t differs same. let own : nat_eq t.ticket.number (number_of x) ≡ true = rw same (grind (arith, nat_tests)) in true≢false (sym own ∙ differs)) e.lets m
+missed_spares : (e : Event) (x : QueuedRequest) → Misses e.lets x → Spares e x.ticket
+missed_spares e x m = all_weaker (λ t. nat_eq t.ticket.number (number_of x) ≡ false) (λ t. t.ticket ≢ x.ticket) (λ t differs same. let own : nat_eq t.ticket.number (number_of x) ≡ true = rw same (grind (arith, nat_tests)) in true≢false (sym own ∙ differs)) e.lets m
 
 -- what an event of a legal history shows of the requests that wait
 record Advances (past : List Event) (e : Event) (after : Record) : Type 0 where

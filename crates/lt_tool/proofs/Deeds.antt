@@ -7,7 +7,7 @@ use Rattle.lt_script.specs.declared.command.Command.{Command}
 use Rattle.lt_tool.specs.declared.answer.Answer.{Answer}
 use Rattle.lt_tool.specs.declared.answer.AnswerLine.{AnswerLine}
 use Rattle.lt_tool.specs.Deeds.{Deed, IsDeed, IsDone, answer_line, AreDeeds}
-use Rattle.lt_tool.proofs.Recorded.{all_more}
+use Rattle.lt_history.proofs.OneMore.{all_more}
 
 pub none_done : AreDeeds [] [] []
 none_done = record { deeds = []; each = tt; commands_are = refl; answers_are = refl; entries_are = refl }

@@ -9,3 +9,4 @@ pub mod Commands
 pub mod Literals
 pub mod Told
 pub mod Checks
+pub mod Outputs

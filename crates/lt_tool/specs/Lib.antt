@@ -2,7 +2,6 @@ pub mod Answers
 pub mod Guards
 pub mod Slots
 pub mod Input
-pub mod Ranges
 pub mod Recorded
 pub mod Deeds
 pub mod Output

@@ -1,11 +1,9 @@
 -- What a run writes, and what it says.
 use Rattle.std.specs.Prelude.{ℕ, ◌≡◌, ◌<◌, ◌≤◌, ◌^◌, List, ◌++◌, length, Option, IfSome, Ok, Err}
-use Rattle.std.specs.List.{AllByRecursion}
 use Rattle.std.specs.Io.KnownBytes.{Appends}
-use Rattle.lt_history.specs.declared.entry.Entry.{Entry}
-use Rattle.lt_history.specs.Histories.{AreLegalKeys, IsTextOf}
-use Rattle.lt_tool.specs.Ranges.{IsNumbered}
+use Rattle.lt_history.specs.declared.checker.Report.{Report}
 use Rattle.lt_history.specs.Print.{AppendsFront}
+use Rattle.lt_history.specs.Verdict.{IsLegalText}
 use Rattle.lt_script.specs.declared.command.Command.{Command}
 use Rattle.lt_script.specs.declared.error.ScriptError.{ScriptError}
 use Rattle.lt_script.specs.declared.error.ScriptError.TheVariants.{Fault, Memory}
@@ -18,15 +16,14 @@ use Rattle.lt_tool.specs.declared.run.RunError.TheVariants as errors
 use Rattle.lt_tool.specs.Answers.{answers_text}
 use Rattle.lt_tool.specs.Deeds.{AreDeeds}
 
--- The text answers each of these commands, and then tells the histories of the keys, which are legal.
+-- The text answers each of these commands, and ends with a text of legal histories, just as a check takes it, whose
+-- entries are the steps of the commands.
 pub record IsOutput (text : List ℕ) (commands : List Command) : Type 0 where
   pub answers : List AnswerLine
-  pub entries : List Entry
   pub histories : List ℕ
-  pub deeds : AreDeeds commands answers entries
-  pub legal : AreLegalKeys entries
-  pub in_range : AllByRecursion IsNumbered entries
-  pub is_text : IsTextOf histories entries
+  pub report : Report
+  pub legal : IsLegalText histories report
+  pub deeds : AreDeeds commands answers legal.entries
   pub joined : text ≡ answers_text answers ++ histories
 
 -- A text is short enough to be read.

@@ -6,13 +6,13 @@ use Rattle.lt_plain.specs.Record.{empty}
 use Rattle.lt_plain.specs.Step.{record_after}
 use Rattle.lt_plain.specs.Table.{Records, record_at}
 use Rattle.lt_history.specs.declared.entry.Entry.{Entry}
-use Rattle.lt_history.specs.Histories.{event_of, part, AreLegalKeys}
-use Rattle.lt_tool.specs.Ranges.{IsNumbered}
+use Rattle.lt_history.specs.Histories.{event_of, part, AreLegalKeys, IsInRange}
 
--- The steps are legal, key by key, and played again from nothing they give the table's records.
+-- The steps are legal, key by key, with numbers in their ranges, and played again from nothing they give the table's
+-- records.
 pub record IsRecorded (table : Records) (entries : List Entry) : Type 0 where
   pub legal : AreLegalKeys entries
-  pub in_range : AllByRecursion IsNumbered entries
+  pub in_range : AllByRecursion IsInRange entries
   pub replays : (key : List ℕ) → record_at table key ≡ record_after empty (map event_of (part key entries))
 
 abbrev pub lets_of : Option Entry → List Through

@@ -56,7 +56,19 @@ abbrev pub IsFailed : Job → Failure → Option (List ℕ) → Option (List ℕ
 IsFailed (jobs.Run file options) e input old new = IsFailedRun e (source_of file input) old new
 IsFailed (jobs.Check file) e input old new = IsFailedCheck e (source_of file input) old new
 
+-- The job has no file, so it reads the input.
+abbrev pub ReadsInput : Job → Type 0
+ReadsInput (jobs.Run None options) = Unit {0}
+ReadsInput (jobs.Check None) = Unit {0}
+ReadsInput _ = ⊥
+
 -- ---- words
+
+-- The words have no fault, and name a job that reads the input.
+pub record AskForInput (words : List (List ℕ)) : Type 0 where
+  pub job : Job
+  pub read : IsReadOf words (Ok job)
+  pub reads : ReadsInput job
 
 -- What was read of the words is done: their job, or their help told.
 abbrev pub IsDoneFor : Result Job WordsError → Option (List ℕ) → Option (List ℕ) → Option (List ℕ) → Type 0

@@ -1,7 +1,7 @@
 ghost use Rattle.std.specs.Prelude.{◌≡◌, ◌++◌, [], ℕ, List, IfOk};
 ghost use Rattle.lt_plain.specs.declared.call.Call.{Call};
 ghost use Rattle.lt_history.specs.declared.entry.Entry.{Entry};
-ghost use Rattle.lt_tool.specs.Ranges.{NamesNumber};
+ghost use Rattle.lt_history.specs.Histories.{NamesNumber};
 ghost use Rattle.lt_tool.specs.Deeds.{IsStepOf, IsMade, IsOpened, IsScanned, IsPolled, IsLooked, IsLeft, IsDone};
 
 use crate::answer::{Answer, Refusal};

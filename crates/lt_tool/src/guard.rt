@@ -159,7 +159,7 @@ impl Model for Guards {
     ghost invariant = { λ g. length g.list.items ≡ 65 };
 }
 
-#[tactic(auto, using(crate::proofs::Recorded::all_more))]
+#[tactic(auto, using(lt_history::proofs::OneMore::all_more))]
 fn no_guards(alloc: Global) -> Result<Vec<Option<Guard>>, AllocError>
     ensures len { IfOk result (λ v. vec_len v ≡ 65) }
     ensures none { IfOk result (λ v. AllByRecursion (λ slot. slot ≡ None) v.items) }

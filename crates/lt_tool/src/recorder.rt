@@ -1,7 +1,6 @@
 ghost use Rattle.std.specs.Prelude.{◌≡◌, ◌≤◌, ◌++◌, [], List, IfOk, OnErr, true};
 ghost use Rattle.std.specs.List.{AllByRecursion};
-ghost use Rattle.lt_history.specs.Histories.{AreLegalKeys};
-ghost use Rattle.lt_tool.specs.Ranges.{NamesNumber, IsNumbered};
+ghost use Rattle.lt_history.specs.Histories.{AreLegalKeys, IsInRange, NamesNumber};
 ghost use Rattle.lt_tool.specs.Deeds.{IsStepOf, IsVisit};
 ghost use Rattle.lt_plain.specs.Step.{step};
 ghost use Rattle.lt_plain.specs.Table.{IsStep};
@@ -47,23 +46,27 @@ fn make_entry(
 ) -> Result<Entry, AllocError>
     requires pass_low { 1 ≤ pass }
     requires pass_high { pass ≤ 64 }
+    requires number { NamesNumber call.now }
     ensures step { IfOk result (λ e. IsStep table.old key.now (λ r. step r pass call.now) e.reply e.lets table.new) }
     ensures key { IfOk result (λ e. e.key ≡ key.now) }
     ensures pass { IfOk result (λ e. e.pass ≡ pass) }
     ensures call { IfOk result (λ e. e.call ≡ call.now) }
     ensures visit { IfOk result (λ e. IsVisit call.now → is_visit_reply e.reply ≡ true) }
+    ensures in_range { IfOk result (λ e. IsInRange e) }
     ensures err { OnErr result (table.new ≡ table.old) }
 {
     let key_copy = key.copy()?;
     let mut lets = Vec::new(alloc);
     let reply = make(table, key, pass, call, &mut lets)?;
-    Ok(Entry {
+    let entry = Entry {
         key: key_copy,
         pass,
         call: *call,
         reply,
         lets: Lets::new(lets),
-    })
+    };
+    entry.in_range();
+    Ok(entry)
 }
 
 impl Recorder {
@@ -110,7 +113,7 @@ impl Recorder {
     pub fn into_history(self) -> Vec<Entry>
         ensures same { result.items ≡ self }
         ensures legal { AreLegalKeys result.items }
-        ensures numbered { AllByRecursion IsNumbered result.items }
+        ensures in_range { AllByRecursion IsInRange result.items }
     {
         self.stored
     }

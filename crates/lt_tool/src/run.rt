@@ -107,7 +107,7 @@ pub fn run_script<R: Read, W: Write>(
 ) -> Result<Finish, RunError>
     requires { options.now.threads ≡ false }
 
-    // Each line is answered, and the histories are legal; nothing else is written.
+    // Each line is answered, then comes a text of legal histories, which a check takes; nothing else is written.
     ensures done { IfOk result (λ finish. (finish ≡ Finish.Done) × Ran (R.remaining reader.old) (W.contents writer.old) (W.contents writer.new)) }
 
     // A text that is refused has this fault, and that on this line, first.

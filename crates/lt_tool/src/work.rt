@@ -3,7 +3,7 @@ ghost use Rattle.std.specs.Io.KnownBytes.{Appends};
 ghost use Rattle.lt_history.specs.Print.{AppendsFront};
 ghost use Rattle.lt_tool.specs.Output.{Ran};
 ghost use Rattle.lt_tool.specs.Words.{HasDefaultOptions, texts};
-ghost use Rattle.lt_tool.specs.Work.{IsFailedRun, IsFailedCheck, Told, LeavesOutput, IsDone, IsFailed, Performs, Fails};
+ghost use Rattle.lt_tool.specs.Work.{IsFailedRun, IsFailedCheck, Told, LeavesOutput, IsDone, IsFailed, ReadsInput, AskForInput, Performs, Fails};
 
 use crate::{
     CheckTextError, Failure, Finish, Job, Options, RunError, WordsError, check_text, read_words,
@@ -92,6 +92,7 @@ fn work<F: Files, R: Read, W: Write>(
     ensures ok { IfOk result (λ finish. (finish ≡ Finish.Done) × IsDone job.entry (R.remaining input.old) (W.contents output.old) (W.contents output.new)) }
     ensures err { IfErr result (λ e. IsFailed job.entry e (R.remaining input.old) (W.contents output.old) (W.contents output.new)) }
     ensures unwritten { IfErr result (λ e. LeavesOutput e → output.new ≡ output.old) }
+    ensures unread { (ReadsInput job.entry → ⊥) → input.new ≡ input.old }
 {
     match job {
         Job::Run(None, options) => run_from(alloc, input, output, &options),
@@ -112,7 +113,8 @@ fn tell_help<W: Write>(output: &mut W, text: &str) -> Result<Finish, Failure>
 }
 
 /// Reads the words behind the program's name, and does what they ask for: the program, but for its streams. Help is
-/// written to the output, and nothing went wrong then. The input is read only where no file is named.
+/// written to the output, and nothing went wrong then. The input is read only for a job without a file. Where the words are
+/// refused, nothing is read, written or opened.
 pub fn perform<'a, F: Files, R: Read, W: Write>(
     alloc: Global,
     files: &F,
@@ -123,6 +125,9 @@ pub fn perform<'a, F: Files, R: Read, W: Write>(
     ensures done { IfOk result (λ finish. (finish ≡ Finish.Done) × Performs (texts words.now) (R.remaining input.old) (W.contents output.old) (W.contents output.new)) }
     ensures failed { IfErr result (λ e. Fails (texts words.now) e (R.remaining input.old) (W.contents output.old) (W.contents output.new)) }
     ensures unwritten { IfErr result (λ e. LeavesOutput e → output.new ≡ output.old) }
+
+    // The input is as it was where a file is named, help is told, or the words are refused.
+    ensures unread { (AskForInput (texts words.now) → ⊥) → input.new ≡ input.old }
 {
     match read_words(alloc, words) {
         Ok(job) => work(alloc, files, job, input, output),

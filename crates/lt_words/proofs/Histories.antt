@@ -1,16 +1,15 @@
 -- How what a history says changes with one more event.
 use Rattle.std.proofs.Common.{◌≡◌, ℕ, ◌+◌, ◌≤◌, ◌==◌, Bool, true, false, cond, List, [], ◌∷◌, ◌++◌, length, map, refl, ap, sym, subst, ◌∙◌, inl, inr, ⊎_elim, arith, append-nil, length-append, eq-eqb}
 use Rattle.std.specs.Str.{bytes_eq}
-use Rattle.std.proofs.lemmas.List.{map-append}
-use Rattle.std.proofs.lemmas.List.Elements.{filter-append}
 use mathlib.Core.List.{IsPrefix}
 use Rattle.lt_ids.specs.Ticket.{Wait}
-use Rattle.lt_plain.specs.Record.{Record, empty}
-use Rattle.lt_plain.specs.Step.{Event as KeyEvent, step, IsLegal, IsLegalFrom, record_after}
+use Rattle.lt_plain.specs.Record.{empty}
+use Rattle.lt_plain.specs.Step.{step, record_after}
 use Rattle.lt_history.specs.declared.entry.Entry.{Entry}
 use Rattle.lt_history.specs.Histories.{event_of, AreLegalKeys}
 use Rattle.lt_history.specs.Histories.{part as key_part}
 use Rattle.lt_history.proofs.Keys.{same_key}
+use Rattle.lt_history.proofs.OneMore.{keys_legal_more}
 use Rattle.lt_words.specs.declared.event.Event.{Event}
 use Rattle.lt_words.specs.declared.event.Event.TheVariants.{Opened, Draw, Step}
 use Rattle.lt_words.specs.History.{shard_of, steps_of, part, draws_of, DrawsCount, StepsAtHome, IsLegalHistory, MayFollow, Among, LetIn}
@@ -53,43 +52,26 @@ let_last (Step r f ∷ xs) s e p t h = inr (let_last xs s e p t h)
 
 draws_then_draw : (n : ℕ) (h : List Event) (p k : ℕ) → DrawsCount n h → k ≡ n + draws_of h + 1 → DrawsCount n (h ++ Draw p k ∷ [])
 draws_then_draw n [] p k c e = (omega arith, tt)
-draws_then_draw n (Opened a b ∷ h) p k c e = draws_then_draw n h p k c e
+draws_then_draw n (Opened a b ∷ h) p k c e = absurd c
 draws_then_draw n (Draw q m ∷ h) p k c e = (c.0, draws_then_draw (n + 1) h p k c.1 (omega arith))
 draws_then_draw n (Step s f ∷ h) p k c e = draws_then_draw n h p k c e
 
 draws_then_step : (n : ℕ) (h : List Event) (s : ℕ) (e : Entry) → DrawsCount n h → DrawsCount n (h ++ Step s e ∷ [])
 draws_then_step n [] s e c = tt
-draws_then_step n (Opened a b ∷ h) s e c = draws_then_step n h s e c
+draws_then_step n (Opened a b ∷ h) s e c = absurd c
 draws_then_step n (Draw q m ∷ h) s e c = (c.0, draws_then_step (n + 1) h s e c.1)
 draws_then_step n (Step r f ∷ h) s e c = draws_then_step n h s e c
 
 home_more : (shards : ℕ) (xs ys : List Event) → StepsAtHome shards xs → StepsAtHome shards ys → StepsAtHome shards (xs ++ ys)
 home_more shards [] ys h k = k
-home_more shards (Opened a b ∷ xs) ys h k = home_more shards xs ys h k
+home_more shards (Opened a b ∷ xs) ys h k = absurd h
 home_more shards (Draw p n ∷ xs) ys h k = home_more shards xs ys h k
 home_more shards (Step s e ∷ xs) ys h k = (h.0, home_more shards xs ys h.1 k)
 
 -- ---- keys
 
-legal_snoc : (r : Record) (es : List KeyEvent) (e : KeyEvent) → IsLegalFrom r es → e.reply ≡ (step (record_after r es) e.pass e.call).reply → e.lets ≡ (step (record_after r es) e.pass e.call).lets → IsLegalFrom r (es ++ e ∷ [])
-legal_snoc r [] e h reply lets = (reply, lets, tt)
-legal_snoc r (f ∷ es) e h reply lets = (h.0, h.1, legal_snoc (step r f.pass f.call).after es e h.2 reply lets)
-
--- the reply and the lets are those of the rules at the record of this key
-abbrev MayFollowAt : List ℕ → List Entry → Entry → Type 0
-MayFollowAt k es e =
-    (e.reply ≡ (step (record_after empty (map event_of (key_part k es))) e.pass e.call).reply)
-    × (e.lets ≡ (step (record_after empty (map event_of (key_part k es))) e.pass e.call).lets)
-
-keyed : (es : List Entry) (e : Entry) (k : List ℕ) (b : Bool) → bytes_eq e.key k ≡ b → IsLegal (map event_of (key_part k es)) → MayFollow es e → IsLegal (map event_of (key_part k es) ++ map event_of (cond b (e ∷ []) []))
-keyed es e k true is h may =
-    let same : e.key ≡ k = same_key e.key k is in
-    let here : MayFollowAt k es e = subst (λ (j : List ℕ). MayFollowAt j es e) same (may.reply, may.lets) in
-    legal_snoc empty (map event_of (key_part k es)) (event_of e) h here.0 here.1
-keyed es e k false is h may = subst IsLegal (sym (append-nil (map event_of (key_part k es)))) h
-
-pub legal_more : (es : List Entry) (e : Entry) → AreLegalKeys es → MayFollow es e → AreLegalKeys (es ++ e ∷ [])
-legal_more es e h may = λ k. subst IsLegal (sym (ap (map event_of) (filter-append (λ x. bytes_eq x.key k) es (e ∷ [])) ∙ map-append event_of (key_part k es) (key_part k (e ∷ [])))) (keyed es e k (bytes_eq e.key k) refl (h k) may)
+legal_more : (es : List Entry) (e : Entry) → AreLegalKeys es → MayFollow es e → AreLegalKeys (es ++ e ∷ [])
+legal_more es e h may = keys_legal_more es e h (may.reply, may.lets)
 
 -- one entry, in the part of its shard and in the whole
 beside : (shards s t : ℕ) (k : List ℕ) (e : Entry) (p w : List Entry) (b : Bool) → bytes_eq e.key k ≡ b → s ≡ shard_of k shards → t ≡ shard_of e.key shards
@@ -105,7 +87,7 @@ beside shards s t k e p w false is at home h =
 -- a key's steps all stand in the part of its shard
 pub key_in_part : (shards s : ℕ) (k : List ℕ) (h : List Event) → s ≡ shard_of k shards → StepsAtHome shards h → key_part k (part s h) ≡ key_part k (steps_of h)
 key_in_part shards s k [] at home = refl
-key_in_part shards s k (Opened a b ∷ h) at home = key_in_part shards s k h at home
+key_in_part shards s k (Opened a b ∷ h) at home = absurd home
 key_in_part shards s k (Draw p n ∷ h) at home = key_in_part shards s k h at home
 key_in_part shards s k (Step t e ∷ h) at home = beside shards s t k e (part s h) (steps_of h) (bytes_eq e.key k) refl at home.0 (key_in_part shards s k h at home.1)
 

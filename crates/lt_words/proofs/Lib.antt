@@ -5,3 +5,5 @@ pub mod Moving
 pub mod Passes
 pub mod Rows
 pub mod Lines
+pub mod Draws
+pub mod Parts

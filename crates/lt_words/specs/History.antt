@@ -1,4 +1,5 @@
--- What a log of draws and steps says, and which are legal. The opening entry says nothing here.
+-- What a list of draws and steps says, and which lists are legal histories. The opening, which is a log's first entry, says
+-- nothing here, and no legal history has one: so what is counted in a log is what is counted in the history after its opening.
 use Rattle.std.specs.Prelude.{ℕ, ◌≡◌, ◌+◌, ◌==◌, ◌⊎◌, ◌%◌, List, [], ◌∷◌, map, if◌then◌else◌}
 use Rattle.std.specs.List.{sum}
 use Rattle.lt_ids.specs.Ticket.{Wait}
@@ -36,21 +37,22 @@ draws_of (Opened shards passes ∷ h) = draws_of h
 draws_of (Draw pass number ∷ h) = draws_of h + 1
 draws_of (Step shard entry ∷ h) = draws_of h
 
--- Each draw gives the next number, after n draws.
+-- Each draw gives the next number, after n draws. No entry is an opening.
 abbrev pub DrawsCount : ℕ → List Event → Type 0
 DrawsCount n [] = Unit {0}
-DrawsCount n (Opened shards passes ∷ h) = DrawsCount n h
+DrawsCount n (Opened shards passes ∷ h) = ⊥
 DrawsCount n (Draw pass number ∷ h) = (number ≡ n + 1) × DrawsCount (n + 1) h
 DrawsCount n (Step shard entry ∷ h) = DrawsCount n h
 
--- Each step is of its key's shard.
+-- Each step is of its key's shard. No entry is an opening.
 abbrev pub StepsAtHome : ℕ → List Event → Type 0
 StepsAtHome shards [] = Unit {0}
-StepsAtHome shards (Opened s p ∷ h) = StepsAtHome shards h
+StepsAtHome shards (Opened s p ∷ h) = ⊥
 StepsAtHome shards (Draw pass number ∷ h) = StepsAtHome shards h
 StepsAtHome shards (Step shard entry ∷ h) = (shard ≡ shard_of entry.key shards) × StepsAtHome shards h
 
--- A legal table history: each key's part is legal, each step is of its key's shard, and the k-th draw gives k.
+-- A legal table history: draws and steps, where each key's part is legal, each step is of its key's shard, and the k-th draw
+-- gives k.
 pub record IsLegalHistory (shards : ℕ) (h : List Event) : Type 0 where
   pub keys : AreLegalKeys (steps_of h)
   pub home : StepsAtHome shards h
@@ -76,3 +78,10 @@ LetIn [] p t = ⊥
 LetIn (Opened shards passes ∷ h) p t = LetIn h p t
 LetIn (Draw pass number ∷ h) p t = LetIn h p t
 LetIn (Step shard entry ∷ h) p t = Among entry.lets p t ⊎ LetIn h p t
+
+-- This pass drew this number.
+abbrev pub DrewIn : List Event → ℕ → ℕ → Type 0
+DrewIn [] p n = ⊥
+DrewIn (Opened shards passes ∷ h) p n = DrewIn h p n
+DrewIn (Draw pass number ∷ h) p n = ((pass ≡ p) × (number ≡ n)) ⊎ DrewIn h p n
+DrewIn (Step shard entry ∷ h) p n = DrewIn h p n

@@ -2,7 +2,7 @@ ghost use Rattle.std.specs.Prelude.{◌≡◌, ◌+◌, ◌<◌, ◌≤◌, ◌^
 ghost use mathlib.Core.List.{IsPrefix};
 ghost use Rattle.lt_words.specs.declared.event.Event.{Event};
 ghost use Rattle.lt_words.specs.declared.event.Event.TheVariants.{Draw, Step};
-ghost use Rattle.lt_words.specs.History.{part, draws_of, shard_of, LetIn, MayFollow};
+ghost use Rattle.lt_words.specs.History.{part, draws_of, shard_of, DrewIn, LetIn, MayFollow};
 ghost use Rattle.lt_words.specs.Rules.{IsStatus};
 ghost use Rattle.lt_words.specs.Row.{AreSizes, GoesTo, SeesMore, fresh_passes};
 
@@ -102,11 +102,12 @@ impl Book {
         self.start.again()
     }
 
-    /// Draws the next number, or sees that there were `max` draws. It tries again until its exchange succeeds.
+    /// Draws the next number, which is 1 to `max` and nobody else's, or sees that there were `max` draws. It tries again
+    /// until its exchange succeeds.
     pub fn draw<R: Wait>(&self, rt: &R, pass: &mut Pass, max: u64) -> Option<u64>
-        requires of { self.now ≡ pass.old.of }
-        requires max { max < 2 ^ 63 }
+        requires { self.now ≡ pass.old.of }
         ensures some { IfSome result (λ n. (0 < n) × (n ≤ max) × GoesTo pass.old.seen (λ h. draws_of h + 1 ≡ n) (Draw pass.old.number n) pass.new.seen) }
+        ensures drew { IfSome result (λ n. DrewIn pass.new.seen pass.old.number n) }
         ensures none { IfNone result (max ≤ draws_of pass.new.seen) }
         ensures more { SeesMore pass.old pass.new }
     {

@@ -87,7 +87,7 @@ impl Front {
     /// Tries to draw the number after `old`.
     pub(crate) fn try_draw(&mut self, book: &Book, pass: u32, old: u64) -> bool
         requires of { book.now ≡ self.old.of }
-        requires room { old < 2 ^ 63 }
+        requires room { old + 1 < 2 ^ 64 }
         ensures of { self.new.of ≡ self.old.of }
         ensures went { MatchBool result (GoesTo self.old.seen (λ h. draws_of h ≡ old) (Draw pass (old + 1)) self.new.seen) (IsPrefix self.old.seen self.new.seen) }
     {
@@ -212,7 +212,6 @@ impl Front {
     /// Draws the next number, up to `max`.
     pub(crate) fn draw<R: Wait>(&mut self, rt: &R, book: &Book, pass: u32, max: u64) -> Option<u64>
         requires of { book.now ≡ self.old.of }
-        requires room { max < 2 ^ 63 }
         ensures of { self.new.of ≡ self.old.of }
         ensures some { IfSome result (λ n. (0 < n) × (n ≤ max) × GoesTo self.old.seen (λ h. draws_of h + 1 ≡ n) (Draw pass n) self.new.seen) }
         ensures none { IfNone result (max ≤ draws_of self.new.seen) }

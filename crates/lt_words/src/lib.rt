@@ -19,6 +19,7 @@ mod book;
 mod event;
 mod front;
 mod law;
+pub mod laws;
 mod line;
 mod name;
 mod pass;

@@ -1,0 +1,25 @@
+-- The codes of records and of maps of them, by which proofs tell them apart: for `coded` of a Model whose value has
+-- records in it. Nothing here says what a record means.
+use Rattle.std.specs.Prelude.{ℕ, Option, List, refl}
+use Rattle.std.specs.FinMap as map
+use Rattle.std.specs.Coded.{Coded, code_by, coded×, coded_ℕ, coded_list, coded_option}
+use Rattle.lt_plain.specs.contracts.queued.Holder as holder
+use Rattle.lt_plain.specs.contracts.queued.QueuedRequest as request
+use Rattle.lt_plain.specs.contracts.queued.QueuedWriter as writer
+use Rattle.lt_plain.specs.declared.queued.Holder.{Holder}
+use Rattle.lt_plain.specs.declared.queued.QueuedRequest.{QueuedRequest}
+use Rattle.lt_plain.specs.declared.queued.QueuedWriter.{QueuedWriter}
+use Rattle.lt_plain.specs.Record.{Record}
+use Rattle.lt_plain.specs.Table.{Records}
+
+abbrev pub record_code : Coded Record
+record_code =
+    code_by (Option Holder × (Option QueuedRequest × (List QueuedWriter × (List QueuedRequest × Option ℕ))))
+    (coded× (coded_option holder.the_row.coded) (coded× (coded_option request.the_row.coded) (coded× (coded_list writer.the_row.coded) (coded× (coded_list request.the_row.coded) (coded_option coded_ℕ)))))
+    (λ r. (r.holder, (r.reservation, (r.writers, (r.readers, r.distinguished)))))
+    (λ p. record { holder = p.0; reservation = p.1.0; writers = p.1.1.0; readers = p.1.1.1.0; distinguished = p.1.1.1.1 })
+    (λ _. refl)
+
+-- the code of the maps from keys, by their bytes, to records
+abbrev pub records_code : Coded Records
+records_code = map.code (coded_list coded_ℕ) record_code

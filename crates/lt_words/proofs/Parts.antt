@@ -1,0 +1,107 @@
+-- What the parts of a legal history tell, and those of its beginnings.
+use Rattle.std.proofs.Common.{◌≡◌, ◌≢◌, ℕ, ◌+◌, ◌==◌, ◌⊎◌, Bool, true, false, cond, Some, List, [], ◌∷◌, ◌++◌, map, refl, ap, sym, subst, ◌∙◌}
+use Rattle.std.specs.Prelude.{slice_get}
+use Rattle.std.specs.List.{AllByRecursion}
+use Rattle.std.specs.Str.{bytes_eq}
+use Rattle.std.proofs.lemmas.Bool.{eqb-true}
+use Rattle.std.proofs.lemmas.List.{map-append}
+use Rattle.std.proofs.lemmas.List.Elements.{filter-append}
+use mathlib.Core.Logic.{dite}
+use native.Mathlib.Decide.{ℕ_discrete}
+use mathlib.Core.List.{IsPrefix}
+use Rattle.lt_ids.specs.Ticket.{Wait}
+use Rattle.lt_ids.specs.declared.timestamp.Timestamp.{Timestamp}
+use Rattle.lt_ids.specs.declared.request.Access.TheVariants.{Read}
+use Rattle.lt_plain.specs.declared.call.Call.TheVariants.{Visit}
+use Rattle.lt_plain.specs.declared.call.Reply.TheVariants.{Passed, MustWait}
+use Rattle.lt_plain.specs.Record.{Record, empty}
+use Rattle.lt_plain.specs.Step.{Event as KeyEvent, step, IsLegal, IsLegalFrom}
+use Rattle.lt_plain.specs.Holding.{Holds}
+use Rattle.lt_plain.specs.Laws.{OneHolder, ReadsPass, IsBelowOthers}
+use Rattle.lt_history.specs.declared.entry.Entry.{Entry}
+use Rattle.lt_history.specs.Histories.{event_of, AreLegalKeys}
+use Rattle.lt_history.specs.Histories.{part as key_part}
+use Rattle.lt_history.proofs.Keys.{same_key}
+use Rattle.lt_words.specs.declared.event.Event.{Event}
+use Rattle.lt_words.specs.declared.event.Event.TheVariants.{Opened, Draw, Step}
+use Rattle.lt_words.specs.History.{part, steps_of, shard_of, DrawsCount, StepsAtHome, IsLegalHistory}
+use Rattle.lt_words.specs.Laws.{key_history}
+use Rattle.lt_words.proofs.Histories.{steps_of-append, part_prefix, key_in_part}
+use Rattle.lt_words.proofs.Prefixes.{prefix_get}
+
+-- ---- beginnings
+
+legal_first : (r : Record) (es fs : List KeyEvent) → IsLegalFrom r (es ++ fs) → IsLegalFrom r es
+legal_first r [] fs legal = tt
+legal_first r (e ∷ es) fs legal = (legal.0, legal.1, legal_first (step r e.pass e.call).after es fs legal.2)
+
+keys_first : (es fs : List Entry) → AreLegalKeys (es ++ fs) → AreLegalKeys es
+keys_first es fs legal = λ k. legal_first empty (key_history k es) (key_history k fs)
+    (subst IsLegal (ap (map event_of) (filter-append (λ x. bytes_eq x.key k) es fs) ∙ map-append event_of (key_part k es) (key_part k fs)) (legal k))
+
+home_first : (shards : ℕ) (g more : List Event) → StepsAtHome shards (g ++ more) → StepsAtHome shards g
+home_first shards [] more h = tt
+home_first shards (Opened a b ∷ g) more h = absurd h
+home_first shards (Draw p n ∷ g) more h = home_first shards g more h
+home_first shards (Step s e ∷ g) more h = (h.0, home_first shards g more h.1)
+
+draws_first : (n : ℕ) (g more : List Event) → DrawsCount n (g ++ more) → DrawsCount n g
+draws_first n [] more h = tt
+draws_first n (Opened a b ∷ g) more h = absurd h
+draws_first n (Draw p k ∷ g) more h = (h.0, draws_first (n + 1) g more h.1)
+draws_first n (Step s e ∷ g) more h = draws_first n g more h
+
+legal_beginning : (shards : ℕ) (g more : List Event) → IsLegalHistory shards (g ++ more) → IsLegalHistory shards g
+legal_beginning shards g more legal = record {
+  keys = keys_first (steps_of g) (steps_of more) (subst AreLegalKeys (steps_of-append g more) legal.keys);
+  home = home_first shards g more legal.home;
+  draws = draws_first 0 g more legal.draws;
+}
+
+pub beginnings_are_legal : (shards : ℕ) (g h : List Event) → IsPrefix g h → IsLegalHistory shards h → IsLegalHistory shards g
+beginnings_are_legal shards g h pre legal = legal_beginning shards g pre.0 (subst (IsLegalHistory shards) (sym pre.1) legal)
+
+pub steps_stay : (shard : ℕ) (g h : List Event) (at : ℕ) (entry : Entry) → IsPrefix g h → slice_get (part shard g) at ≡ Some entry → slice_get (part shard h) at ≡ Some entry
+steps_stay shard g h at entry pre stands = prefix_get (part shard g) (part shard h) at entry (part_prefix shard g h pre) stands
+
+-- ---- parts
+
+-- all of these steps are of keys of this shard
+abbrev AtHome : ℕ → ℕ → List Entry → Type 0
+AtHome shards s es = AllByRecursion (λ e. s ≡ shard_of e.key shards) es
+
+at_home_one : (shards s t : ℕ) (e : Entry) (es : List Entry) (b : Bool) → (s == t) ≡ b → t ≡ shard_of e.key shards → AtHome shards s es → AtHome shards s (cond b (e ∷ es) es)
+at_home_one shards s t e es true is home rest = (eqb-true s t is ∙ home, rest)
+at_home_one shards s t e es false is home rest = rest
+
+at_home : (shards s : ℕ) (h : List Event) → StepsAtHome shards h → AtHome shards s (part s h)
+at_home shards s [] home = tt
+at_home shards s (Opened a b ∷ h) home = absurd home
+at_home shards s (Draw p n ∷ h) home = at_home shards s h home
+at_home shards s (Step t e ∷ h) home = at_home_one shards s t e (part s h) (s == t) refl home.0 (at_home shards s h home.1)
+
+pub parts_are_at_home : (shards shard : ℕ) (h : List Event) → IsLegalHistory shards h → AllByRecursion (λ e. shard ≡ shard_of e.key shards) (part shard h)
+parts_are_at_home shards shard h legal = at_home shards shard h legal.home
+
+not_here : (shards s : ℕ) (k : List ℕ) (e : Entry) (rest : List Entry) (b : Bool) → bytes_eq e.key k ≡ b → s ≡ shard_of e.key shards → s ≢ shard_of k shards → rest ≡ [] → cond b (e ∷ rest) rest ≡ []
+not_here shards s k e rest true is home ne none = absurd (ne (home ∙ ap (λ j. shard_of j shards) (same_key e.key k is)))
+not_here shards s k e rest false is home ne none = none
+
+-- a key of another shard has no steps among these
+none_elsewhere : (shards s : ℕ) (k : List ℕ) (es : List Entry) → AtHome shards s es → s ≢ shard_of k shards → key_part k es ≡ []
+none_elsewhere shards s k [] home ne = refl
+none_elsewhere shards s k (e ∷ es) home ne = not_here shards s k e (key_part k es) (bytes_eq e.key k) refl home.0 ne (none_elsewhere shards s k es home.1 ne)
+
+pub parts_are_legal : (shards shard : ℕ) (h : List Event) → IsLegalHistory shards h → AreLegalKeys (part shard h)
+parts_are_legal shards shard h legal = λ k. dite (ℕ_discrete shard (shard_of k shards))
+    (λ at. subst (λ (es : List Entry). IsLegal (map event_of es)) (sym (key_in_part shards shard k h at legal.home)) (legal.keys k))
+    (λ ne. subst (λ (es : List Entry). IsLegal (map event_of es)) (sym (none_elsewhere shards shard k (part shard h) (at_home shards shard h legal.home) ne)) tt)
+
+-- ---- keys, by the laws of one key's history
+
+pub one_holder_at_each_key : OneHolder → (es : List Entry) (key : List ℕ) (past rest : List KeyEvent) (T U : ℕ) → AreLegalKeys es → key_history key es ≡ past ++ rest → Holds past T → Holds past U → T ≡ U
+one_holder_at_each_key law es key past rest T U legal is t u = law past rest T U (subst IsLegal is (legal key)) t u
+
+pub reads_pass_at_each_key : ReadsPass → (es : List Entry) (key : List ℕ) (past rest : List KeyEvent) (e : KeyEvent) (ticket : Wait) (txn : ℕ) (ts : Timestamp) → AreLegalKeys es → key_history key es ≡ past ++ e ∷ rest → e.call ≡ Visit ticket txn ts Read
+    → ((e.reply ≡ Passed) × IsBelowOthers past txn ts) ⊎ ((e.reply ≡ MustWait) × (IsBelowOthers past txn ts → ⊥))
+reads_pass_at_each_key law es key past rest e ticket txn ts legal is call = law past rest e ticket txn ts (subst IsLegal is (legal key)) call

@@ -1,0 +1,91 @@
+-- Laws of table histories. What a pass or a front has seen is a legal one, and it only grows: so of two histories below
+-- where one is a beginning of the other, the first is what was seen at some time, and the other what is seen later.
+use Rattle.std.specs.Prelude.{ℕ, ◌≡◌, ◌+◌, ◌<◌, ◌≤◌, ◌⊎◌, Some, List, ◌∷◌, ◌++◌, map, slice_get}
+use Rattle.std.specs.List.{AllByRecursion}
+use mathlib.Core.List.{IsPrefix}
+use Rattle.lt_ids.specs.Ticket.{Wait}
+use Rattle.lt_ids.specs.declared.timestamp.Timestamp.{Timestamp}
+use Rattle.lt_ids.specs.declared.request.Access.TheVariants.{Read}
+use Rattle.lt_plain.specs.declared.call.Call.TheVariants.{Visit}
+use Rattle.lt_plain.specs.declared.call.Reply.TheVariants.{Passed, MustWait}
+use Rattle.lt_plain.specs.Step.{Event as KeyEvent}
+use Rattle.lt_plain.specs.Holding.{Holds}
+use Rattle.lt_plain.specs.Laws.{IsBelowOthers}
+use Rattle.lt_history.specs.declared.entry.Entry.{Entry}
+use Rattle.lt_history.specs.Histories.{event_of, AreLegalKeys}
+use Rattle.lt_history.specs.Histories.{part as key_part}
+use Rattle.lt_words.specs.declared.event.Event.{Event}
+use Rattle.lt_words.specs.declared.event.Event.TheVariants.{Draw}
+use Rattle.lt_words.specs.History.{part, draws_of, shard_of, IsLegalHistory, DrewIn, LetIn}
+
+-- ---- draws
+
+-- A draw gives one more than the number of draws before it.
+abbrev pub DrawsGiveTheNext : Type 0
+DrawsGiveTheNext = (shards : ℕ) (past rest : List Event) (pass number : ℕ) → IsLegalHistory shards (past ++ Draw pass number ∷ rest) → number ≡ draws_of past + 1
+
+-- Of two draws the later one gives the greater number.
+abbrev pub NumbersRise : Type 0
+NumbersRise = (shards : ℕ) (past between rest : List Event) (p m q n : ℕ) → IsLegalHistory shards (past ++ Draw p m ∷ (between ++ Draw q n ∷ rest)) → m < n
+
+-- A number that was drawn is at least 1, and at most the number of draws.
+abbrev pub NumbersAreOfDraws : Type 0
+NumbersAreOfDraws = (shards : ℕ) (h : List Event) (pass number : ℕ) → IsLegalHistory shards h → DrewIn h pass number → (1 ≤ number) × (number ≤ draws_of h)
+
+-- Draws of one number are one draw: they are by one pass, and stand at one place.
+abbrev pub NumbersAreDrawnOnce : Type 0
+NumbersAreDrawnOnce = (shards : ℕ) (h past past2 rest rest2 : List Event) (p q number : ℕ) → IsLegalHistory shards h →
+    h ≡ past ++ Draw p number ∷ rest → h ≡ past2 ++ Draw q number ∷ rest2 → (p ≡ q) × (past ≡ past2)
+
+-- A number was drawn by one pass.
+abbrev pub NumbersAreOfOnePass : Type 0
+NumbersAreOfOnePass = (shards : ℕ) (h : List Event) (p q number : ℕ) → IsLegalHistory shards h → DrewIn h p number → DrewIn h q number → p ≡ q
+
+-- ---- beginnings
+
+-- A beginning of a legal history is legal.
+abbrev pub BeginningsAreLegal : Type 0
+BeginningsAreLegal = (shards : ℕ) (g h : List Event) → IsPrefix g h → IsLegalHistory shards h → IsLegalHistory shards g
+
+-- A shard's part of a beginning is a beginning of its part.
+abbrev pub PartsBegin : Type 0
+PartsBegin = (shard : ℕ) (g h : List Event) → IsPrefix g h → IsPrefix (part shard g) (part shard h)
+
+-- A step that stands at a place of a shard's part stands there later.
+abbrev pub StepsStay : Type 0
+StepsStay = (shard : ℕ) (g h : List Event) (at : ℕ) (entry : Entry) → IsPrefix g h → slice_get (part shard g) at ≡ Some entry → slice_get (part shard h) at ≡ Some entry
+
+-- A draw stays.
+abbrev pub DrawsStay : Type 0
+DrawsStay = (g h : List Event) (pass number : ℕ) → IsPrefix g h → DrewIn g pass number → DrewIn h pass number
+
+-- A let stays.
+abbrev pub LetsStay : Type 0
+LetsStay = (g h : List Event) (pass : ℕ) (ticket : Wait) → IsPrefix g h → LetIn g pass ticket → LetIn h pass ticket
+
+-- ---- parts
+
+-- The steps of a shard's part are of keys of that shard.
+abbrev pub PartsAreAtHome : Type 0
+PartsAreAtHome = (shards shard : ℕ) (h : List Event) → IsLegalHistory shards h → AllByRecursion (λ e. shard ≡ shard_of e.key shards) (part shard h)
+
+-- Each key's steps in a shard's part are a legal history of that key.
+abbrev pub PartsAreLegal : Type 0
+PartsAreLegal = (shards shard : ℕ) (h : List Event) → IsLegalHistory shards h → AreLegalKeys (part shard h)
+
+-- ---- keys: of any steps that are legal for each key, as a shard's part is
+
+-- the history of a key among these steps
+abbrev pub key_history : List ℕ → List Entry → List KeyEvent
+key_history key es = map event_of (key_part key es)
+
+-- At no place of a key's history do two transactions hold the lock.
+abbrev pub OneHolderAtEachKey : Type 0
+OneHolderAtEachKey = (es : List Entry) (key : List ℕ) (past rest : List KeyEvent) (T U : ℕ) → AreLegalKeys es →
+    key_history key es ≡ past ++ rest → Holds past T → Holds past U → T ≡ U
+
+-- A read passes exactly where each other holder's stamp is above its time, and else has to wait.
+abbrev pub ReadsPassAtEachKey : Type 0
+ReadsPassAtEachKey = (es : List Entry) (key : List ℕ) (past rest : List KeyEvent) (e : KeyEvent) (ticket : Wait) (txn : ℕ) (ts : Timestamp) → AreLegalKeys es →
+    key_history key es ≡ past ++ e ∷ rest → e.call ≡ Visit ticket txn ts Read →
+    ((e.reply ≡ Passed) × IsBelowOthers past txn ts) ⊎ ((e.reply ≡ MustWait) × (IsBelowOthers past txn ts → ⊥))
