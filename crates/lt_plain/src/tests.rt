@@ -35,19 +35,23 @@ fn looks(table: &PlainTable, key: &Key) -> [Reply; 3] {
     [table.look(key, 1), table.look(key, 2), table.look(key, 3)]
 }
 
-/// Makes the call, and makes it again where memory was refused, which must have changed nothing.
+/// Makes the call, and makes it again where memory was refused, which must have changed nothing. No more than one call
+/// may be refused, as by one refused allocation.
 fn make(
     rt: &impl Abort,
     table: &mut PlainTable,
     key: &Key,
     call: &Call,
     lets: &mut Vec<Through>,
+    refusals: &mut u64,
 ) -> Result<Reply, Fail> {
     let before = looks(table, key);
     lets.clear();
     match step::make(table, key, 1, call, lets) {
         Ok(reply) => Ok(reply),
         Err(_) => {
+            *refusals = refusals.wrapping_add(1);
+            assert!(rt; *refusals <= 1, "a call was refused without cause");
             assert!(rt;
                 looks(table, key) == before,
                 "a refused call changed the record"
@@ -99,8 +103,10 @@ fn a_key_from_its_first_lock_to_its_last_waiter(rt: HostRuntime) -> Result<(), F
         (Call::Leave { number: 3 }, Reply::Left, None),
         (Call::Look { number: 3 }, Reply::Nothing, None),
     ];
+    let mut refusals = 0;
     for (call, reply, through) in &steps {
-        assert_eq!(rt; make(&rt, &mut table, &a, call, &mut lets)?, *reply);
+        let found = make(&rt, &mut table, &a, call, &mut lets, &mut refusals)?;
+        assert_eq!(rt; found, *reply);
         let tickets = lets.first().map(|t| (t.ticket.number(), t.ticket.wait()));
         assert_eq!(rt; tickets, *through);
         assert!(rt; lets.len() <= 1);

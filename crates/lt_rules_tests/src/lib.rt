@@ -2,9 +2,11 @@
 //!
 //! [`second::Second`] is written from the tables of `docs/RULES.md`, with none of the code or the definitions of
 //! `lt_plain`; it is compared call by call, on the reply, the lets, and what every number then finds. So a slip in
-//! the definitions themselves, which no proof can show, would show here.
+//! the definitions themselves, which no proof can show, would show here. [`cases`] counts what came about, so that no
+//! case of the rules is left out.
 #![tactic(auto)]
 
+pub mod cases;
 pub mod random;
 pub mod second;
 #[cfg(test)]

@@ -1,13 +1,22 @@
+use crate::cases::Lock;
 use lt_ids::TxnId;
 use lt_plain::Reply;
 use std::alloc::{AllocError, Global};
+
+/// A time, by its wall part and its logical part.
+pub type Time = (u64, u32);
+
+/// The wall part decides, and where it is the same the logical one.
+pub fn is_below(a: Time, b: Time) -> bool {
+    a.0 < b.0 || a.0 == b.0 && a.1 < b.1
+}
 
 /// A request that stands at the key, by plain numbers.
 #[derive(Clone, Copy, Debug, PartialEq, Eq)]
 pub struct Stand {
     pub number: u64,
     pub txn: u64,
-    pub wall: u64,
+    pub time: Time,
     pub pass: u32,
     pub wait: u32,
     pub active: bool,
@@ -16,10 +25,10 @@ pub struct Stand {
 /// A let: the pass, the number and the wait.
 pub type Let = (u32, u64, u32);
 
-/// One key, by plain numbers: timestamps have a wall part alone.
+/// One key, by plain numbers.
 #[derive(Drop)]
 pub struct Second {
-    holder: Option<(u64, u64)>,
+    holder: Option<(u64, Time)>,
     reserved: Option<Stand>,
     writers: Vec<Stand>,
     readers: Vec<Stand>,
@@ -57,6 +66,19 @@ impl Second {
             distinguished: None,
             lets: Vec::new(alloc),
         }
+    }
+
+    /// Who has the lock.
+    pub fn lock(&self) -> Lock {
+        Lock {
+            holder: self.holder,
+            reserved: self.reserved.map(|stand| stand.number),
+        }
+    }
+
+    /// Whether some request waits to read.
+    pub fn has_readers(&self) -> bool {
+        !self.readers.is_empty()
     }
 
     /// A writer that may be the distinguished waiter.
@@ -180,12 +202,12 @@ impl Second {
         stand: &Stand,
         is_write: bool,
     ) -> Result<Reply, AllocError> {
-        if let Some((txn, wall)) = self.holder {
+        if let Some((txn, time)) = self.holder {
             if txn == stand.txn {
                 return Ok(Reply::Passed);
             }
             if !is_write {
-                if stand.wall < wall {
+                if is_below(stand.time, time) {
                     return Ok(Reply::Passed);
                 }
                 if !self.is_writer(stand.number) {
@@ -228,15 +250,21 @@ impl Second {
         Ok(reply)
     }
 
-    fn raise(&mut self, alloc: Global, txn: u64, old: u64, wall: u64) -> Result<Reply, AllocError> {
-        if wall <= old {
+    fn raise(
+        &mut self,
+        alloc: Global,
+        txn: u64,
+        old: Time,
+        time: Time,
+    ) -> Result<Reply, AllocError> {
+        if !is_below(old, time) {
             return Ok(Reply::Kept);
         }
-        self.holder = Some((txn, wall));
+        self.holder = Some((txn, time));
         let readers = self.readers.clone()?;
         self.readers = Vec::new(alloc);
         for reader in &readers {
-            if reader.wall < wall {
+            if is_below(reader.time, time) {
                 self.let_through(reader)?;
             } else {
                 self.readers.push(*reader)?;
@@ -246,14 +274,14 @@ impl Second {
         Ok(Reply::Raised)
     }
 
-    fn take(&mut self, alloc: Global, txn: u64, wall: u64) -> Result<Reply, AllocError> {
+    fn take(&mut self, alloc: Global, txn: u64, time: Time) -> Result<Reply, AllocError> {
         if let Some(reserved) = self.reserved {
             if reserved.txn != txn {
                 self.put_back(alloc, &reserved)?;
             }
         }
         self.reserved = None;
-        self.holder = Some((txn, wall));
+        self.holder = Some((txn, time));
         let writers = self.writers.clone()?;
         self.writers = Vec::new(alloc);
         for writer in &writers {
@@ -267,17 +295,17 @@ impl Second {
         Ok(Reply::Taken)
     }
 
-    pub fn acquire(&mut self, alloc: Global, txn: u64, wall: u64) -> Result<Reply, AllocError> {
+    pub fn acquire(&mut self, alloc: Global, txn: u64, time: Time) -> Result<Reply, AllocError> {
         match self.holder {
             Some((holder, _)) if holder != txn => Ok(Reply::Other),
-            Some((_, old)) => self.raise(alloc, txn, old, wall),
-            None => self.take(alloc, txn, wall),
+            Some((_, old)) => self.raise(alloc, txn, old, time),
+            None => self.take(alloc, txn, time),
         }
     }
 
-    pub fn update(&mut self, alloc: Global, txn: u64, wall: u64) -> Result<Reply, AllocError> {
+    pub fn update(&mut self, alloc: Global, txn: u64, time: Time) -> Result<Reply, AllocError> {
         match self.holder {
-            Some((holder, old)) if holder == txn => self.raise(alloc, txn, old, wall),
+            Some((holder, old)) if holder == txn => self.raise(alloc, txn, old, time),
             _ => Ok(Reply::Other),
         }
     }

@@ -1,5 +1,6 @@
+use crate::cases::{Counts, Visit, case_of};
 use crate::random::Random;
-use crate::second::{Let, Second, Stand};
+use crate::second::{Let, Second, Stand, Time};
 use lt_ids::{Access, Key, Request, Through, Timestamp, TxnId};
 use lt_plain::{KeyTable, PlainTable, Reply};
 use std::alloc::Global;
@@ -10,14 +11,25 @@ const NUMBERS: u64 = 6;
 
 const TXNS: u64 = 4;
 
-const WALLS: u64 = 5;
+// Few, so that times are often equal in the wall part, and in both.
+const WALLS: u64 = 3;
+
+const LOGICALS: u64 = 3;
 
 fn txn_of(number: u64) -> Result<TxnId, Fail> {
     Ok(TxnId::new(number).ok_or("a transaction")?)
 }
 
-fn at(wall: u64) -> Timestamp {
-    Timestamp { wall, logical: 0 }
+fn at(time: Time) -> Timestamp {
+    Timestamp {
+        wall: time.0,
+        logical: time.1,
+    }
+}
+
+fn random_time(random: &mut Random) -> Time {
+    let wall = random.below(WALLS);
+    (wall, random.below(LOGICALS) as u32)
 }
 
 fn visit_both(
@@ -27,27 +39,40 @@ fn visit_both(
     second: &mut Second,
     key: &Key,
     lets: &mut Vec<Through>,
+    counts: &mut Counts,
 ) -> Result<(Reply, Reply), Fail> {
     let number = 1 + random.below(NUMBERS);
     let txn = 1 + random.below(TXNS);
-    let wall = random.below(WALLS);
+    let time = random_time(random);
     let pass = 1 + random.below(3);
     let wait = 1 + random.below(9);
     let is_write = random.below(5) < 3;
     let stand = Stand {
         number,
         txn,
-        wall,
+        time,
         pass: pass as u32,
         wait: wait as u32,
         active: true,
     };
-    let request = Request::new(number, txn_of(txn)?, at(wall), pass as u32).ok_or("a request")?;
+    let request = Request::new(number, txn_of(txn)?, at(time), pass as u32).ok_or("a request")?;
     let access = if is_write {
         Access::Write
     } else {
         Access::Read
     };
+    let waits = match second.look(number) {
+        Reply::Nothing | Reply::Reserved => false,
+        _ => true,
+    };
+    let visit = Visit {
+        number,
+        txn,
+        time,
+        is_write,
+        waits,
+    };
+    counts.add(case_of(&second.lock(), &visit));
     lets.clear();
     let first = table.visit(key, &request, access, wait as u32, lets)?;
     Ok((first, second.visit(alloc, &stand, is_write)?))
@@ -60,19 +85,20 @@ fn call_both(
     second: &mut Second,
     key: &Key,
     lets: &mut Vec<Through>,
+    counts: &mut Counts,
 ) -> Result<(Reply, Reply), Fail> {
     let txn = 1 + random.below(TXNS);
-    let wall = random.below(WALLS);
+    let time = random_time(random);
     let number = 1 + random.below(NUMBERS);
     lets.clear();
     match random.below(8) {
         0 | 1 => Ok((
-            table.acquire(key, txn_of(txn)?, at(wall), lets)?,
-            second.acquire(alloc, txn, wall)?,
+            table.acquire(key, txn_of(txn)?, at(time), lets)?,
+            second.acquire(alloc, txn, time)?,
         )),
         2 => Ok((
-            table.update(key, txn_of(txn)?, at(wall), lets)?,
-            second.update(alloc, txn, wall)?,
+            table.update(key, txn_of(txn)?, at(time), lets)?,
+            second.update(alloc, txn, time)?,
         )),
         3 | 4 => Ok((
             table.finish(key, txn_of(txn)?, lets)?,
@@ -82,7 +108,7 @@ fn call_both(
             table.leave(key, number, lets)?,
             second.leave(alloc, number)?,
         )),
-        _ => visit_both(alloc, random, table, second, key, lets),
+        _ => visit_both(alloc, random, table, second, key, lets, counts),
     }
 }
 
@@ -95,7 +121,13 @@ fn lets_of(alloc: Global, lets: &Vec<Through>) -> Result<Vec<Let>, Fail> {
 }
 
 /// One script of random calls on one key, compared after each call.
-fn compare(rt: &impl Abort, alloc: Global, key: &Key, seed: u64) -> Result<(), Fail> {
+fn compare(
+    rt: &impl Abort,
+    alloc: Global,
+    key: &Key,
+    seed: u64,
+    counts: &mut Counts,
+) -> Result<(), Fail> {
     let mut random = Random::new(seed);
     let mut table = PlainTable::new(alloc);
     let mut second = Second::new(alloc);
@@ -109,15 +141,21 @@ fn compare(rt: &impl Abort, alloc: Global, key: &Key, seed: u64) -> Result<(), F
             &mut second,
             key,
             &mut lets,
+            counts,
         )?;
         assert!(rt; first == other, "the replies differ, seed {seed}");
         let found = lets_of(alloc, &lets)?;
         assert!(rt; found == second.lets, "the lets differ, seed {seed}");
+        if !found.is_empty() {
+            counts.add_lets(first, second.has_readers());
+        }
         for number in 1..NUMBERS + 1 {
+            let sight = table.look(key, number);
             assert!(rt;
-                table.look(key, number) == second.look(number),
+                sight == second.look(number),
                 "{number} finds another, seed {seed}"
             );
+            counts.add_look(sight);
         }
     }
     Ok(())
@@ -126,8 +164,10 @@ fn compare(rt: &impl Abort, alloc: Global, key: &Key, seed: u64) -> Result<(), F
 #[test]
 fn random_calls_agree_with_the_rules_read_a_second_time(rt: HostRuntime) -> Result<(), Fail> {
     let key = Key::from_bytes(rt.alloc(), b"key")?;
+    let mut counts = Counts::new();
     for seed in 0..5_000 {
-        compare(&rt, rt.alloc(), &key, seed)?;
+        compare(&rt, rt.alloc(), &key, seed, &mut counts)?;
     }
+    assert_eq!(rt; counts.missing(), None);
     Ok(())
 }
