@@ -9,10 +9,12 @@
 
 static unsigned long refused, seen;
 static void *(*next_malloc)(size_t);
+static void *(*next_calloc)(size_t, size_t);
 static void *(*next_realloc)(void *, size_t);
 
 __attribute__((constructor)) static void find(void) {
     next_malloc = dlsym(RTLD_NEXT, "malloc");
+    next_calloc = dlsym(RTLD_NEXT, "calloc");
     next_realloc = dlsym(RTLD_NEXT, "realloc");
     const char *word = getenv("REFUSE");
     refused = word ? strtoul(word, 0, 10) : 0;
@@ -28,6 +30,18 @@ __attribute__((destructor)) static void tell(void) {
 void *malloc(size_t size) {
     if (!next_malloc) next_malloc = dlsym(RTLD_NEXT, "malloc");
     return ++seen == refused ? NULL : next_malloc(size);
+}
+
+/* dlsym itself may ask for zeroed memory while it looks for calloc: it gets none, which it can do without. */
+void *calloc(size_t count, size_t size) {
+    static int finding;
+    if (!next_calloc) {
+        if (finding) return NULL;
+        finding = 1;
+        next_calloc = dlsym(RTLD_NEXT, "calloc");
+        finding = 0;
+    }
+    return ++seen == refused ? NULL : next_calloc(count, size);
 }
 
 void *realloc(void *old, size_t size) {

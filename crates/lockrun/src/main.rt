@@ -1,5 +1,5 @@
 //! Runs a script over an empty lock table, or checks a text of histories: `lockrun run [SCRIPT]`, `lockrun check [FILE]`.
-//! What is decided here is decided in `lt_tool`; the program hands its words and streams over.
+//! The program hands its words and streams over to `lt_tool`, which decides everything.
 #![tactic(auto)]
 
 use lt_tool::{Failure, Finish, complain, perform, status};

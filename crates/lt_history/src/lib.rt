@@ -1,8 +1,8 @@
 //! Histories of keys as text: how they are written, and an exact checker of such texts.
 //!
-//! A lock table keeps, for each of its shards, the list of the steps that it made ([`Entry`]): which key, which pass,
-//! which call, which reply, and whom the step let through. [`print`] writes the text of such lists, and [`compose`]
-//! gives it in memory; [`check`] reads a text and says whether it is one of legal histories, that is, whether the
+//! A history is a list of the steps that were made of a lock table, each an [`Entry`]: which key, which pass, which call,
+//! which reply, and whom the step let through. [`print`] writes the text of such lists, and [`compose`] gives it in
+//! memory; [`check`] reads a text and says whether it is one of legal histories, that is, whether the
 //! rules of one key (`lt_plain`) give each reply and each let that the text has. So whoever has a text can audit a run
 //! without the table that made it.
 //!

@@ -5,8 +5,8 @@ use std::alloc::{AllocError, AllocFailed};
 use std::fmt;
 use thiserror::Error;
 
-/// What is wrong with a line of a script, in the order in which the faults are looked for: the first word, the
-/// second, how many there are, and then what stands after them, from left to right.
+/// What is wrong with a line of a script. The first word is looked at first, then the second, then how many words there
+/// are, and then what stands after them, from left to right; of a key with its access, the access comes first.
 #[derive(Clone, Copy, Debug, PartialEq, Eq, Error)]
 pub enum Fault {
     /// The first word is no number from 1 to 64.
@@ -27,7 +27,7 @@ pub enum Fault {
     /// A key is not 1 to 64 bytes from 0x21 to 0x7E.
     #[error("BadKey")]
     BadKey,
-    /// The last two bytes of a key with its access are neither `:r` nor `:w`. It is looked for before the key.
+    /// The last two bytes of a key with its access are neither `:r` nor `:w`.
     #[error("BadAccess")]
     BadAccess,
 }

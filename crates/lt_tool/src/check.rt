@@ -74,9 +74,9 @@ fn line_of(alloc: Global, report: Report) -> Result<Vec<u8>, AllocError>
 }
 
 /// Reads a text of histories, checks it, and writes one line: `ok`, the number of keys and `keys`, the number of steps
-/// and `steps`. The whole text is checked before the first write. It answers exactly by what is so: the numbers of a
-/// legal text, the first faulty line and the first fault in it of any other; it is kept from that by a read or a write
-/// that fails, and by want of memory, alone.
+/// and `steps`. The whole text is checked before the first write. A legal text is
+/// answered by its numbers, any other by its first faulty line and the first fault in it, or as too long. Only a read or
+/// a write that fails and want of memory keep it from that.
 pub fn check_text<R: Read, W: Write>(
     alloc: Global,
     reader: &mut R,

@@ -5,8 +5,8 @@
 //! for each line and then the histories of the keys. It promises that the answers are those of the script's lines,
 //! in the stated order; that the histories are legal; that each answer which reports a step has its own step in them,
 //! later lines later ones; that a script is refused just with its first fault; and that nothing but a front of the
-//! output is written where it fails. [`check_text`] answers for each text exactly by what is so: the numbers of keys and
-//! steps of a legal one, the first faulty line and the first fault in it of any other. [`read_words`] reads the words, and
+//! output is written where it fails. [`check_text`] answers a legal text by its numbers of keys and
+//! steps, and any other by its first faulty line and the first fault in it. [`read_words`] reads the words, and
 //! [`perform`] does what they ask for; [`status`] and [`complain`] are what the program `lockrun` ends with.
 //!
 //! `specs/Output.antt` says what a run writes, `specs/Deeds.antt` what each line did, and `specs/Answers.antt` how an

@@ -9,7 +9,8 @@ use std::alloc::Global;
 use std::io::{Read, Write};
 use thiserror::Error;
 
-/// How a script is run. On one thread only `threads` is looked at.
+/// How a script is run. Each script is run on one thread over a plain table today: `threads` has to be false, and nothing
+/// else is looked at.
 #[derive(Clone, Copy, Debug, PartialEq, Eq)]
 pub struct Options {
     pub shards: usize,
