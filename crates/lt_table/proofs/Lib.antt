@@ -1,0 +1,13 @@
+pub mod Sounds
+pub mod Going
+pub mod Parting
+pub mod Follows
+pub mod KeyLists
+pub mod OneList
+pub mod UnderWay
+pub mod InPlace
+pub mod WentOn
+pub mod Found
+pub mod Passing
+pub mod Ends
+pub mod Starts

@@ -1,0 +1,20 @@
+use Rattle.std.proofs.Common.{◌≡◌, ◌<◌, ◌++◌, ◌∷◌, [], ◌∙◌, List, length, sym, subst, ap, rules, arith}
+use Rattle.std.specs.List.{AllByRecursion}
+use Rattle.std.specs.Prelude.{slice_index_or}
+use mathlib.Core.List.{IsPrefix}
+use Rattle.lt_words.specs.Row.{Seer}
+use Rattle.lt_words.specs.History.{IsLegalHistory}
+use Rattle.lt_shard.specs.Shards.{new_shard}
+use Rattle.lt_table.proofs.Ends.{ends, all_and_last, of_last}
+use Rattle.lt_table.proofs.closing.end.Goals as goal
+
+pub returns : goal.returns
+returns g c =
+    let one : Seer = c.learn_all.new.last in
+    let two : Seer = c.end_shards-histories.new.last in
+    let three : Seer = c.drawn-draws.new.pass in
+    let joined : c.args.passes.items ≡ c.pop.new.self.items ++ c.in-Some.last ∷ [] = search rules in
+    let seen : AllByRecursion (λ p. IsPrefix p.seen one.seen) c.args.passes.items = rw joined (all_and_last c.pop.new.self.items c.in-Some.last one.seen (rw (← c.deref.ensures.value) c.learn_all.ensures.all) c.learn_all.ensures.more.seen) in
+    let of : three.of ≡ g.N.Name.of = c.drawn-draws.ensures.more.of ∙ (c.end_shards-histories.ensures.more.of ∙ (c.learn_all.ensures.more.of ∙ of_last (λ p. p.of ≡ g.N.Name.of) c.args.passes.items c.pop.new.self.items c.in-Some.last joined c.requires.passes)) in
+    let legal : IsLegalHistory g.N.Name.of.shards three.seen = subst (λ n. IsLegalHistory n three.seen) (ap (λ o. o.shards) of) c.legal.ensures in
+    ends g.N.Name.of c.args.passes.items c.args.shards.items c.end_shards-histories.result.items one two three c.drawn-draws.result seen c.end_shards-histories.ensures.met c.end_shards-histories.ensures.more.seen c.drawn-draws.ensures.more.seen legal c.drawn-draws.ensures.draws c.requires.many c.requires.counted (new_shard g.N.Name.of 0 0)

@@ -1,0 +1,8 @@
+use Rattle.std.proofs.Common.{◌≡◌, ◌+◌, rules, arith}
+use Rattle.std.specs.Prelude.{slice_index}
+use Rattle.lt_table.proofs.Ends.{less_one}
+use Rattle.lt_table.proofs.closing.without_passes.Goals as goal
+
+pub loop-pass-preserved : goal.loop-pass-preserved
+loop-pass-preserved c =
+    less_one (λ p. p) c.args.place c.args.passes.now c.loop-pass.pass-index c.pass-item.result c.loop-pass.left c.in_ok-left.left c.args.steps c.loop-pass.invariant c.loop-pass-test.true c.pass-item.is (search rules)

@@ -1,0 +1,19 @@
+use Rattle.std.proofs.Common.{length, ap, subst}
+use Rattle.lt_table.specs.Runs.{WalkState}
+use Rattle.lt_table.specs.Sound.{IsSound}
+use Rattle.lt_table.proofs.WentOn.{went_on, scan_stays, waits_inside}
+use Rattle.lt_table.proofs.table.Table.scan.Goals as goal
+
+abbrev IsSoundWalk : WalkState → Type 0
+IsSoundWalk w = IsSound (length w.asked.keys) w.progress (length w.answers)
+
+pub returns-clause-went_on : goal.returns-clause-went_on
+returns-clause-went_on g c = went_on c.args.self.now.max_waits c.args.guard.now c.visit_on-result.new.guard c.visit_on-result.result c.visit_on-result.ensures.scan c.visit_on-result.ensures.number c.visit_on-result.ensures.sound
+
+pub returns-clause-waiting : goal.returns-clause-waiting
+returns-clause-waiting g c = λ place.
+    let sound : IsSoundWalk c.visit_on-result.new.guard.walk = subst IsSoundWalk (ap (λ s. s.walk) c.guard.view_is) c.sound.ensures.sound in
+    waits_inside c.args.self.now.max_waits c.args.guard.now c.visit_on-result.new.guard c.visit_on-result.result place c.visit_on-result.ensures.scan sound
+
+pub returns-clause-stays : goal.returns-clause-stays
+returns-clause-stays g c = scan_stays c.args.self.now.max_waits c.args.guard.now c.visit_on-result.new.guard c.visit_on-result.result c.visit_on-result.ensures.scan

@@ -1,0 +1,81 @@
+-- What follows from what the calls of a table tell.
+use Rattle.std.specs.Prelude.{ℕ, ◌≡◌, ◌≢◌, ◌+◌, ◌<◌, ◌≤◌, ◌⊎◌, List, [], length, map, Ok, Some, IsOk, slice_get, slice_index, slice_index_or}
+use Rattle.std.specs.Global.{Vec}
+use mathlib.Core.List.{IsPrefix}
+use Rattle.std.specs.List.{AllByRecursion}
+use Rattle.lt_ids.specs.declared.request.Access.{Access}
+use Rattle.lt_ids.specs.declared.timestamp.Timestamp.{Timestamp}
+use Rattle.lt_plain.specs.declared.call.Reply.TheVariants.{Passed}
+use Rattle.lt_history.specs.declared.entry.Entry.{Entry}
+use Rattle.lt_words.specs.History.{part, IsLegalHistory}
+use Rattle.lt_words.specs.declared.event.Event.{Event}
+use Rattle.lt_words.specs.Row.{Opening, Seer}
+use Rattle.lt_shard.specs.declared.answer.Answer.{Answer}
+use Rattle.lt_table.specs.declared.progress.Mode.TheVariants.{Free}
+use Rattle.lt_table.specs.declared.progress.Progress.{Progress}
+use Rattle.lt_table.specs.declared.scan.Scan.TheVariants.{Proceed}
+use Rattle.lt_table.specs.declared.scan.Poll.TheVariants.{Through}
+use Rattle.lt_table.specs.Machine.{Asked, heard, polled, scan_start}
+use Rattle.lt_table.specs.Keys.{IsKeyList}
+use Rattle.lt_table.specs.Runs.{Step, answer_of}
+use Rattle.lt_table.specs.Reported.{shard_at, Reported, AreReported, steps_at, GuardState, IsScan}
+use Rattle.lt_table.specs.Entered.{IsEntered}
+use Rattle.lt_table.specs.Closed.{IsClosed}
+
+-- The accesses decide the key list.
+abbrev pub OneKeyList : Type 0
+OneKeyList = (given visited visited' : List (List ℕ × Access)) → IsKeyList given visited → IsKeyList given visited' → visited ≡ visited'
+
+-- The step stands at its place in the new part of what was seen, as this pass's own.
+pub record Stands (old new : Seer) (x : Step) : Type 0 where
+  pub entry : Entry
+  pub key_is : entry.key ≡ x.key
+  pub pass_is : entry.pass ≡ old.number
+  pub call_is : entry.call ≡ x.call
+  pub reply_is : entry.reply ≡ x.answer.reply
+  pub at : slice_get (part (shard_at old x) new.seen) x.answer.at ≡ Some entry
+  pub later : length (part (shard_at old x) old.seen) ≤ x.answer.at
+
+-- Of steps that were reported one after the other, each stands in the new part; what was seen before begins what is
+-- seen now; and the count of the pass at each shard is higher by the steps there.
+pub record AllStand (old : Seer) (steps : List Step) (new : Seer) : Type 0 where
+  pub seen : IsPrefix old.seen new.seen
+  pub stand : AllByRecursion (Stands old new) steps
+  pub counted : (s : ℕ) → slice_index new.counts s ≡ slice_index old.counts s + steps_at old.of.shards s steps
+
+abbrev pub ReportedStand : Type 0
+ReportedStand = (old new : Seer) (steps : List Step) → AreReported old steps new → AllStand old steps new
+
+-- one answer for each key, in the list's order, each Passed
+pub record PassedEach (asked : Asked) (steps : List Step) (answers : List Answer) : Type 0 where
+  pub keys : map (λ x. x.key) steps ≡ map (λ k. k.0) asked.keys
+  pub answered : answers ≡ map answer_of steps
+  pub passed : AllByRecursion (λ a. a.reply ≡ Passed) answers
+
+-- A scan from the list's start that answers Proceed has passed each key, where what is then seen is legal.
+abbrev pub ProceedHasPassedEach : Type 0
+ProceedHasPassedEach = (max_waits : ℕ) (old new : GuardState) (shards : ℕ) → IsLegalHistory shards new.pass.seen → old.walk.progress.place ≡ 0 → old.walk.progress.mode ≡ Free →
+    (scan : IsScan max_waits old new (Ok Proceed)) → PassedEach old.walk.asked scan.steps new.walk.answers
+
+-- After a poll that answered Through, a scan is not refused at once, whatever word it reads.
+abbrev pub ThroughGoesOn : Type 0
+ThroughGoesOn = (number : ℕ) (p : Progress) (word word' : ℕ) → polled (heard number p word) ≡ Through → IsOk (scan_start (heard number (heard number p word) word'))
+
+-- Of two steps that a pass reports of one shard, the later one has the greater place.
+abbrev pub PlacesRise : Type 0
+PlacesRise = (first second third last : Seer) (x y : Step) → Reported first second x → IsPrefix second.seen third.seen → Reported third last y →
+    shard_at first x ≡ shard_at third y → x.answer.at < y.answer.at
+
+-- Guards that entered by different passes, or the one after what the other's pass had then seen, have different numbers,
+-- where what both passes have seen begins one legal history.
+abbrev pub NumbersOfGuardsDiffer : Type 0
+NumbersOfGuardsDiffer = (shards : ℕ) (whole : List Event) (old old' : Seer) (given given' : List (List ℕ × Access)) (txn txn' : ℕ) (ts ts' : Timestamp) (max max' : ℕ) (guard guard' : GuardState) →
+    IsLegalHistory shards whole → IsPrefix guard.pass.seen whole → IsPrefix guard'.pass.seen whole →
+    IsEntered old given txn ts max guard → IsEntered old' given' txn' ts' max' guard' →
+    (old.number ≢ old'.number) ⊎ IsPrefix guard.pass.seen old'.seen → guard.walk.asked.number ≢ guard'.walk.asked.number
+
+-- A step that was reported to a pass which is handed back at the close stands at its place in the shard's final history.
+abbrev pub ReportedStandAtClose : Type 0
+ReportedStandAtClose = (of : Opening) (ps : List Seer) (shards : List (Vec Entry)) (draws k : ℕ) (p old new : Seer) (x : Step) (d : Vec Entry) →
+    IsClosed of ps shards draws → k < length ps → p ≡ slice_index_or ps k p → (step : Reported old new x) → IsPrefix new.seen p.seen → shard_at old x < of.shards →
+    slice_get (slice_index_or shards (shard_at old x) d).items x.answer.at ≡ Some step.entry

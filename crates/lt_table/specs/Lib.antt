@@ -1,0 +1,10 @@
+pub mod Keys
+pub mod Machine
+pub mod Runs
+pub mod Reported
+pub mod Leaving
+pub mod Entered
+pub mod Configs
+pub mod Closed
+pub mod Laws
+pub mod Sound

@@ -1,0 +1,108 @@
+-- The machine of a request's guard: where it stands in the key list, and what each event makes of it.
+use Rattle.std.specs.Prelude.{ℕ, ◌+◌, Bool, true, false, ◌&&◌, nat_eq, nat_lt, if◌then◌else◌, List, length, Option, None, slice_get, Result, Ok, Err}
+use Rattle.std.specs.Option.{option_map}
+use Rattle.lt_ids.specs.Ticket.{value_of}
+use Rattle.lt_ids.specs.declared.timestamp.Timestamp.{Timestamp}
+use Rattle.lt_ids.specs.declared.request.Access.{Access}
+use Rattle.lt_plain.specs.declared.call.Call.{Call}
+use Rattle.lt_plain.specs.declared.call.Call.TheVariants.{Visit, Leave}
+use Rattle.lt_plain.specs.declared.call.Reply.{Reply}
+use Rattle.lt_plain.specs.declared.call.Reply.TheVariants.{MustWait}
+use Rattle.lt_table.specs.declared.progress.Mode.{Mode}
+use Rattle.lt_table.specs.declared.progress.Mode.TheVariants.{Free, Awaiting, Let, Leaving}
+use Rattle.lt_table.specs.declared.progress.Progress.{Progress}
+use Rattle.lt_table.specs.declared.progress.Ended.{Ended}
+use Rattle.lt_table.specs.declared.scan.Scan.TheVariants.{Proceed, Rescan, Waiting}
+use Rattle.lt_table.specs.declared.scan.ScanError.{ScanError}
+use Rattle.lt_table.specs.declared.scan.ScanError.TheVariants as refused
+use Rattle.lt_table.specs.declared.scan.Poll.{Poll}
+use Rattle.lt_table.specs.declared.scan.Poll.TheVariants as polls
+
+-- what a request asked for, which stays: its keys in the order in which they are visited, and who asks
+pub record Asked : Type 0 where
+  pub keys : List (List ℕ × Access)
+  pub number : ℕ
+  pub txn : ℕ
+  pub ts : Timestamp
+
+-- Whoever waits is let through by the word that names its very wait.
+abbrev pub mode_heard : Mode → Bool → Mode
+mode_heard Awaiting true = Let
+mode_heard mode _ = mode
+
+-- after the status word was read
+abbrev pub heard : ℕ → Progress → ℕ → Progress
+heard number p word = record p { mode = mode_heard p.mode (nat_eq word (value_of (record { number = number; wait = p.waits }))) }
+
+abbrev pub polled_in : Mode → Poll
+polled_in Let = polls.Through
+polled_in Awaiting = polls.Waiting
+polled_in _ = polls.Idle
+
+-- what a poll answers
+abbrev pub polled : Progress → Poll
+polled p = polled_in p.mode
+
+abbrev pub scan_start_in : Mode → Progress → Result Progress ScanError
+scan_start_in Leaving p = Err refused.Leaving
+scan_start_in Awaiting p = Err refused.StillWaiting
+scan_start_in Let p = Ok (record p { place = p.place + 1; mode = Free })
+scan_start_in Free p = Ok p
+
+-- where a scan begins, or why it is refused
+abbrev pub scan_start : Progress → Result Progress ScanError
+scan_start p = scan_start_in p.mode p
+
+abbrev pub is_free : Mode → Bool
+is_free Free = true
+is_free _ = false
+
+abbrev pub is_awaiting : Mode → Bool
+is_awaiting Awaiting = true
+is_awaiting _ = false
+
+-- A visit comes next: a key is left, and a wait.
+abbrev pub may_visit : ℕ → ℕ → Progress → Bool
+may_visit keys max_waits p = is_free p.mode && nat_lt p.place keys && nat_lt p.waits max_waits
+
+-- the next key
+abbrev pub passed : Progress → Progress
+passed p = record p { place = p.place + 1 }
+
+-- After a visit: it has to wait, or passes on to the next key.
+abbrev pub met : Progress → Bool → Progress
+met p must_wait = if must_wait then record p { waits = p.waits + 1; waited = true; mode = Awaiting } else passed p
+
+-- How a scan ends where no visit comes next: the request waits, or its waits are used up, or the list is at its end
+abbrev pub scan_end : ℕ → Progress → Ended
+scan_end keys p =
+    if is_awaiting p.mode then record { after = p; result = Ok (Waiting p.place) }
+    else if nat_lt p.place keys then record { after = p; result = Err refused.WaitsOut }
+    else record { after = record p { place = 0; waited = false }; result = Ok (if p.waited then Rescan else Proceed) }
+
+abbrev pub leave_start_in : Mode → Progress → Progress
+leave_start_in Leaving p = p
+leave_start_in _ p = record p { place = 0; mode = Leaving }
+
+-- where a leave goes on
+abbrev pub leave_start : Progress → Progress
+leave_start p = leave_start_in p.mode p
+
+abbrev pub is_wait : Reply → Bool
+is_wait MustWait = true
+is_wait _ = false
+
+-- the visit of a key: it carries the number of the wait that it would begin
+abbrev pub visit_call : Asked → Progress → Access → Call
+visit_call asked p access = Visit (record { number = asked.number; wait = p.waits + 1 }) asked.txn asked.ts access
+
+-- the visit that comes next in a scan: at which key, and the call
+abbrev pub next_visit : Asked → ℕ → Progress → Option (List ℕ × Call)
+next_visit asked max_waits p =
+    if may_visit (length asked.keys) max_waits p
+    then option_map (λ k. (k.0, visit_call asked p k.1)) (slice_get asked.keys p.place)
+    else None
+
+-- the step that comes next in a leave
+abbrev pub next_leave : Asked → Progress → Option (List ℕ × Call)
+next_leave asked p = option_map (λ k. (k.0, Leave asked.number)) (slice_get asked.keys p.place)

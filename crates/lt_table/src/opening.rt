@@ -1,0 +1,89 @@
+//! A table is opened.
+ghost use Rattle.std.specs.Prelude.{◌≡◌, ◌≤◌, ◌^◌, IfOk, length};
+ghost use Rattle.std.specs.List.{All};
+ghost use Rattle.std.specs.FinMap as finmap;
+ghost use Rattle.lt_words.specs.Row.{fresh_passes};
+
+use crate::config::Ready;
+use crate::table::{Slot, Table};
+use lt_lock::LinkedTable;
+use lt_plain::KeyTable;
+use lt_shard::Shard;
+use lt_words::{Book, Name, Pass};
+use std::alloc::{AllocError, Global};
+
+/// The shards over these tables, each behind a lock of its own.
+fn shards_over<N: Name, T: KeyTable + Drop>(
+    alloc: Global,
+    book: &Book,
+    tables: Vec<T>,
+    max_steps: u64,
+) -> Result<Vec<Slot<N, T>>, AllocError>
+    requires book { book.now ≡ N.of }
+    requires many { length tables.items ≡ N.of.shards }
+    requires empty { All (λ t. T.records t ≡ finmap.empty) tables.items }
+    requires low { 1 ≤ max_steps }
+    requires high { max_steps ≤ 2 ^ 32 }
+    ensures { IfOk result (λ shards. length shards.items ≡ N.of.shards) }
+{
+    let mut shards = Vec::new(alloc);
+    for table in tables {
+        let index = shards.len();
+        shards.push(Slot::new(Shard::new(alloc, table, book, index, max_steps)))?;
+    }
+    Ok(shards)
+}
+
+/// Opens the table of a book over these tables, which are empty, one for each shard, in order. Its passes have seen
+/// nothing and made no step. `N` names the book that was prepared.
+pub fn open_with<N: Name, T: KeyTable + Drop>(
+    alloc: Global,
+    ready: Ready,
+    tables: Vec<T>,
+) -> Result<(Table<N, T>, Vec<Pass>), AllocError>
+    requires named { ready.of ≡ N.of }
+    requires many { length tables.items ≡ N.of.shards }
+    requires empty { All (λ t. T.records t ≡ finmap.empty) tables.items }
+    ensures config { IfOk result (λ r. r.0 ≡ ready.config) }
+    ensures passes { IfOk result (λ r. r.1.items ≡ fresh_passes N.of N.of.passes) }
+    ensures of { IfOk result (λ r. All (λ p. p.of ≡ N.of) r.1.items) }
+{
+    let Ready {
+        config,
+        book,
+        passes,
+    } = ready;
+    let shards = shards_over(alloc, &book, tables, config.max_steps)?;
+    let table = Table {
+        config,
+        book,
+        shards,
+    };
+    Ok((table, passes))
+}
+
+/// Opens the table of a book over linked tables.
+pub fn open<N: Name>(
+    alloc: Global,
+    ready: Ready,
+) -> Result<(Table<N, LinkedTable>, Vec<Pass>), AllocError>
+    requires { ready.of ≡ N.of }
+    ensures config { IfOk result (λ r. r.0 ≡ ready.config) }
+    ensures passes { IfOk result (λ r. r.1.items ≡ fresh_passes N.of N.of.passes) }
+    ensures of { IfOk result (λ r. All (λ p. p.of ≡ N.of) r.1.items) }
+{
+    let tables = linked_tables(alloc, ready.config.shards)?;
+    open_with(alloc, ready, tables)
+}
+
+/// So many empty tables.
+fn linked_tables(alloc: Global, count: usize) -> Result<Vec<LinkedTable>, AllocError>
+    ensures many { IfOk result (λ tables. length tables.items ≡ count) }
+    ensures empty { IfOk result (λ tables. All (λ t. t ≡ finmap.empty) tables.items) }
+{
+    let mut tables = Vec::new(alloc);
+    for _ in 0..count {
+        tables.push(LinkedTable::new(alloc))?;
+    }
+    Ok(tables)
+}

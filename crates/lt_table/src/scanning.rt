@@ -1,0 +1,64 @@
+//! Polls and scans.
+ghost use Rattle.std.specs.Prelude.{◌≡◌, ◌≢◌, ◌<◌, ℕ, length, Ok, Err};
+ghost use Rattle.lt_ids.specs.Ticket.{IsNumber};
+ghost use Rattle.lt_words.specs.History.{LetIn};
+ghost use Rattle.lt_table.specs.Reported.{IsScan, IsPoll, GuardStays, wait_of};
+ghost use Rattle.lt_table.specs.declared.scan.Scan.TheVariants.{Waiting};
+ghost use Rattle.lt_table.specs.Sound.{IsSound};
+
+use crate::guard::Guard;
+use crate::progress::Mode;
+use crate::scan::{Poll, Scan, ScanError};
+use crate::table::Table;
+use lt_plain::KeyTable;
+use lt_words::Name;
+use std::sync::Wait;
+
+impl<N: Name, T: KeyTable> Table<N, T> {
+    /// Whether the request was let through. It is one load of the pass's status word, compared with the whole ticket
+    /// of the wait: it takes no lock and no memory, and waits for nobody.
+    pub fn poll(&self, guard: &mut Guard) -> Poll
+        requires pass { guard.old.pass.of ≡ N.of }
+        ensures poll { IsPoll guard.old guard.new result }
+        ensures through { result ≡ Poll.Through → LetIn guard.new.pass.seen guard.new.pass.number (wait_of guard.new.walk) }
+        ensures stays { GuardStays guard.old guard.new }
+    {
+        guard.walk.sound();
+        let word = self.book.read(&mut guard.pass);
+        guard.walk.poll(word)
+    }
+
+    fn visit_on<R: Wait>(&self, rt: &R, guard: &mut Guard) -> Result<Scan, ScanError>
+        requires pass { guard.old.pass.of ≡ N.of }
+        ensures scan { IsScan self.now.max_waits guard.old guard.new result }
+        ensures number { IsNumber guard.old.walk.asked.number }
+        ensures sound { IsSound (length guard.old.walk.asked.keys) guard.old.walk.progress (length guard.old.walk.answers) }
+    {
+        let max_waits = self.config.max_waits;
+        guard.walk.sound();
+        let word = self.book.read(&mut guard.pass);
+        guard.walk.begin_scan(word)?;
+        while guard.walk.has_visit(max_waits) {
+            let visit = guard.walk.visit();
+            let answer = self.step(rt, &mut guard.pass, guard.walk.key(), &visit)?;
+            guard.walk.meet(answer);
+        }
+        guard.walk.end_scan()
+    }
+
+    /// Visits the request's keys, one after the other, each under the lock of its shard. A request that waits makes
+    /// one load before it takes a lock: where it was not let through it is refused; else it goes on at the next key.
+    pub fn scan<R: Wait>(&self, rt: &R, guard: &mut Guard) -> Result<Scan, ScanError>
+        requires pass { guard.old.pass.of ≡ N.of }
+        ensures scan { IsScan self.now.max_waits guard.old guard.new result }
+        // Who waited goes on only where it was let through.
+        ensures went_on { guard.old.walk.progress.mode ≡ Mode.Awaiting → result ≢ Err ScanError.StillWaiting → LetIn guard.new.pass.seen guard.new.pass.number (wait_of guard.old.walk) }
+        // It waits at a key of its list.
+        ensures waiting { (place : ℕ) → result ≡ Ok (Waiting place) → place < length guard.new.walk.asked.keys }
+        ensures stays { GuardStays guard.old guard.new }
+    {
+        let result = self.visit_on(rt, guard);
+        guard.walk.sound();
+        result
+    }
+}
