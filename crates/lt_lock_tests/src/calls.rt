@@ -1,5 +1,5 @@
 //! Calls as the tests make them, and what the requests then find.
-ghost use Rattle.std.specs.Prelude.{◌<◌};
+ghost use Rattle.std.specs.Prelude.{◌<◌, ◌≤◌};
 
 use lt_ids::{Access, IdError, Key, Through, Ticket, Timestamp, TxnId};
 use lt_plain::{Call, KeyTable, Reply, step};
@@ -9,8 +9,6 @@ use std::test::Fail;
 
 /// Requests have the numbers below this one, from 1 on.
 pub const NUMBERS: u64 = 41;
-
-pub const PASS: u32 = 3;
 
 /// What the request of each number finds; number 0 is nobody's.
 pub type Found = [Reply; 41];
@@ -54,26 +52,34 @@ pub fn looks<T: KeyTable>(table: &T, key: &Key) -> Found {
     found
 }
 
-/// Makes the call, where this is found before it. Where memory was refused, the same is found as before, and the
-/// call is made again.
+/// Makes the call for a pass, where this is found before it. Where memory was refused, the same is found as before, and
+/// the call is made again. No more than one call of a test may be refused: that is what one refused allocation makes,
+/// and with ample memory there is none.
 pub fn make<T: KeyTable>(
     rt: &impl Abort,
     table: &mut T,
     key: &Key,
     before: &Found,
+    pass: u32,
     call: &Call,
     lets: &mut Vec<Through>,
-) -> Result<Reply, Fail> {
+    refusals: &mut u64,
+) -> Result<Reply, Fail>
+    requires pass_low { 1 ≤ pass }
+    requires pass_high { pass ≤ 1024 }
+{
     lets.clear();
-    match step::make(table, key, PASS, call, lets) {
+    match step::make(table, key, pass, call, lets) {
         Ok(reply) => Ok(reply),
         Err(_) => {
+            *refusals = refusals.wrapping_add(1);
+            assert!(rt; *refusals <= 1, "a call was refused without cause");
             assert!(rt; lets.is_empty(), "a refused call let somebody through");
             assert!(rt;
                 looks(table, key) == *before,
                 "a refused call changed what is found"
             );
-            match step::make(table, key, PASS, call, lets)? {
+            match step::make(table, key, pass, call, lets)? {
                 // These change nothing, so they take no memory.
                 Reply::Other | Reply::Kept | Reply::Absent => {
                     Err(Fail::from("a call that changes nothing was refused"))

@@ -1,9 +1,11 @@
 ghost use Rattle.std.specs.Prelude.{◌<◌};
 
-use crate::calls::{Found, NUMBERS, PASS, at, key, looks, make, ticket, txn, visit};
-use lt_ids::{Access, Key, Through};
+use crate::calls::{Found, NUMBERS, at, key, looks, make, ticket, txn, visit};
+use crate::sight::Sight;
+use lt_ids::{Access, Key, Through, Timestamp};
 use lt_lock::LinkedTable;
 use lt_plain::{Call, KeyTable, PlainTable, Reply};
+use lt_rules_tests::cases::Counts;
 use std::alloc::Global;
 use std::process::Abort;
 use std::test::Fail;
@@ -66,15 +68,19 @@ fn expect_the_example<T: KeyTable>(
         (Call::Finish { txn: nine }, Reply::Freed, None),
         (Call::Look { number: 3 }, Reply::Nothing, None),
     ];
+    let mut refusals = 0;
     for (call, reply, through) in &steps {
         // Each call has lets of its own, so that the memory of each is refused in turn.
         let mut lets = Vec::new(alloc);
         let before = looks(table, &a);
-        assert_eq!(rt; make(rt, table, &a, &before, call, &mut lets)?, *reply);
+        assert_eq!(rt;
+            make(rt, table, &a, &before, 3, call, &mut lets, &mut refusals)?,
+            *reply
+        );
         let want = match through {
             None => None,
             Some((number, wait)) => Some(Through {
-                pass: PASS,
+                pass: 3,
                 ticket: ticket(*number, *wait)?,
             }),
         };
@@ -115,14 +121,21 @@ impl Random {
 
 const TXNS: u64 = 8;
 
-// Few, so that equal timestamps come about.
-const WALLS: u64 = 6;
+// Few, so that times are often equal in the wall part, and in both.
+const WALLS: u64 = 3;
+
+const LOGICALS: u64 = 3;
+
+const PASSES: u64 = 5;
 
 /// A call at random: mostly visits while the queues are to grow, else mostly calls that let through.
 fn random_call(random: &mut Random, grows: bool) -> Result<Call, Fail> {
     let number = 1 + random.below(NUMBERS - 1);
     let txn = txn(1 + random.below(TXNS))?;
-    let ts = at(random.below(WALLS));
+    let ts = Timestamp {
+        wall: random.below(WALLS),
+        logical: random.below(LOGICALS) as u32,
+    };
     let visits = if grows { 27 } else { 1 };
     if random.below(32) < visits {
         return Ok(Call::Visit {
@@ -155,7 +168,7 @@ fn stands(found: &Found) -> u64 {
     count
 }
 
-const CALLS: u64 = 30_000;
+const CALLS: u64 = 20_000;
 
 // The queues grow for so many calls, and drain for as many.
 const SPELL: u64 = 1_000;
@@ -172,27 +185,53 @@ fn compare(rt: &impl Abort, alloc: Global, seed: u64) -> Result<(), Fail> {
         looks(&plain, &keys[1]),
         looks(&plain, &keys[2]),
     ];
+    let mut sights = [Sight::new(), Sight::new(), Sight::new()];
+    let mut counts = Counts::new();
+    let mut refusals = 0;
     let mut longest: u64 = 0;
     let mut emptied: u64 = 0;
     for turn in 0..CALLS {
         let place = random.below(3) as usize;
         let at = &keys[place];
+        let pass = 1 + random.below(PASSES) as u32;
         let call = random_call(&mut random, turn / SPELL % 2 == 0)?;
         let mut lets = Vec::new(alloc);
         let mut others = Vec::new(alloc);
-        let reply = make(rt, &mut plain, at, &found[place], &call, &mut lets)?;
-        let other = make(rt, &mut linked, at, &found[place], &call, &mut others)?;
+        let reply = make(
+            rt,
+            &mut plain,
+            at,
+            &found[place],
+            pass,
+            &call,
+            &mut lets,
+            &mut refusals,
+        )?;
+        let other = make(
+            rt,
+            &mut linked,
+            at,
+            &found[place],
+            pass,
+            &call,
+            &mut others,
+            &mut refusals,
+        )?;
         assert!(rt;
             reply == other,
             "the replies differ, seed {seed}, call {turn}"
         );
         assert!(rt; lets == others, "the lets differ, seed {seed}, call {turn}");
+        sights[place].note(&found[place], &call, reply, &lets, &mut counts);
         found[place] = looks(&plain, at);
         assert!(rt;
             found[place] == looks(&linked, at),
             "the looks differ, seed {seed}, call {turn}"
         );
         if turn % 64 == 0 {
+            for sight in &found[place] {
+                counts.add_look(*sight);
+            }
             for (every, same) in keys.iter().zip(&found) {
                 assert!(rt;
                     looks(&plain, every) == *same && looks(&linked, every) == *same,
@@ -211,6 +250,7 @@ fn compare(rt: &impl Abort, alloc: Global, seed: u64) -> Result<(), Fail> {
         "the longest queues had {longest}, seed {seed}"
     );
     assert!(rt; emptied >= 100, "empty after {emptied} calls, seed {seed}");
+    assert_eq!(rt; counts.missing(), None);
     Ok(())
 }
 

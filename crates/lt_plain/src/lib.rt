@@ -4,7 +4,7 @@
 //! definitions in `specs/` say what each call makes of a record, what it answers and whom it lets through: `Visit`
 //! has the cases of a visit, `Rules` the other calls, `Step` a call as a value and the legal histories of a key,
 //! `Lawful` which records come about, `Holding` who holds a lock by the events alone. They are what a reader has to
-//! believe; `docs/RULES.md` tells them in words and pictures.
+//! believe, but for `Codes`, which proofs alone need; `docs/RULES.md` tells them in words and pictures.
 //!
 //! [`KeyTable`] is the contract of a table: each call is the step of the rules on its key alone. [`PlainTable`] keeps
 //! it with sorted vectors in an ordered map; it is the plain form to read, to test against, and to check histories
