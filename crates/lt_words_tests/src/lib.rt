@@ -3,6 +3,7 @@
 
 pub mod named;
 pub mod race;
+pub mod sharding;
 pub mod shown;
 #[cfg(test)]
 mod tests;

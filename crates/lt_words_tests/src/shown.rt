@@ -2,7 +2,7 @@ ghost use Rattle.std.specs.Prelude.{◌≡◌, ◌<◌, ◌≤◌, ◌^◌, IfOk
 ghost use Rattle.lt_words.specs.History.{part, MayFollow};
 ghost use Rattle.lt_words.specs.declared.event.Event.{Event};
 ghost use Rattle.lt_words.specs.declared.event.Event.TheVariants.{Step};
-ghost use Rattle.lt_words_tests.specs.Shown.{taking, waiting, freeing, first_wait};
+ghost use Rattle.lt_words_tests.specs.Shown.{taking, waiting, freeing};
 
 use lt_history::{Entry, Lets};
 use lt_ids::{Access, Key, Through, Ticket, Timestamp, TxnId};
@@ -34,12 +34,12 @@ fn taking(alloc: Global, pass: u32) -> Option<Entry>
     })
 }
 
-fn waiting(alloc: Global, pass: u32) -> Option<Entry>
-    ensures { IfSome result (λ e. e ≡ waiting pass) }
+fn waiting(alloc: Global, pass: u32, number: u64) -> Option<Entry>
+    ensures { IfSome result (λ e. e ≡ waiting pass number) }
 {
     let key = Key::from_bytes(alloc, b"a").ok()?;
     let txn = TxnId::new(1)?;
-    let ticket = Ticket::new(1, 1)?;
+    let ticket = Ticket::new(number, 1)?;
     Some(Entry {
         key,
         pass,
@@ -47,7 +47,7 @@ fn waiting(alloc: Global, pass: u32) -> Option<Entry>
             ticket,
             txn,
             ts: time(),
-            access: Access::Write,
+            access: Access::Read,
         },
         reply: Reply::MustWait,
         lets: Lets::new(Vec::new(alloc)),
@@ -59,11 +59,17 @@ fn freeing(alloc: Global, pass: u32, waits: u32) -> Option<Entry>
 {
     let key = Key::from_bytes(alloc, b"a").ok()?;
     let txn = TxnId::new(9)?;
-    let ticket = Ticket::new(1, 1)?;
     let mut lets = Vec::new(alloc);
+    let second = Ticket::new(2, 1)?;
     lets.push(Through {
         pass: waits,
-        ticket,
+        ticket: second,
+    })
+    .ok()?;
+    let first = Ticket::new(1, 1)?;
+    lets.push(Through {
+        pass: waits,
+        ticket: first,
     })
     .ok()?;
     Some(Entry {
@@ -94,14 +100,15 @@ fn step<R: Wait>(rt: &R, book: &Book, pass: &mut Pass, front: &mut Front, count:
     book.commit(rt, pass, front, 33, count, entry);
 }
 
-/// Takes the lock and frees it while another pass waits, and shows that pass its let.
-pub fn show_a_let<R: Wait>(
+/// Takes the lock and frees it while another pass waits with two requests, and shows that pass its lets, one after the
+/// other: what it reads after each.
+pub fn show_two_lets<R: Wait>(
     rt: &R,
     alloc: Global,
     book: &Book,
     waiter: &mut Pass,
     holder: &mut Pass,
-) -> Option<()>
+) -> Option<(u64, u64)>
     requires waiter_of { book.now ≡ waiter.old.of }
     requires holder_of { book.now ≡ holder.old.of }
     requires shards { book.now.shards ≡ 64 }
@@ -109,13 +116,20 @@ pub fn show_a_let<R: Wait>(
     ensures holder_of { holder.new.of ≡ holder.old.of }
 {
     let mut front = book.front();
+    let waits = waiter.number();
     let taken = taking(alloc, holder.number())?;
-    let waits = waiting(alloc, waiter.number())?;
-    let freed = freeing(alloc, holder.number(), waiter.number())?;
-    let ticket = Ticket::new(1, 1)?;
+    let first = waiting(alloc, waits, 1)?;
+    let second = waiting(alloc, waits, 2)?;
+    let freed = freeing(alloc, holder.number(), waits)?;
+    let one = Ticket::new(1, 1)?;
+    let two = Ticket::new(2, 1)?;
     step(rt, book, holder, &mut front, 0, &taken);
-    step(rt, book, waiter, &mut front, 1, &waits);
-    step(rt, book, holder, &mut front, 2, &freed);
-    book.signal(rt, holder, waiter.number(), ticket);
-    Some(())
+    step(rt, book, waiter, &mut front, 1, &first);
+    step(rt, book, waiter, &mut front, 2, &second);
+    step(rt, book, holder, &mut front, 3, &freed);
+    book.signal(rt, holder, waits, two);
+    let old = book.read(waiter);
+    book.signal(rt, holder, waits, one);
+    let new = book.read(waiter);
+    Some((old, new))
 }

@@ -1,7 +1,7 @@
 use crate::named::open_by_name;
 use crate::race::{four_workers, one_step_each, two_workers};
-use crate::shown::show_a_let;
-use lt_ids::Ticket;
+use crate::sharding::shards_of;
+use crate::shown::show_two_lets;
 use lt_words::Book;
 use std::test::Fail;
 
@@ -51,14 +51,14 @@ fn two_threads_draw_each_number_once(rt: HostRuntime) -> Result<(), Fail> {
 }
 
 #[test]
-fn a_poll_sees_a_let(rt: HostRuntime) -> Result<(), Fail> {
+fn a_poll_sees_the_latest_let(rt: HostRuntime) -> Result<(), Fail> {
     let (book, mut passes) = Book::open(rt.alloc(), 64, 2)?;
     let mut holder = passes.pop().ok_or("pass 2")?;
     let mut waiter = passes.pop().ok_or("pass 1")?;
     assert_eq!(rt; book.read(&mut waiter), 0);
-    show_a_let(&rt, rt.alloc(), &book, &mut waiter, &mut holder).ok_or("the steps")?;
-    let ticket = Ticket::new(1, 1).ok_or("the ticket")?;
-    assert_eq!(rt; book.read(&mut waiter), ticket.value());
+    let shown = show_two_lets(&rt, rt.alloc(), &book, &mut waiter, &mut holder).ok_or("the steps")?;
+    // The tickets 2.1 and 1.1: a number times 2^24, and the wait.
+    assert_eq!(rt; shown, (33_554_433, 16_777_217));
     assert_eq!(rt; book.read(&mut holder), 0);
     Ok(())
 }
@@ -85,5 +85,24 @@ fn a_book_is_used_by_its_name(rt: HostRuntime) -> Result<(), Fail> {
     };
     let (_book, front) = named;
     front.legal();
+    Ok(())
+}
+
+#[test]
+fn no_number_past_the_limit_is_drawn(rt: HostRuntime) -> Result<(), Fail> {
+    let (book, mut passes) = Book::open(rt.alloc(), 1, 1)?;
+    let mut pass = passes.pop().ok_or("pass 1")?;
+    assert_eq!(rt; book.draw(&rt, &mut pass, 1), Some(1));
+    assert_eq!(rt; book.draw(&rt, &mut pass, 1), None);
+    assert_eq!(rt; book.draw(&rt, &mut pass, 1), None);
+    Ok(())
+}
+
+#[test]
+fn a_shard_is_the_sum_of_the_bytes_among_so_many(rt: HostRuntime) -> Result<(), Fail> {
+    // The sum is 97 + 98 = 195, which is 17 * 11 + 8 and 3 * 64 + 3.
+    assert_eq!(rt; shards_of(rt.alloc(), b"ab"), Some((0, 1, 8, 3)));
+    // The sum is 64 * 126 = 8064, which is 733 * 11 + 1.
+    assert_eq!(rt; shards_of(rt.alloc(), &[b'~'; 64]), Some((0, 0, 1, 0)));
     Ok(())
 }

@@ -1,0 +1,14 @@
+use lt_ids::Key;
+use lt_words::shard_of;
+use std::alloc::Global;
+
+/// The shards of a key among 1, 2, 11 and 64.
+pub fn shards_of(alloc: Global, bytes: &[u8]) -> Option<(usize, usize, usize, usize)> {
+    let key = Key::from_bytes(alloc, bytes).ok()?;
+    Some((
+        shard_of(&key, 1),
+        shard_of(&key, 2),
+        shard_of(&key, 11),
+        shard_of(&key, 64),
+    ))
+}
