@@ -32,7 +32,7 @@ pub record IsFaulty (source : Option (List ℕ)) (line : ℕ) (fault : Fault) : 
   pub short : IsShort text
   pub fails : Fails text line fault
 
--- why a text is not told to be legal
+-- why a text was not answered with its numbers
 abbrev pub IsUnchecked : CheckTextError → Option (List ℕ) → Type 0
 IsUnchecked errors.TooLong source = IfSome source (λ text. 2 ^ 24 < length text)
 IsUnchecked (errors.Check (faults.Refused line fault)) source = IsFaulty source line fault

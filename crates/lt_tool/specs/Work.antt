@@ -28,7 +28,7 @@ IsFailedRun (failures.Run runs.Write) source old new = RanInPart source old new
 IsFailedRun (failures.Run e) source old new = IsRefused e source
 IsFailedRun _ source old new = ⊥
 
--- why a text is not told to be legal, and what is written then
+-- why a text was not answered with its numbers, and what is written then
 abbrev pub IsFailedCheck : Failure → Option (List ℕ) → Option (List ℕ) → Option (List ℕ) → Type 0
 IsFailedCheck (failures.Check checks.Write) source old new = ToldInPart source old new
 IsFailedCheck (failures.Check e) source old new = IsUnchecked e source

@@ -14,7 +14,7 @@ use std::alloc::{AllocError, Global};
 use std::io::{Read, Write};
 use thiserror::Error;
 
-/// Why a text of histories is not told to be legal.
+/// Why a text of histories was not answered with its numbers.
 #[derive(Clone, Copy, Debug, PartialEq, Eq, Drop, Error)]
 pub enum CheckTextError {
     /// A read failed. Nothing is written.
@@ -93,7 +93,7 @@ pub fn check_text<R: Read, W: Write>(
     // After a write that failed the text is legal, and the writer holds a front of its line.
     ensures write { IfErr result (λ e. e ≡ CheckTextError.Write → ToldInPart (R.remaining reader.old) (W.contents writer.old) (W.contents writer.new)) }
 
-    // No text is told to be what it is not.
+    // A legal text has its numbers told, and any other is refused, but for a read, a write or memory that fails.
     ensures legal { IfSome (R.remaining reader.old) (λ text. (report : Report) → IsShort text → IsLegalText text report → IsUnwrittenOr result (Ok report)) }
     ensures faulty { IfSome (R.remaining reader.old) (λ text. (line : ℕ) (fault : Fault) → IsShort text → Fails text line fault → IsStoppedOr result (Err (CheckTextError.Check (faults.Refused line fault)))) }
     ensures too_long { IfSome (R.remaining reader.old) (λ text. 2 ^ 24 < length text → IsStoppedOr result (Err CheckTextError.TooLong)) }

@@ -1,8 +1,10 @@
-use crate::streams::{LineEnds, Paper, blank};
+use crate::streams::{LineEnds, Paper, Torn, blank};
+use lt_script::Fault;
 use lt_tool::{Finish, Options, RunError, run_script};
+use std::io::Read;
 use std::test::*;
 
-/// What each run shows, its script, and what it writes.
+/// What each run shows, its script, and what it writes. Five runs are the scripts of `examples/`, whose files say the same.
 const RUNS: [(&str, &str, &str); 20] = [
     ("an empty script", "", "locks 1\n"),
     (
@@ -11,12 +13,12 @@ const RUNS: [(&str, &str, &str); 20] = [
         "1 1 taken\n2 2 request 1\n2 3 waiting a\n2 4 first 7 held\nlocks 1\na 1 1 acquire 7 20.0 = taken\na 2 2 visit 1.1 8 20.0 r = wait\na 3 2 look 1 = first 7 held\n",
     ),
     (
-        "a reader below the time of the holder passes",
+        "examples/a-reader-below-the-lock-passes",
         "1 acquire 7 20.0 a\n2 open 8 19.4294967295 a:r\n2 scan\n3 open 9 20.1 a:r\n3 scan\n1 finish 7 a\n",
         "1 1 taken\n1 6 freed\n2 2 request 1\n2 3 proceed\n3 4 request 2\n3 5 waiting a\nlocks 1\na 1 1 acquire 7 20.0 = taken\na 2 2 visit 1.1 8 19.4294967295 r = pass\na 3 3 visit 2.1 9 20.1 r = wait\na 4 1 finish 7 = freed let 2.1\n",
     ),
     (
-        "a freed lock goes to the writer of the least number",
+        "examples/writers-go-by-number",
         "3 acquire 9 10.0 a\n1 open 1 10.0 a:w\n2 open 2 10.0 a:w\n2 scan\n1 scan\n3 finish 9 a\n1 await\n2 look a\n",
         "1 2 request 1\n1 5 waiting a\n1 7 let\n2 3 request 2\n2 4 waiting a\n2 8 first 1 reserved\n3 1 taken\n3 6 freed\nlocks 1\na 1 3 acquire 9 10.0 = taken\na 2 2 visit 2.1 2 10.0 w = wait\na 3 1 visit 1.1 1 10.0 w = wait\na 4 3 finish 9 = freed let 1.1\na 5 2 look 2 = first 1 reserved\n",
     ),
@@ -26,7 +28,7 @@ const RUNS: [(&str, &str, &str); 20] = [
         "1 2 request 1\n1 6 proceed\n1 8 reserved\n2 3 request 2\n2 4 waiting a\n2 7 idle\n3 1 taken\n3 5 freed\nlocks 1\na 1 3 acquire 9 10.0 = taken\na 2 2 visit 2.1 2 10.0 w = wait\na 3 3 finish 9 = freed let 2.1\na 4 1 visit 1.1 1 10.0 w = pass\na 5 2 look 2 = idle\na 6 1 look 1 = reserved\n",
     ),
     (
-        "a writer that does not wait any more gets the reservation unlet",
+        "examples/a-reservation-is-passed-over",
         "3 acquire 9 10.0 a\n1 open 1 10.0 a:w\n2 open 2 10.0 a:w\n2 scan\n3 finish 9 a\n1 scan\n2 look a\n1 look a\n1 acquire 1 11.0 a\n1 finish 1 a\n2 look a\n2 await\n2 scan\n2 scan\n",
         "1 2 request 1\n1 6 proceed\n1 8 reserved\n1 9 taken\n1 10 freed\n2 3 request 2\n2 4 waiting a\n2 7 idle\n2 11 reserved\n2 12 let\n2 13 rescan\n2 14 proceed\n3 1 taken\n3 5 freed\nlocks 1\na 1 3 acquire 9 10.0 = taken\na 2 2 visit 2.1 2 10.0 w = wait\na 3 3 finish 9 = freed let 2.1\na 4 1 visit 1.1 1 10.0 w = pass\na 5 2 look 2 = idle\na 6 1 look 1 = reserved\na 7 1 acquire 1 11.0 = taken\na 8 1 finish 1 = freed\na 9 2 look 2 = reserved\na 10 2 visit 2.2 2 10.0 w = pass\n",
     ),
@@ -36,7 +38,7 @@ const RUNS: [(&str, &str, &str); 20] = [
         "1 2 request 1\n1 4 waiting a\n1 8 idle\n2 3 request 2\n2 5 waiting a\n2 9 first 5 held\n3 1 taken\n3 6 freed\n3 7 taken\nlocks 1\na 1 3 acquire 9 10.0 = taken\na 2 1 visit 1.1 1 10.0 w = wait\na 3 2 visit 2.1 2 10.0 w = wait\na 4 3 finish 9 = freed let 1.1\na 5 3 acquire 5 12.0 = taken\na 6 1 look 1 = idle\na 7 2 look 2 = first 5 held\n",
     ),
     (
-        "an acquire lets the writers of its own transaction through",
+        "examples/nobody-waits-for-himself",
         "3 acquire 9 10.0 a\n1 open 4 10.0 a:w\n2 open 4 10.0 a:w\n1 scan\n2 scan\n3 finish 9 a\n2 look a\n1 acquire 4 10.0 a\n2 await\n",
         "1 2 request 1\n1 4 waiting a\n1 8 taken\n2 3 request 2\n2 5 waiting a\n2 7 own 4\n2 9 let\n3 1 taken\n3 6 freed\nlocks 1\na 1 3 acquire 9 10.0 = taken\na 2 1 visit 1.1 4 10.0 w = wait\na 3 2 visit 2.1 4 10.0 w = wait\na 4 3 finish 9 = freed let 1.1\na 5 2 look 2 = own 4\na 6 1 acquire 4 10.0 = taken let 2.1\n",
     ),
@@ -71,7 +73,7 @@ const RUNS: [(&str, &str, &str); 20] = [
         "1 2 request 1\n1 3 waiting a\n2 4 request 2\n2 5 waiting a\n3 6 request 3\n3 7 waiting a\n3 9 reserved\n4 1 taken\n4 8 freed\nlocks 1\na 1 4 acquire 9 10.0 = taken\na 2 1 visit 1.1 1 12.0 r = wait\na 3 2 visit 2.1 2 15.0 r = wait\na 4 3 visit 3.1 3 1.0 w = wait\na 5 4 finish 9 = freed let 2.1 1.1 3.1\na 6 3 look 3 = reserved\n",
     ),
     (
-        "the distinguished waiter leaves",
+        "examples/the-distinguished-waiter-leaves",
         "4 acquire 9 10.0 a\n1 open 1 12.0 a:r\n1 scan\n2 open 2 15.0 a:r\n2 scan\n3 open 3 1.0 a:w\n3 scan\n3 look a\n1 leave\n3 look a\n2 look a\n",
         "1 2 request 1\n1 3 waiting a\n1 9 done\n2 4 request 2\n2 5 waiting a\n2 11 first 9 held\n3 6 request 3\n3 7 waiting a\n3 8 for 9 held\n3 10 for 9 held\n4 1 taken\nlocks 1\na 1 4 acquire 9 10.0 = taken\na 2 1 visit 1.1 1 12.0 r = wait\na 3 2 visit 2.1 2 15.0 r = wait\na 4 3 visit 3.1 3 1.0 w = wait\na 5 3 look 3 = for 9 held\na 6 1 leave 1 = left\na 7 3 look 3 = for 9 held\na 8 2 look 2 = first 9 held\n",
     ),
@@ -102,15 +104,12 @@ const RUNS: [(&str, &str, &str); 20] = [
     ),
 ];
 
+type Ending = Result<Finish, RunError>;
+
 /// One run, and a second one where the first was refused memory: then nothing was written.
-fn run(rt: &HostRuntime, script: &str, writer: &mut Paper) -> Result<Finish, RunError> {
-    for _ in 0..2 {
-        let ended = run_script(
-            rt.alloc(),
-            &mut script.as_bytes(),
-            writer,
-            &Options::default(),
-        );
+fn run_of<R: Read + Drop>(rt: &HostRuntime, mut readers: [R; 2], writer: &mut Paper) -> Ending {
+    for reader in &mut readers {
+        let ended = run_script(rt.alloc(), reader, writer, &Options::default());
         if ended != Err(RunError::Memory) || !writer.written().is_empty() {
             return ended;
         }
@@ -124,41 +123,125 @@ fn scripts_are_answered_and_their_steps_told(rt: HostRuntime) {
     for (what, script, output) in RUNS {
         for at_once in [3, 1024] {
             let mut writer = blank(at_once, 1024);
-            assert_eq!(rt; run(&rt, script, &mut writer), Ok(Finish::Done), "{what}");
+            let readers = [script.as_bytes(), script.as_bytes()];
+            assert_eq!(rt;
+                run_of(&rt, readers, &mut writer),
+                Ok(Finish::Done),
+                "{what}"
+            );
             assert_eq!(rt; writer.written(), output.as_bytes(), "{what}");
         }
     }
 }
 
-/// A write that fails leaves a front of the output.
-#[test]
-fn a_write_that_fails(rt: HostRuntime) {
-    let mut writer = blank(1024, 5);
-    assert_eq!(rt; run(&rt, "", &mut writer), Err(RunError::Write));
-    assert_eq!(rt; writer.written(), b"locks".as_slice());
+/// A lock that is taken, and a request for it.
+const TWO_LINES: &str = "1 acquire 7 20.0 a\n2 open 8 20.0 a:r\n";
+
+const ANSWERED: &str = "1 1 taken\n2 2 request 1\nlocks 1\na 1 1 acquire 7 20.0 = taken\n";
+
+fn torn(fails_at: usize) -> Torn<'static> {
+    Torn {
+        rest: TWO_LINES.as_bytes(),
+        reads: 0,
+        fails_at,
+    }
 }
 
-/// A reader that fails, one whose text is too long by a byte, and one that never ends.
+fn line_ends(left: usize) -> LineEnds {
+    LineEnds {
+        left,
+        reads: 0,
+        fails_at: usize::MAX,
+    }
+}
+
+/// A script of 37 bytes is read by four reads of up to ten bytes, and a fifth that finds its end.
 #[test]
-fn readers_that_fail_or_never_end(rt: HostRuntime) {
-    for (left, fails_at, error) in [
-        (16_777_216, 1, RunError::Read),
-        (16_777_217, usize::MAX, RunError::TooLong),
-        (usize::MAX, usize::MAX, RunError::TooLong),
+fn reads_that_fail(rt: HostRuntime) {
+    assert_eq!(rt; TWO_LINES.len(), 37);
+    for fails_at in 0..6 {
+        let mut writer = blank(1024, 1024);
+        let ended = run_of(&rt, [torn(fails_at), torn(fails_at)], &mut writer);
+        let (ending, written) = if fails_at < 5 {
+            (Err(RunError::Read), "")
+        } else {
+            (Ok(Finish::Done), ANSWERED)
+        };
+        assert_eq!(rt; ended, ending);
+        assert_eq!(rt; writer.written(), written.as_bytes());
+    }
+}
+
+/// A writer that fails after so many bytes holds the front of the output that long.
+#[test]
+fn writes_that_fail(rt: HostRuntime) {
+    assert_eq!(rt; ANSWERED.len(), 61);
+    for stops_at in 0..62 {
+        let mut writer = blank(1, stops_at);
+        let ended = run_of(&rt, [torn(99), torn(99)], &mut writer);
+        assert_eq!(rt;
+            ended,
+            if stops_at == 61 {
+                Ok(Finish::Done)
+            } else {
+                Err(RunError::Write)
+            }
+        );
+        assert_eq!(rt; Some(writer.written()), ANSWERED.as_bytes().get(..stops_at));
+    }
+}
+
+/// The longest script, whose lines are all empty, and ones that are too long.
+#[test]
+fn long_scripts(rt: HostRuntime) {
+    for (left, ending, written) in [
+        (16_777_216, Ok(Finish::Done), "locks 1\n"),
+        (16_777_217, Err(RunError::TooLong), ""),
+        (usize::MAX, Err(RunError::TooLong), ""),
     ] {
         let mut writer = blank(1024, 1024);
-        let mut ended = Err(RunError::Memory);
-        for _ in 0..2 {
-            if ended == Err(RunError::Memory) {
-                let mut reader = LineEnds {
-                    left,
-                    reads: 0,
-                    fails_at,
-                };
-                ended = run_script(rt.alloc(), &mut reader, &mut writer, &Options::default());
-            }
+        let ended = run_of(&rt, [line_ends(left), line_ends(left)], &mut writer);
+        assert_eq!(rt; ended, ending);
+        assert_eq!(rt; writer.written(), written.as_bytes());
+    }
+}
+
+/// From which length and before which one the fronts of the two lines have this fault, or this output. The last line may
+/// lack its end.
+const FRONTS: [(usize, usize, Option<(usize, Fault)>, &str); 8] = [
+    (0, 1, None, "locks 1\n"),
+    (1, 9, Some((1, Fault::BadCall)), ""),
+    (9, 18, Some((1, Fault::BadWords)), ""),
+    (
+        18,
+        20,
+        None,
+        "1 1 taken\nlocks 1\na 1 1 acquire 7 20.0 = taken\n",
+    ),
+    (20, 25, Some((2, Fault::BadCall)), ""),
+    (25, 34, Some((2, Fault::BadWords)), ""),
+    (34, 36, Some((2, Fault::BadAccess)), ""),
+    (36, 38, None, ANSWERED),
+];
+
+fn ending_of(fault: Option<(usize, Fault)>) -> Ending {
+    match fault {
+        None => Ok(Finish::Done),
+        Some((line, fault)) => Err(RunError::Script { line, fault }),
+    }
+}
+
+/// A script that is cut inside a line has the fault of the words that are left, or none.
+#[test]
+fn cut_scripts(rt: HostRuntime) {
+    for (first, end, fault, written) in FRONTS {
+        for len in first..end {
+            let mut writer = blank(1024, 1024);
+            let front = TWO_LINES.get(..len).unwrap_or("?");
+            let readers = [front.as_bytes(), front.as_bytes()];
+            let ended = run_of(&rt, readers, &mut writer);
+            assert_eq!(rt; ended, ending_of(fault));
+            assert_eq!(rt; writer.written(), written.as_bytes());
         }
-        assert_eq!(rt; ended, Err(error));
-        assert_eq!(rt; writer.written(), b"".as_slice());
     }
 }
