@@ -1,5 +1,5 @@
 -- A table on its way to be closed.
-use Rattle.std.proofs.Common.{◌≡◌, ℕ, zero, suc, ◌+◌, ◌<◌, ◌≤◌, List, [], ◌∷◌, ◌++◌, length, map, take, get_or, refl, ap, sym, subst, ◌∙◌, arith, add-one, append-nil, length-append}
+use Rattle.std.proofs.Common.{◌≡◌, ℕ, zero, suc, ◌+◌, ◌<◌, List, [], ◌∷◌, ◌++◌, length, map, take, get_or, ap, sym, subst, ◌∙◌, arith, add-one, append-nil, length-append}
 use Rattle.std.proofs.Math.Seq.{get_or-append_seam}
 use Rattle.std.proofs.Math.ListN.{get_or-append}
 use Rattle.std.specs.Prelude.{slice_index}
@@ -16,7 +16,7 @@ use Rattle.lt_words.specs.Row.{Opening, Seer, SeesMore}
 use Rattle.lt_words.proofs.Prefixes.{prefix_trans}
 use Rattle.lt_words.proofs.Histories.{part_prefix}
 use Rattle.lt_shard.specs.Shards.{View, IsShard}
-use Rattle.lt_table.specs.Closed.{counts_at, IsCounted, IsMet, AreMet, IsFinal, IsClosed}
+use Rattle.lt_table.specs.Closed.{counts_at, IsCounted, IsMet, AreMet, IsClosed}
 
 -- ---- counts
 

@@ -14,7 +14,7 @@ use Rattle.lt_words.proofs.Histories.{part_length, part_prefix}
 use Rattle.lt_shard.proofs.Reporting.{prefix_get}
 use Rattle.lt_table.specs.Runs as runs
 use Rattle.lt_table.specs.Reported.{shard_at, Reported, AreReported, steps_at}
-use Rattle.lt_table.specs.Laws.{Stands, AllStand, ReportedStand, PlacesRise, NumbersOfGuardsDiffer, ReportedStandAtClose}
+use Rattle.lt_table.specs.Laws.{Stands, ReportedStand, PlacesRise, NumbersOfGuardsDiffer, ReportedStandAtClose}
 
 prefix_same : {A : Type 0} (xs ys : List A) → ys ≡ xs → IsPrefix xs ys
 prefix_same xs ys e = ([], append-nil xs ∙ sym e)

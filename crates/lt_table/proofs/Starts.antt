@@ -1,5 +1,5 @@
 -- The passes that a table hands out.
-use Rattle.std.proofs.Common.{◌≡◌, ℕ, zero, suc, ◌<◌, List, [], ◌∷◌, ◌++◌, length, get_or, refl, arith}
+use Rattle.std.proofs.Common.{◌≡◌, ℕ, zero, suc, ◌<◌, List, [], ◌∷◌, length, get_or, refl, arith}
 use Rattle.lt_words.specs.Row.{Opening, Seer, fresh, fresh_passes}
 use Rattle.lt_table.proofs.Ends.{all_of_both}
 

@@ -1,5 +1,5 @@
 -- What a call of the table tells of the steps that it made through a pass.
-use Rattle.std.specs.Prelude.{ℕ, ◌≡◌, ◌+◌, nat_eq, if◌then◌else◌, List, [], ◌∷◌, Result, Ok, Err}
+use Rattle.std.specs.Prelude.{ℕ, ◌≡◌, ◌+◌, nat_eq, if◌then◌else◌, List, [], ◌∷◌, Result}
 use mathlib.Core.List.{IsPrefix}
 use Rattle.lt_ids.specs.Ticket.{Wait}
 use Rattle.lt_history.specs.declared.entry.Entry.{Entry}

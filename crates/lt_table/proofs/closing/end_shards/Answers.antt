@@ -1,11 +1,6 @@
-use Rattle.std.proofs.Common.{◌≡◌, ◌<◌, ◌∙◌, ◌∷◌, ◌++◌, [], List, length, arith, rules, sym, ap, subst}
-use Rattle.std.specs.Prelude.{slice_index_or}
-use Rattle.std.specs.Global.{Vec}
+use Rattle.std.proofs.Common.{◌≡◌, ◌∙◌, ◌∷◌, ◌++◌, [], length, rules, sym, ap, subst}
 use Rattle.std.proofs.lemmas.Iterator.Adapters.{YieldsList-from_vec}
 use Rattle.std.proofs.lemmas.Iterator.Consumers.{YieldsList-turn}
-use Rattle.lt_history.specs.declared.entry.Entry.{Entry}
-use Rattle.lt_words.specs.Row.{SeesMore}
-use Rattle.lt_words.proofs.Prefixes.{prefix_trans}
 use Rattle.lt_table.specs.Closed.{IsMet, AreMet}
 use Rattle.lt_table.proofs.Ends.{met_more, sees_on}
 use Rattle.lt_table.proofs.closing.end_shards.Goals as goal

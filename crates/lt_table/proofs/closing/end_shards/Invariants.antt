@@ -1,4 +1,4 @@
-use Rattle.std.proofs.Common.{◌≡◌, ◌≤◌, length, vec_capacity}
+use Rattle.std.proofs.Common.{◌≡◌, vec_capacity}
 use Rattle.lt_words.specs.Row.{SeesMore}
 use Rattle.lt_table.specs.Closed.{AreMet}
 use Rattle.lt_table.proofs.closing.end_shards.Given as goal

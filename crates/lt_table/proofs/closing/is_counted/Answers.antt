@@ -1,4 +1,4 @@
-use Rattle.std.proofs.Common.{◌≡◌, length, map, arith, rules, sym}
+use Rattle.std.proofs.Common.{◌≡◌, map, arith, rules}
 use Rattle.std.proofs.lemmas.Bool.Decides.{nat_tests}
 use Rattle.lt_table.proofs.Ends.{counted_here}
 use Rattle.lt_table.proofs.closing.is_counted.Goals as goal

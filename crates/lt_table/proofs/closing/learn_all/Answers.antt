@@ -1,6 +1,5 @@
-use Rattle.std.proofs.Common.{◌≡◌, add-one}
+use Rattle.std.proofs.Common.{add-one}
 use mathlib.Core.List.{IsPrefix}
-use Rattle.lt_words.specs.Row.{SeesMore}
 use Rattle.lt_table.proofs.Ends.{learnt, sees_on}
 use Rattle.lt_table.proofs.closing.learn_all.Goals as goal
 

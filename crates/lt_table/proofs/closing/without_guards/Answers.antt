@@ -1,5 +1,4 @@
-use Rattle.std.proofs.Common.{◌≡◌, ◌+◌, rules, arith}
-use Rattle.std.specs.Prelude.{slice_index}
+use Rattle.std.proofs.Common.{rules}
 use Rattle.lt_table.proofs.Ends.{less_one}
 use Rattle.lt_table.proofs.closing.without_guards.Goals as goal
 

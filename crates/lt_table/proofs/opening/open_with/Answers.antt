@@ -1,5 +1,4 @@
 use Rattle.std.proofs.Common.{◌≡◌, rules}
-use Rattle.lt_words.specs.Row.{Opening}
 use Rattle.lt_table.proofs.Starts.{handed_are_of}
 use Rattle.lt_table.proofs.opening.open_with.Goals as goal
 

@@ -1,4 +1,3 @@
-use Rattle.std.proofs.Common.{◌≡◌, ap}
 use Rattle.lt_table.proofs.WentOn.{leave_stays, begun_stays}
 use Rattle.lt_table.proofs.table.Table.leave.Goals as goal
 
