@@ -1,5 +1,5 @@
 -- A table on its way to be closed.
-use Rattle.std.proofs.Common.{◌≡◌, ℕ, zero, suc, ◌+◌, ◌<◌, List, [], ◌∷◌, ◌++◌, length, map, take, get_or, ap, sym, subst, ◌∙◌, arith, add-one, append-nil, length-append}
+use Rattle.std.proofs.Common.{◌≡◌, ℕ, zero, suc, ◌+◌, ◌<◌, List, [], ◌∷◌, ◌++◌, length, map, take, get_or, ap, sym, subst, ◌∙◌, arith, add-one, length-append}
 use Rattle.std.proofs.Math.Seq.{get_or-append_seam}
 use Rattle.std.proofs.Math.ListN.{get_or-append}
 use Rattle.std.specs.Prelude.{slice_index}
@@ -16,6 +16,7 @@ use Rattle.lt_words.specs.Row.{Opening, Seer, SeesMore}
 use Rattle.lt_words.proofs.Prefixes.{prefix_trans}
 use Rattle.lt_words.proofs.Histories.{part_prefix}
 use Rattle.lt_shard.specs.Shards.{View, IsShard}
+use Rattle.lt_table.proofs.InPlace.{prefix_same}
 use Rattle.lt_table.specs.Closed.{counts_at, IsCounted, IsMet, AreMet, IsClosed}
 
 -- ---- counts
@@ -34,9 +35,6 @@ pub less_one : {A : Type 0} (f : A → Seer) (s : ℕ) (xs : List A) (i : ℕ) (
 less_one f s xs i x left left' steps so_far lt is less = rw add-one (omega (arith, so_far, less, counts_taken f s xs i x lt is))
 
 -- ---- what was seen
-
-prefix_same : {A : Type 0} (xs ys : List A) → ys ≡ xs → IsPrefix xs ys
-prefix_same xs ys e = ([], append-nil xs ∙ sym e)
 
 -- what holds of what each pass had seen, and follows
 pub each_seen : {P Q : List Event → Type 0} (ps : List Seer) → ((h : List Event) → P h → Q h) → AllByRecursion (λ p. P p.seen) ps → AllByRecursion (λ p. Q p.seen) ps

@@ -8,15 +8,14 @@ use Rattle.lt_words.specs.History.{part, shard_of}
 use Rattle.lt_words.specs.Row.{Seer}
 use Rattle.lt_words.specs.declared.event.Event.{Event}
 use Rattle.lt_words.specs.declared.event.Event.TheVariants.{Draw}
-use Rattle.lt_words.proofs.Prefixes.{prefix_trans, prefix_length}
+use Rattle.lt_words.proofs.Prefixes.{prefix_trans, prefix_length, prefix_get}
 use Rattle.lt_words.proofs.Draws.{numbers_are_drawn_once}
 use Rattle.lt_words.proofs.Histories.{part_length, part_prefix}
-use Rattle.lt_shard.proofs.Reporting.{prefix_get}
 use Rattle.lt_table.specs.Runs as runs
 use Rattle.lt_table.specs.Reported.{shard_at, Reported, AreReported, steps_at}
 use Rattle.lt_table.specs.Laws.{Stands, ReportedStand, PlacesRise, NumbersOfGuardsDiffer, ReportedStandAtClose}
 
-prefix_same : {A : Type 0} (xs ys : List A) → ys ≡ xs → IsPrefix xs ys
+pub prefix_same : {A : Type 0} (xs ys : List A) → ys ≡ xs → IsPrefix xs ys
 prefix_same xs ys e = ([], append-nil xs ∙ sym e)
 
 -- the first step, seen from the end
