@@ -1,0 +1,50 @@
+use lt_ids::Access;
+use lt_plain::Reply;
+use lt_table::{EnterError, Poll, Scan, ScanError, StepError};
+
+/// A call of the table by one pass. Keys are one byte long; times have the logical part 0.
+#[derive(Drop)]
+pub enum Command {
+    Enter {
+        txn: u64,
+        wall: u64,
+        accesses: Vec<(u8, Access)>,
+    },
+    Scan,
+    Poll,
+    Look {
+        index: usize,
+    },
+    Acquire {
+        txn: u64,
+        wall: u64,
+        key: u8,
+    },
+    Update {
+        txn: u64,
+        wall: u64,
+        key: u8,
+    },
+    Finish {
+        txn: u64,
+        key: u8,
+    },
+    Leave,
+}
+
+/// What a command was answered.
+#[derive(Clone, Copy, Debug, PartialEq, Eq)]
+pub enum Told {
+    /// The request entered with this number.
+    Entered(u64),
+    NotEntered(EnterError),
+    Scanned(Scan),
+    NotScanned(ScanError),
+    Polled(Poll),
+    Stepped(Reply),
+    NotStepped(StepError),
+    Left,
+    NotLeft(StepError),
+    /// It is no call that a pass can make as it stands, alone or in a guard.
+    Nothing,
+}

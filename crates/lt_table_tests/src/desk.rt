@@ -1,0 +1,202 @@
+ghost use Rattle.std.specs.Prelude.{◌≡◌};
+
+use crate::command::{Command, Told};
+use crate::holds::Holds;
+use crate::seat::Seat;
+use lt_ids::{Access, Key, Timestamp, TxnId};
+use lt_plain::{KeyTable, Reply};
+use lt_table::{Answer, Guard, StepError, Table};
+use lt_words::{Name, Pass};
+use std::alloc::Global;
+use std::sync::Wait;
+
+/// What a seat was told, and the replies of the request's latest scan, or of its leave.
+#[derive(Drop)]
+pub struct Line {
+    pub told: Told,
+    pub replies: Vec<Reply>,
+}
+
+fn keys_of(alloc: Global, accesses: &[(u8, Access)]) -> Option<Vec<(Key, Access)>> {
+    let mut keys = Vec::new(alloc);
+    for (byte, access) in accesses {
+        let key = Key::from_bytes(alloc, &[*byte]).ok()?;
+        keys.push((key, *access)).ok()?;
+    }
+    Some(keys)
+}
+
+fn replies_of(alloc: Global, answers: &[Answer]) -> Option<Vec<Reply>> {
+    let mut replies = Vec::new(alloc);
+    for answer in answers {
+        replies.push(answer.reply).ok()?;
+    }
+    Some(replies)
+}
+
+fn stepped(answered: Result<Answer, StepError>) -> Told {
+    match answered {
+        Ok(answer) => Told::Stepped(answer.reply),
+        Err(error) => Told::NotStepped(error),
+    }
+}
+
+/// A transaction, a time and a key, as a call takes them.
+#[derive(Drop)]
+struct Names {
+    txn: TxnId,
+    ts: Timestamp,
+    key: Key,
+}
+
+fn named(alloc: Global, txn: u64, wall: u64, key: u8) -> Option<Names> {
+    Some(Names {
+        txn: TxnId::new(txn)?,
+        ts: Timestamp { wall, logical: 0 },
+        key: Key::from_bytes(alloc, &[key]).ok()?,
+    })
+}
+
+/// A request enters.
+fn enter<N: Name, T: KeyTable, R: Wait>(
+    rt: &R,
+    alloc: Global,
+    table: &Table<N, T>,
+    pass: Pass,
+    txn: u64,
+    wall: u64,
+    accesses: &[(u8, Access)],
+) -> Option<(Seat<N>, Told)>
+    requires { pass.of ≡ N.of }
+{
+    let keys = keys_of(alloc, accesses)?;
+    let txn = TxnId::new(txn)?;
+    let ts = Timestamp { wall, logical: 0 };
+    match table.enter(rt, alloc, pass, txn, ts, &keys) {
+        Ok(guard) => {
+            let number = guard.number();
+            Some((Seat::open(guard), Told::Entered(number)))
+        }
+        Err(refused) => Some((Seat::free(refused.pass), Told::NotEntered(refused.error))),
+    }
+}
+
+/// A call of a pass that is in no guard.
+fn by_pass<N: Name, T: KeyTable, R: Wait>(
+    rt: &R,
+    alloc: Global,
+    table: &Table<N, T>,
+    mut pass: Pass,
+    command: &Command,
+) -> Option<(Seat<N>, Told)>
+    requires { pass.of ≡ N.of }
+{
+    let told = match command {
+        Command::Enter {
+            txn,
+            wall,
+            accesses,
+        } => return enter(rt, alloc, table, pass, *txn, *wall, accesses),
+        Command::Acquire { txn, wall, key } => {
+            let n = named(alloc, *txn, *wall, *key)?;
+            stepped(table.acquire(rt, &mut pass, &n.key, n.txn, n.ts))
+        }
+        Command::Update { txn, wall, key } => {
+            let n = named(alloc, *txn, *wall, *key)?;
+            stepped(table.update(rt, &mut pass, &n.key, n.txn, n.ts))
+        }
+        Command::Finish { txn, key } => {
+            let n = named(alloc, *txn, 0, *key)?;
+            stepped(table.finish(rt, &mut pass, &n.key, n.txn))
+        }
+        _ => Told::Nothing,
+    };
+    Some((Seat::free(pass), told))
+}
+
+/// A call through a guard that stays open.
+fn by_guard<N: Name, T: KeyTable, R: Wait>(
+    rt: &R,
+    alloc: Global,
+    table: &Table<N, T>,
+    guard: &mut Guard,
+    command: &Command,
+) -> Option<Told>
+    requires { guard.old.pass.of ≡ N.of }
+    ensures { guard.new.pass.of ≡ N.of }
+{
+    match command {
+        Command::Scan => match table.scan(rt, guard) {
+            Ok(scan) => Some(Told::Scanned(scan)),
+            Err(error) => Some(Told::NotScanned(error)),
+        },
+        Command::Poll => Some(Told::Polled(table.poll(guard))),
+        Command::Look { index } => {
+            if *index < guard.keys().len() {
+                Some(stepped(table.look(rt, guard, *index)))
+            } else {
+                Some(Told::Nothing)
+            }
+        }
+        Command::Acquire { txn, wall, key } => {
+            let n = named(alloc, *txn, *wall, *key)?;
+            Some(stepped(table.acquire_in(rt, guard, &n.key, n.txn, n.ts)))
+        }
+        Command::Update { txn, wall, key } => {
+            let n = named(alloc, *txn, *wall, *key)?;
+            Some(stepped(table.update_in(rt, guard, &n.key, n.txn, n.ts)))
+        }
+        Command::Finish { txn, key } => {
+            let n = named(alloc, *txn, 0, *key)?;
+            Some(stepped(table.finish_in(rt, guard, &n.key, n.txn)))
+        }
+        Command::Enter { .. } | Command::Leave => Some(Told::Nothing),
+    }
+}
+
+/// A call through a guard.
+fn in_guard<N: Name, T: KeyTable, R: Wait>(
+    rt: &R,
+    alloc: Global,
+    table: &Table<N, T>,
+    mut guard: Guard,
+    command: &Command,
+) -> Option<(Seat<N>, Line)>
+    requires { guard.pass.of ≡ N.of }
+{
+    if let Command::Leave = command {
+        return match table.leave(rt, guard) {
+            Ok(left) => {
+                let replies = replies_of(alloc, &left.answers)?;
+                let told = Told::Left;
+                Some((Seat::free(left.pass), Line { told, replies }))
+            }
+            Err(stopped) => {
+                let replies = replies_of(alloc, stopped.guard.answers())?;
+                let told = Told::NotLeft(stopped.error);
+                Some((Seat::open(stopped.guard), Line { told, replies }))
+            }
+        };
+    }
+    let told = by_guard(rt, alloc, table, &mut guard, command)?;
+    let replies = replies_of(alloc, guard.answers())?;
+    Some((Seat::open(guard), Line { told, replies }))
+}
+
+/// Plays a command on a seat. None where memory is refused beside the call.
+pub fn play<N: Name, T: KeyTable, R: Wait>(
+    rt: &R,
+    alloc: Global,
+    table: &Table<N, T>,
+    seat: Seat<N>,
+    command: &Command,
+) -> Option<(Seat<N>, Line)> {
+    match seat.into_holds() {
+        Holds::Free(pass) => {
+            let (seat, told) = by_pass(rt, alloc, table, pass, command)?;
+            let replies = Vec::new(alloc);
+            Some((seat, Line { told, replies }))
+        }
+        Holds::Open(guard) => in_guard(rt, alloc, table, guard, command),
+    }
+}

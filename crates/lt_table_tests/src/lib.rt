@@ -1,0 +1,13 @@
+//! The table's public calls, through `Table` and nothing else: worked schedules, threads, and random schedules.
+//!
+//! A [`seat::Seat`] keeps a pass or its guard; [`desk`] plays commands on seats and tells what each was answered;
+//! [`run`] opens a table, plays a list of commands and closes it.
+#![tactic(auto)]
+
+pub mod command;
+pub mod desk;
+pub mod holds;
+pub mod run;
+pub mod seat;
+#[cfg(test)]
+mod worked;

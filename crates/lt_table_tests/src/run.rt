@@ -1,0 +1,111 @@
+//! A table is opened, commands are played, and the table is closed.
+ghost use Rattle.std.specs.Prelude.{◌≡◌, IfOk};
+ghost use Rattle.std.specs.List.{All};
+ghost use Rattle.lt_words.specs.Row.{Opening};
+
+use crate::command::Command;
+use crate::desk::{Line, play};
+use crate::holds::Holds;
+use crate::seat::Seat;
+use lt_plain::KeyTable;
+use lt_table::{Config, Guard, Histories, Ready, Table, open, prepare};
+use lt_words::{Name, Pass};
+use std::alloc::{AllocError, Global};
+use std::marker::Brand;
+use std::sync::Wait;
+
+/// What came of a run: a line for each command, and the histories.
+#[derive(Drop)]
+pub struct Ran {
+    pub lines: Vec<Line>,
+    pub histories: Histories,
+}
+
+fn seated<N: Name>(alloc: Global, passes: Vec<Pass>) -> Option<Vec<Seat<N>>>
+    requires { All (λ p. p.of ≡ N.of) passes.items }
+{
+    let mut seats = Vec::new(alloc);
+    for pass in passes {
+        seats.push(Seat::free(pass)).ok()?;
+    }
+    Some(seats)
+}
+
+/// The passes that stand alone, and the guards.
+fn gather<N: Name>(
+    alloc: Global,
+    seats: Vec<Seat<N>>,
+) -> Result<(Vec<Pass>, Vec<Guard>), AllocError>
+    ensures passes { IfOk result (λ r. All (λ p. p.of ≡ N.of) r.0.items) }
+    ensures guards { IfOk result (λ r. All (λ g. g.pass.of ≡ N.of) r.1.items) }
+{
+    let mut passes = Vec::new(alloc);
+    let mut guards = Vec::new(alloc);
+    for seat in seats {
+        match seat.into_holds() {
+            Holds::Free(pass) => passes.push(pass)?,
+            Holds::Open(guard) => guards.push(guard)?,
+        }
+    }
+    Ok((passes, guards))
+}
+
+/// Closes the table with all that the seats hold.
+fn close_all<N: Name, T: KeyTable + Drop, R: Wait>(
+    rt: &R,
+    alloc: Global,
+    table: Table<N, T>,
+    seats: Vec<Seat<N>>,
+) -> Option<Histories> {
+    let Ok((passes, guards)) = gather(alloc, seats) else {
+        return None;
+    };
+    table.close(rt, alloc, passes, guards).ok()
+}
+
+/// Plays the commands, each on the seat of the pass at its place, from 0, and closes the table.
+pub fn play_all<N: Name, T: KeyTable + Drop, R: Wait>(
+    rt: &R,
+    alloc: Global,
+    table: Table<N, T>,
+    passes: Vec<Pass>,
+    commands: &[(usize, Command)],
+) -> Option<Ran>
+    requires { All (λ p. p.of ≡ N.of) passes.items }
+{
+    let mut seats = seated::<N>(alloc, passes)?;
+    let mut lines = Vec::new(alloc);
+    for (place, command) in commands {
+        if *place >= seats.len() {
+            return None;
+        }
+        let (seat, line) = play(rt, alloc, &table, seats.remove(*place), command)?;
+        seats.insert(*place, seat).ok()?;
+        lines.push(line).ok()?;
+    }
+    let histories = close_all(rt, alloc, table, seats)?;
+    Some(Ran { lines, histories })
+}
+
+fn run_named<N: Name, R: Wait>(
+    rt: &R,
+    alloc: Global,
+    ready: Ready,
+    commands: &[(usize, Command)],
+) -> Option<Ran>
+    requires { ready.of ≡ N.of }
+{
+    let (table, passes) = open::<N>(alloc, ready).ok()?;
+    play_all(rt, alloc, table, passes, commands)
+}
+
+/// A run over linked tables.
+pub fn run<R: Wait>(
+    rt: &R,
+    alloc: Global,
+    config: Config,
+    commands: &[(usize, Command)],
+) -> Option<Ran> {
+    let ready = prepare(alloc, config).ok()?;
+    run_named::<Brand, R>(rt, alloc, ready, commands)
+}
