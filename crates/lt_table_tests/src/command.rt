@@ -10,6 +10,11 @@ pub enum Command {
         wall: u64,
         accesses: Vec<(u8, Access)>,
     },
+    /// Transaction 1 enters at time 0 to write so many keys, of which the first ones are named twice.
+    EnterMany {
+        keys: usize,
+        twice: usize,
+    },
     Scan,
     Poll,
     Look {
@@ -31,6 +36,9 @@ pub enum Command {
     },
     Leave,
 }
+
+/// A command of the pass at this place, from 0, and what it is to be told.
+pub type Row = (usize, Command, Told);
 
 /// What a command was answered.
 #[derive(Clone, Copy, Debug, PartialEq, Eq)]

@@ -26,6 +26,17 @@ fn keys_of(alloc: Global, accesses: &[(u8, Access)]) -> Option<Vec<(Key, Access)
     Some(keys)
 }
 
+/// The keys k0, k1 and so on, to write them, and then the first ones again.
+fn many_keys(alloc: Global, keys: usize, twice: usize) -> Option<Vec<(Key, Access)>> {
+    let mut list = Vec::new(alloc);
+    for place in (0..keys).chain(0..twice) {
+        let name = format!(in alloc; "k{place}").ok()?;
+        let key = Key::from_bytes(alloc, name.as_bytes()).ok()?;
+        list.push((key, Access::Write)).ok()?;
+    }
+    Some(list)
+}
+
 fn replies_of(alloc: Global, answers: &[Answer]) -> Option<Vec<Reply>> {
     let mut replies = Vec::new(alloc);
     for answer in answers {
@@ -65,14 +76,13 @@ fn enter<N: Name, T: KeyTable, R: Wait>(
     pass: Pass,
     txn: u64,
     wall: u64,
-    accesses: &[(u8, Access)],
+    keys: &[(Key, Access)],
 ) -> Option<(Seat<N>, Told)>
     requires { pass.of ≡ N.of }
 {
-    let keys = keys_of(alloc, accesses)?;
     let txn = TxnId::new(txn)?;
     let ts = Timestamp { wall, logical: 0 };
-    match table.enter(rt, alloc, pass, txn, ts, &keys) {
+    match table.enter(rt, alloc, pass, txn, ts, keys) {
         Ok(guard) => {
             let number = guard.number();
             Some((Seat::open(guard), Told::Entered(number)))
@@ -96,7 +106,14 @@ fn by_pass<N: Name, T: KeyTable, R: Wait>(
             txn,
             wall,
             accesses,
-        } => return enter(rt, alloc, table, pass, *txn, *wall, accesses),
+        } => {
+            let keys = keys_of(alloc, accesses)?;
+            return enter(rt, alloc, table, pass, *txn, *wall, &keys);
+        }
+        Command::EnterMany { keys, twice } => {
+            let keys = many_keys(alloc, *keys, *twice)?;
+            return enter(rt, alloc, table, pass, 1, 0, &keys);
+        }
         Command::Acquire { txn, wall, key } => {
             let n = named(alloc, *txn, *wall, *key)?;
             stepped(table.acquire(rt, &mut pass, &n.key, n.txn, n.ts))
@@ -150,7 +167,7 @@ fn by_guard<N: Name, T: KeyTable, R: Wait>(
             let n = named(alloc, *txn, 0, *key)?;
             Some(stepped(table.finish_in(rt, guard, &n.key, n.txn)))
         }
-        Command::Enter { .. } | Command::Leave => Some(Told::Nothing),
+        Command::Enter { .. } | Command::EnterMany { .. } | Command::Leave => Some(Told::Nothing),
     }
 }
 

@@ -3,12 +3,12 @@ ghost use Rattle.std.specs.Prelude.{◌≡◌, IfOk};
 ghost use Rattle.std.specs.List.{All};
 ghost use Rattle.lt_words.specs.Row.{Opening};
 
-use crate::command::Command;
+use crate::command::Row;
 use crate::desk::{Line, play};
 use crate::holds::Holds;
 use crate::seat::Seat;
 use lt_plain::KeyTable;
-use lt_table::{Config, Guard, Histories, Ready, Table, open, prepare};
+use lt_table::{CloseError, CloseRefused, Config, Guard, Histories, Ready, Table, open, prepare};
 use lt_words::{Name, Pass};
 use std::alloc::{AllocError, Global};
 use std::marker::Brand;
@@ -63,19 +63,19 @@ fn close_all<N: Name, T: KeyTable + Drop, R: Wait>(
     table.close(rt, alloc, passes, guards).ok()
 }
 
-/// Plays the commands, each on the seat of the pass at its place, from 0, and closes the table.
+/// Plays the commands of the rows, each on the seat of the pass at its place, from 0, and closes the table.
 pub fn play_all<N: Name, T: KeyTable + Drop, R: Wait>(
     rt: &R,
     alloc: Global,
     table: Table<N, T>,
     passes: Vec<Pass>,
-    commands: &[(usize, Command)],
+    rows: &[Row],
 ) -> Option<Ran>
     requires { All (λ p. p.of ≡ N.of) passes.items }
 {
     let mut seats = seated::<N>(alloc, passes)?;
     let mut lines = Vec::new(alloc);
-    for (place, command) in commands {
+    for (place, command, _) in rows {
         if *place >= seats.len() {
             return None;
         }
@@ -87,25 +87,59 @@ pub fn play_all<N: Name, T: KeyTable + Drop, R: Wait>(
     Some(Ran { lines, histories })
 }
 
-fn run_named<N: Name, R: Wait>(
-    rt: &R,
-    alloc: Global,
-    ready: Ready,
-    commands: &[(usize, Command)],
-) -> Option<Ran>
+fn run_named<N: Name, R: Wait>(rt: &R, alloc: Global, ready: Ready, rows: &[Row]) -> Option<Ran>
     requires { ready.of ≡ N.of }
 {
     let (table, passes) = open::<N>(alloc, ready).ok()?;
-    play_all(rt, alloc, table, passes, commands)
+    play_all(rt, alloc, table, passes, rows)
 }
 
 /// A run over linked tables.
-pub fn run<R: Wait>(
-    rt: &R,
-    alloc: Global,
-    config: Config,
-    commands: &[(usize, Command)],
-) -> Option<Ran> {
+pub fn run<R: Wait>(rt: &R, alloc: Global, config: Config, rows: &[Row]) -> Option<Ran> {
     let ready = prepare(alloc, config).ok()?;
-    run_named::<Brand, R>(rt, alloc, ready, commands)
+    run_named::<Brand, R>(rt, alloc, ready, rows)
+}
+
+/// What came of a close without the last pass, and of one with all.
+#[derive(Drop)]
+pub struct Closed {
+    pub refused: CloseError,
+    /// How many passes came back.
+    pub back: usize,
+    pub histories: Histories,
+}
+
+fn close_twice_named<N: Name, R: Wait>(rt: &R, alloc: Global, ready: Ready) -> Option<Closed>
+    requires { ready.of ≡ N.of }
+{
+    let (table, passes) = open::<N>(alloc, ready).ok()?;
+    let mut seats = seated::<N>(alloc, passes)?;
+    let last = seats.pop()?;
+    let Ok((passes, guards)) = gather(alloc, seats) else {
+        return None;
+    };
+    let Err(refused) = table.close(rt, alloc, passes, guards) else {
+        return None;
+    };
+    let CloseRefused {
+        table,
+        passes,
+        error,
+        ..
+    } = refused;
+    let back = passes.len();
+    let mut seats = seated::<N>(alloc, passes)?;
+    seats.push(last).ok()?;
+    let histories = close_all(rt, alloc, table, seats)?;
+    Some(Closed {
+        refused: error,
+        back,
+        histories,
+    })
+}
+
+/// Closes a new table without its last pass, and then with all.
+pub fn close_twice<R: Wait>(rt: &R, alloc: Global, config: Config) -> Option<Closed> {
+    let ready = prepare(alloc, config).ok()?;
+    close_twice_named::<Brand, R>(rt, alloc, ready)
 }

@@ -1,30 +1,30 @@
-use crate::command::{Command, Told};
-use crate::run::run;
+use crate::command::{Command, Row, Told};
+use crate::run::{Ran, close_twice, run};
 use lt_ids::Access;
 use lt_plain::Reply;
-use lt_table::{Config, EnterError, Poll, Scan, ScanError, StepError};
+use lt_table::{
+    CloseError, Config, EnterError, Poll, PrepareError, Scan, ScanError, StepError, prepare,
+};
 use std::alloc::{AllocError, Global};
+use std::process::Abort;
+use std::sync::Wait;
 use std::test::Fail;
 
-/// A list of accesses to keys of one byte: `cr` reads c, `aw` writes a.
-fn accesses(alloc: Global, text: &[u8]) -> Result<Vec<(u8, Access)>, AllocError> {
-    let mut list = Vec::new(alloc);
+/// A request of accesses to keys of one byte: `cr` reads c, `aw` writes a.
+fn enter(alloc: Global, txn: u64, wall: u64, text: &[u8]) -> Result<Command, AllocError> {
+    let mut accesses = Vec::new(alloc);
     for pair in text.chunks_exact(2) {
         let access = if pair[1] == b'w' {
             Access::Write
         } else {
             Access::Read
         };
-        list.push((pair[0], access))?;
+        accesses.push((pair[0], access))?;
     }
-    Ok(list)
-}
-
-fn enter(alloc: Global, txn: u64, wall: u64, text: &[u8]) -> Result<Command, AllocError> {
     Ok(Command::Enter {
         txn,
         wall,
-        accesses: accesses(alloc, text)?,
+        accesses,
     })
 }
 
@@ -38,47 +38,434 @@ fn config(shards: usize, passes: usize) -> Config {
     }
 }
 
+/// Plays the rows, and compares what each command was told.
+fn plays<R: Abort + Wait>(
+    rt: &R,
+    alloc: Global,
+    config: Config,
+    rows: &[Row],
+) -> Result<Ran, Fail> {
+    let ran = run(rt, alloc, config, rows).ok_or("the run")?;
+    assert_eq!(rt; ran.lines.len(), rows.len());
+    let mut number = 0u64;
+    for (line, (_, _, told)) in ran.lines.iter().zip(rows) {
+        assert_eq!(rt; line.told, *told, "at row {number}");
+        number = number.wrapping_add(1);
+    }
+    Ok(ran)
+}
+
+/// The replies that the guard kept after the command at this place.
+fn replies_at(ran: &Ran, place: usize) -> Option<&[Reply]> {
+    Some(ran.lines.get(place)?.replies.as_slice())
+}
+
+/// How many steps each shard made.
+fn steps_of(alloc: Global, ran: &Ran) -> Result<Vec<usize>, AllocError> {
+    let mut steps = Vec::new(alloc);
+    for history in &ran.histories.shards {
+        steps.push(history.len())?;
+    }
+    Ok(steps)
+}
+
 /// A request waits at its second key, is let through, scans again from the start, and may then go on.
 #[test]
 fn a_request_waits_once_and_proceeds(rt: HostRuntime) -> Result<(), Fail> {
     let alloc = rt.alloc();
-    let commands = vec![in alloc;
+    let rows = vec![in alloc;
         (
             1,
             Command::Acquire {
                 txn: 9,
                 wall: 10,
                 key: b'b'
-            }
+            },
+            Told::Stepped(Reply::Taken)
         ),
-        (0, enter(alloc, 1, 20, b"crawbw")?),
-        (0, Command::Scan),
-        (0, Command::Poll),
-        (1, Command::Finish { txn: 9, key: b'b' }),
-        (0, Command::Poll),
-        (0, Command::Scan),
-        (0, Command::Scan),
-        (0, Command::Poll),
+        (0, enter(alloc, 1, 20, b"crawbw")?, Told::Entered(1)),
+        (0, Command::Scan, Told::Scanned(Scan::Waiting(1))),
+        (0, Command::Poll, Told::Polled(Poll::Waiting)),
+        (0, Command::Scan, Told::NotScanned(ScanError::StillWaiting)),
+        (
+            1,
+            Command::Finish { txn: 9, key: b'b' },
+            Told::Stepped(Reply::Freed)
+        ),
+        (0, Command::Poll, Told::Polled(Poll::Through)),
+        (0, Command::Scan, Told::Scanned(Scan::Rescan)),
+        (0, Command::Scan, Told::Scanned(Scan::Proceed)),
+        (0, Command::Poll, Told::Polled(Poll::Idle)),
     ]?;
-    let ran = run(&rt, alloc, config(4, 2), &commands).ok_or("the run")?;
-    for (line, told) in ran.lines.iter().zip([
-        Told::Stepped(Reply::Taken),
-        Told::Entered(1),
-        Told::Scanned(Scan::Waiting(1)),
-        Told::Polled(Poll::Waiting),
-        Told::Stepped(Reply::Freed),
-        Told::Polled(Poll::Through),
-        Told::Scanned(Scan::Rescan),
-        Told::Scanned(Scan::Proceed),
-        Told::Polled(Poll::Idle),
-    ]) {
-        assert_eq!(rt; line.told, told);
-    }
-    assert_eq!(rt; ran.lines.len(), 9);
+    let ran = plays(&rt, alloc, config(4, 2), &rows)?;
     assert_eq!(rt; ran.histories.draws, 1);
     // Keys a, b and c are of shards 1, 2 and 3.
-    for (history, steps) in ran.histories.shards.iter().zip([0, 2, 4, 2]) {
-        assert_eq!(rt; history.len(), steps);
+    assert_eq!(rt; steps_of(alloc, &ran)?.as_slice(), [0, 2, 4, 2].as_slice());
+    Ok(())
+}
+
+/// A shard that has made as many steps as it may refuses each further one, and a leave can begin but not go on.
+#[test]
+fn a_full_shard_makes_no_step(rt: HostRuntime) -> Result<(), Fail> {
+    let alloc = rt.alloc();
+    let rows = vec![in alloc;
+        (
+            0,
+            Command::Acquire {
+                txn: 7,
+                wall: 20,
+                key: b'a'
+            },
+            Told::Stepped(Reply::Taken)
+        ),
+        (
+            0,
+            Command::Update {
+                txn: 7,
+                wall: 21,
+                key: b'a'
+            },
+            Told::Stepped(Reply::Raised)
+        ),
+        (
+            0,
+            Command::Finish { txn: 7, key: b'a' },
+            Told::NotStepped(StepError::HistoryFull)
+        ),
+        (1, enter(alloc, 8, 1, b"aw")?, Told::Entered(1)),
+        (1, Command::Leave, Told::NotLeft(StepError::HistoryFull)),
+        (1, Command::Scan, Told::NotScanned(ScanError::Leaving)),
+        (1, Command::Poll, Told::Polled(Poll::Idle)),
+    ]?;
+    let ran = plays(
+        &rt,
+        alloc,
+        Config {
+            max_steps: 2,
+            ..config(1, 2)
+        },
+        &rows,
+    )?;
+    assert_eq!(rt; steps_of(alloc, &ran)?.as_slice(), [2].as_slice());
+    assert_eq!(rt; ran.histories.draws, 1);
+    Ok(())
+}
+
+/// The shard is full in the middle of a scan: the visits before stand, and a further scan makes none.
+#[test]
+fn a_shard_fills_in_the_middle_of_a_scan(rt: HostRuntime) -> Result<(), Fail> {
+    let alloc = rt.alloc();
+    let rows = vec![in alloc;
+        (0, enter(alloc, 5, 1, b"awbwcwdw")?, Told::Entered(1)),
+        (0, Command::Scan, Told::NotScanned(ScanError::HistoryFull)),
+        (0, Command::Scan, Told::NotScanned(ScanError::HistoryFull)),
+        (0, Command::Poll, Told::Polled(Poll::Idle)),
+        (0, Command::Leave, Told::NotLeft(StepError::HistoryFull)),
+    ]?;
+    let ran = plays(
+        &rt,
+        alloc,
+        Config {
+            max_steps: 3,
+            ..config(1, 1)
+        },
+        &rows,
+    )?;
+    let three: &[Reply] = &[Reply::Passed, Reply::Passed, Reply::Passed];
+    assert_eq!(rt; replies_at(&ran, 1), Some(three));
+    for place in 2..5 {
+        let none: &[Reply] = &[];
+        assert_eq!(rt; replies_at(&ran, place), Some(none));
+    }
+    assert_eq!(rt; steps_of(alloc, &ran)?.as_slice(), [3].as_slice());
+    Ok(())
+}
+
+/// A key that is given to read and to write is visited once, as a write: the read alone would pass a later lock.
+#[test]
+fn a_request_names_1_to_256_accesses(rt: HostRuntime) -> Result<(), Fail> {
+    let alloc = rt.alloc();
+    let none = EnterError::NoKeys;
+    let many = EnterError::TooManyKeys;
+    let rows = vec![in alloc;
+        (0, enter(alloc, 1, 1, b"")?, Told::NotEntered(none)),
+        (
+            0,
+            Command::EnterMany {
+                keys: 257,
+                twice: 0
+            },
+            Told::NotEntered(many)
+        ),
+        (
+            0,
+            Command::EnterMany {
+                keys: 256,
+                twice: 1
+            },
+            Told::NotEntered(many)
+        ),
+        (
+            0,
+            Command::EnterMany {
+                keys: 256,
+                twice: 0
+            },
+            Told::Entered(1)
+        ),
+        (0, Command::Scan, Told::Scanned(Scan::Proceed)),
+        (0, Command::Leave, Told::Left),
+        (
+            0,
+            Command::EnterMany {
+                keys: 128,
+                twice: 128
+            },
+            Told::Entered(2)
+        ),
+        (0, Command::Scan, Told::Scanned(Scan::Proceed)),
+        (0, Command::Leave, Told::Left),
+        (
+            1,
+            Command::Acquire {
+                txn: 9,
+                wall: 10,
+                key: b'a'
+            },
+            Told::Stepped(Reply::Taken)
+        ),
+        (0, enter(alloc, 1, 5, b"ar")?, Told::Entered(3)),
+        (0, Command::Scan, Told::Scanned(Scan::Proceed)),
+        (0, Command::Leave, Told::Left),
+        (0, enter(alloc, 1, 5, b"araw")?, Told::Entered(4)),
+        (0, Command::Scan, Told::Scanned(Scan::Waiting(0))),
+    ]?;
+    let ran = plays(&rt, alloc, config(1, 2), &rows)?;
+    assert_eq!(rt; replies_at(&ran, 4).map(|r| r.len()), Some(256));
+    assert_eq!(rt; replies_at(&ran, 7).map(|r| r.len()), Some(128));
+    let one: &[Reply] = &[Reply::MustWait];
+    assert_eq!(rt; replies_at(&ran, 14), Some(one));
+    // Two steps for each key of a request that scans and leaves, the acquire, and the last scan.
+    assert_eq!(rt;
+        steps_of(alloc, &ran)?.as_slice(),
+        [512 + 256 + 1 + 2 + 1].as_slice()
+    );
+    Ok(())
+}
+
+/// Numbers and waits run out: no number is drawn past the limit, and a request that used up its waits makes no visit.
+#[test]
+fn numbers_and_waits_run_out(rt: HostRuntime) -> Result<(), Fail> {
+    let alloc = rt.alloc();
+    let rows = vec![in alloc;
+        (
+            1,
+            Command::Acquire {
+                txn: 9,
+                wall: 1,
+                key: b'a'
+            },
+            Told::Stepped(Reply::Taken)
+        ),
+        (0, enter(alloc, 1, 1, b"aw")?, Told::Entered(1)),
+        (
+            1,
+            enter(alloc, 2, 1, b"aw")?,
+            Told::NotEntered(EnterError::NumbersOut)
+        ),
+        (0, Command::Scan, Told::Scanned(Scan::Waiting(0))),
+        (
+            1,
+            Command::Finish { txn: 9, key: b'a' },
+            Told::Stepped(Reply::Freed)
+        ),
+        (0, Command::Poll, Told::Polled(Poll::Through)),
+        (0, Command::Scan, Told::Scanned(Scan::Rescan)),
+        (0, Command::Scan, Told::NotScanned(ScanError::WaitsOut)),
+        (0, Command::Poll, Told::Polled(Poll::Idle)),
+        (0, Command::Leave, Told::Left),
+    ]?;
+    let limits = Config {
+        max_requests: 1,
+        max_waits: 1,
+        ..config(1, 2)
+    };
+    let ran = plays(&rt, alloc, limits, &rows)?;
+    let left: &[Reply] = &[Reply::Left];
+    assert_eq!(rt; replies_at(&ran, 9), Some(left));
+    assert_eq!(rt; steps_of(alloc, &ran)?.as_slice(), [4].as_slice());
+    assert_eq!(rt; ran.histories.draws, 1);
+    Ok(())
+}
+
+/// A request that was let through leaves, and the next one of the same pass waits: it is not taken for let through.
+#[test]
+fn an_old_let_is_not_taken_for_a_new_one(rt: HostRuntime) -> Result<(), Fail> {
+    let alloc = rt.alloc();
+    let rows = vec![in alloc;
+        (
+            1,
+            Command::Acquire {
+                txn: 9,
+                wall: 1,
+                key: b'a'
+            },
+            Told::Stepped(Reply::Taken)
+        ),
+        (
+            1,
+            Command::Acquire {
+                txn: 9,
+                wall: 1,
+                key: b'b'
+            },
+            Told::Stepped(Reply::Taken)
+        ),
+        (0, enter(alloc, 1, 1, b"aw")?, Told::Entered(1)),
+        (0, Command::Scan, Told::Scanned(Scan::Waiting(0))),
+        (
+            1,
+            Command::Finish { txn: 9, key: b'a' },
+            Told::Stepped(Reply::Freed)
+        ),
+        (0, Command::Leave, Told::Left),
+        (0, enter(alloc, 1, 1, b"bw")?, Told::Entered(2)),
+        (0, Command::Scan, Told::Scanned(Scan::Waiting(0))),
+        (0, Command::Poll, Told::Polled(Poll::Waiting)),
+        (
+            1,
+            Command::Finish { txn: 9, key: b'b' },
+            Told::Stepped(Reply::Freed)
+        ),
+        (0, Command::Poll, Told::Polled(Poll::Through)),
+        (0, Command::Leave, Told::Left),
+        (0, enter(alloc, 7, 1, b"aw")?, Told::Entered(3)),
+        (
+            0,
+            Command::Acquire {
+                txn: 7,
+                wall: 1,
+                key: b'a'
+            },
+            Told::Stepped(Reply::Taken)
+        ),
+        (
+            0,
+            Command::Update {
+                txn: 7,
+                wall: 2,
+                key: b'a'
+            },
+            Told::Stepped(Reply::Raised)
+        ),
+        (
+            0,
+            Command::Finish { txn: 7, key: b'a' },
+            Told::Stepped(Reply::Freed)
+        ),
+        (0, Command::Look { index: 0 }, Told::Stepped(Reply::Nothing)),
+    ]?;
+    let ran = plays(&rt, alloc, config(2, 2), &rows)?;
+    // At b, of shard 0: acquire, visit, finish, leave; at a, of shard 1, the same, and the four calls of request 3.
+    assert_eq!(rt; steps_of(alloc, &ran)?.as_slice(), [4, 8].as_slice());
+    assert_eq!(rt; ran.histories.draws, 3);
+    Ok(())
+}
+
+#[test]
+fn a_table_closes_with_all_its_passes(rt: HostRuntime) -> Result<(), Fail> {
+    let closed = close_twice(&rt, rt.alloc(), config(2, 2)).ok_or("the closes")?;
+    assert_eq!(rt; closed.refused, CloseError::PassesOut(1));
+    assert_eq!(rt; closed.back, 1);
+    assert_eq!(rt; closed.histories.draws, 0);
+    assert_eq!(rt; closed.histories.shards.len(), 2);
+    for history in &closed.histories.shards {
+        assert_eq!(rt; history.len(), 0);
+    }
+    Ok(())
+}
+
+#[test]
+fn numbers_out_of_their_range_are_refused(rt: HostRuntime) -> Result<(), Fail> {
+    let low = Config {
+        shards: 1,
+        passes: 1,
+        max_steps: 1,
+        max_requests: 1,
+        max_waits: 1,
+    };
+    let high = Config {
+        shards: 64,
+        passes: 1024,
+        max_steps: 4_294_967_296,
+        max_requests: 1_099_511_627_775,
+        max_waits: 16_777_215,
+    };
+    for (config, error) in [
+        (low, None),
+        (high, None),
+        (Config { shards: 0, ..low }, Some(PrepareError::Shards)),
+        (Config { shards: 65, ..high }, Some(PrepareError::Shards)),
+        (Config { passes: 0, ..low }, Some(PrepareError::Passes)),
+        (
+            Config {
+                passes: 1025,
+                ..high
+            },
+            Some(PrepareError::Passes),
+        ),
+        (
+            Config {
+                max_steps: 0,
+                ..low
+            },
+            Some(PrepareError::Steps),
+        ),
+        (
+            Config {
+                max_steps: 4_294_967_297,
+                ..high
+            },
+            Some(PrepareError::Steps),
+        ),
+        (
+            Config {
+                max_requests: 0,
+                ..low
+            },
+            Some(PrepareError::Requests),
+        ),
+        (
+            Config {
+                max_requests: 1_099_511_627_776,
+                ..high
+            },
+            Some(PrepareError::Requests),
+        ),
+        (
+            Config {
+                max_waits: 0,
+                ..low
+            },
+            Some(PrepareError::Waits),
+        ),
+        (
+            Config {
+                max_waits: 16_777_216,
+                ..high
+            },
+            Some(PrepareError::Waits),
+        ),
+        (
+            Config {
+                shards: 0,
+                passes: 0,
+                ..low
+            },
+            Some(PrepareError::Shards),
+        ),
+    ] {
+        assert_eq!(rt; prepare(rt.alloc(), config).err(), error);
     }
     Ok(())
 }
