@@ -15,6 +15,19 @@ use std::sync::Wait;
 pub struct Line {
     pub told: Told,
     pub replies: Vec<Reply>,
+    /// The place of the step of a single call in its shard's history, from 0.
+    pub at: Option<u64>,
+}
+
+/// What a call was told, and the place of its step.
+#[derive(Clone, Copy)]
+struct Said {
+    told: Told,
+    at: Option<u64>,
+}
+
+fn saying(told: Told) -> Said {
+    Said { told, at: None }
 }
 
 fn keys_of(alloc: Global, accesses: &[(u8, Access)]) -> Option<Vec<(Key, Access)>> {
@@ -45,10 +58,13 @@ fn replies_of(alloc: Global, answers: &[Answer]) -> Option<Vec<Reply>> {
     Some(replies)
 }
 
-fn stepped(answered: Result<Answer, StepError>) -> Told {
+fn stepped(answered: Result<Answer, StepError>) -> Said {
     match answered {
-        Ok(answer) => Told::Stepped(answer.reply),
-        Err(error) => Told::NotStepped(error),
+        Ok(answer) => Said {
+            told: Told::Stepped(answer.reply),
+            at: Some(answer.at),
+        },
+        Err(error) => saying(Told::NotStepped(error)),
     }
 }
 
@@ -98,21 +114,23 @@ fn by_pass<N: Name, T: KeyTable, R: Wait>(
     table: &Table<N, T>,
     mut pass: Pass,
     command: &Command,
-) -> Option<(Seat<N>, Told)>
+) -> Option<(Seat<N>, Said)>
     requires { pass.of ≡ N.of }
 {
-    let told = match command {
+    let said = match command {
         Command::Enter {
             txn,
             wall,
             accesses,
         } => {
             let keys = keys_of(alloc, accesses)?;
-            return enter(rt, alloc, table, pass, *txn, *wall, &keys);
+            let (seat, told) = enter(rt, alloc, table, pass, *txn, *wall, &keys)?;
+            return Some((seat, saying(told)));
         }
         Command::EnterMany { keys, twice } => {
             let keys = many_keys(alloc, *keys, *twice)?;
-            return enter(rt, alloc, table, pass, 1, 0, &keys);
+            let (seat, told) = enter(rt, alloc, table, pass, 1, 0, &keys)?;
+            return Some((seat, saying(told)));
         }
         Command::Acquire { txn, wall, key } => {
             let n = named(alloc, *txn, *wall, *key)?;
@@ -126,9 +144,9 @@ fn by_pass<N: Name, T: KeyTable, R: Wait>(
             let n = named(alloc, *txn, 0, *key)?;
             stepped(table.finish(rt, &mut pass, &n.key, n.txn))
         }
-        _ => Told::Nothing,
+        _ => saying(Told::Nothing),
     };
-    Some((Seat::free(pass), told))
+    Some((Seat::free(pass), said))
 }
 
 /// A call through a guard that stays open.
@@ -138,21 +156,21 @@ fn by_guard<N: Name, T: KeyTable, R: Wait>(
     table: &Table<N, T>,
     guard: &mut Guard,
     command: &Command,
-) -> Option<Told>
+) -> Option<Said>
     requires { guard.old.pass.of ≡ N.of }
     ensures { guard.new.pass.of ≡ N.of }
 {
     match command {
         Command::Scan => match table.scan(rt, guard) {
-            Ok(scan) => Some(Told::Scanned(scan)),
-            Err(error) => Some(Told::NotScanned(error)),
+            Ok(scan) => Some(saying(Told::Scanned(scan))),
+            Err(error) => Some(saying(Told::NotScanned(error))),
         },
-        Command::Poll => Some(Told::Polled(table.poll(guard))),
+        Command::Poll => Some(saying(Told::Polled(table.poll(guard)))),
         Command::Look { index } => {
             if *index < guard.keys().len() {
                 Some(stepped(table.look(rt, guard, *index)))
             } else {
-                Some(Told::Nothing)
+                Some(saying(Told::Nothing))
             }
         }
         Command::Acquire { txn, wall, key } => {
@@ -167,7 +185,9 @@ fn by_guard<N: Name, T: KeyTable, R: Wait>(
             let n = named(alloc, *txn, 0, *key)?;
             Some(stepped(table.finish_in(rt, guard, &n.key, n.txn)))
         }
-        Command::Enter { .. } | Command::EnterMany { .. } | Command::Leave => Some(Told::Nothing),
+        Command::Enter { .. } | Command::EnterMany { .. } | Command::Leave => Some(saying(
+            Told::Nothing,
+        )),
     }
 }
 
@@ -186,18 +206,20 @@ fn in_guard<N: Name, T: KeyTable, R: Wait>(
             Ok(left) => {
                 let replies = replies_of(alloc, &left.answers)?;
                 let told = Told::Left;
-                Some((Seat::free(left.pass), Line { told, replies }))
+                let at = None;
+                Some((Seat::free(left.pass), Line { told, replies, at }))
             }
             Err(stopped) => {
                 let replies = replies_of(alloc, stopped.guard.answers())?;
                 let told = Told::NotLeft(stopped.error);
-                Some((Seat::open(stopped.guard), Line { told, replies }))
+                let at = None;
+                Some((Seat::open(stopped.guard), Line { told, replies, at }))
             }
         };
     }
-    let told = by_guard(rt, alloc, table, &mut guard, command)?;
+    let Said { told, at } = by_guard(rt, alloc, table, &mut guard, command)?;
     let replies = replies_of(alloc, guard.answers())?;
-    Some((Seat::open(guard), Line { told, replies }))
+    Some((Seat::open(guard), Line { told, replies, at }))
 }
 
 /// Plays a command on a seat. None where memory is refused beside the call.
@@ -210,9 +232,9 @@ pub fn play<N: Name, T: KeyTable, R: Wait>(
 ) -> Option<(Seat<N>, Line)> {
     match seat.into_holds() {
         Holds::Free(pass) => {
-            let (seat, told) = by_pass(rt, alloc, table, pass, command)?;
+            let (seat, Said { told, at }) = by_pass(rt, alloc, table, pass, command)?;
             let replies = Vec::new(alloc);
-            Some((seat, Line { told, replies }))
+            Some((seat, Line { told, replies, at }))
         }
         Holds::Open(guard) => in_guard(rt, alloc, table, guard, command),
     }

@@ -7,6 +7,9 @@
 pub mod command;
 pub mod desk;
 pub mod holds;
+pub mod race;
+#[cfg(test)]
+mod races;
 pub mod run;
 pub mod seat;
 #[cfg(test)]

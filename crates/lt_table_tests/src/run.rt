@@ -21,7 +21,7 @@ pub struct Ran {
     pub histories: Histories,
 }
 
-fn seated<N: Name>(alloc: Global, passes: Vec<Pass>) -> Option<Vec<Seat<N>>>
+pub fn seated<N: Name>(alloc: Global, passes: Vec<Pass>) -> Option<Vec<Seat<N>>>
     requires { All (λ p. p.of ≡ N.of) passes.items }
 {
     let mut seats = Vec::new(alloc);
@@ -51,7 +51,7 @@ fn gather<N: Name>(
 }
 
 /// Closes the table with all that the seats hold.
-fn close_all<N: Name, T: KeyTable + Drop, R: Wait>(
+pub fn close_all<N: Name, T: KeyTable + Drop, R: Wait>(
     rt: &R,
     alloc: Global,
     table: Table<N, T>,
