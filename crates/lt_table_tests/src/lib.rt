@@ -1,7 +1,7 @@
-//! The table's public calls, through `Table` and nothing else: worked schedules, threads, and random schedules.
+//! The table's public calls, through `Table` and nothing else: worked schedules, and two threads at once.
 //!
 //! A [`seat::Seat`] keeps a pass or its guard; [`desk`] plays commands on seats and tells what each was answered;
-//! [`run`] opens a table, plays a list of commands and closes it.
+//! [`run`] opens a table, plays a list of commands and closes it; [`race`] lets two threads work on one table.
 #![tactic(auto)]
 
 pub mod command;
