@@ -1,0 +1,47 @@
+//! Runs over plain tables.
+ghost use Rattle.std.specs.Prelude.{◌≡◌, IfOk, length};
+ghost use Rattle.std.specs.List.{All};
+ghost use Rattle.std.specs.FinMap as finmap;
+
+use lt_plain::PlainTable;
+use lt_table::{Config, Ready, open_with, prepare};
+use lt_table_tests::command::Row;
+use lt_table_tests::run::{Ran, play_all};
+use lt_words::Name;
+use std::alloc::{AllocError, Global};
+use std::marker::Brand;
+use std::sync::Wait;
+
+/// So many empty tables.
+fn plain_tables(alloc: Global, count: usize) -> Result<Vec<PlainTable>, AllocError>
+    ensures many { IfOk result (λ tables. length tables.items ≡ count) }
+    ensures empty { IfOk result (λ tables. All (λ t. t ≡ finmap.empty) tables.items) }
+{
+    let mut tables = Vec::new(alloc);
+    for _ in 0..count {
+        tables.push(PlainTable::new(alloc))?;
+    }
+    Ok(tables)
+}
+
+fn run_named<N: Name, R: Wait>(
+    rt: &R,
+    alloc: Global,
+    ready: Ready,
+    tables: Vec<PlainTable>,
+    rows: &[Row],
+) -> Option<Ran>
+    requires named { ready.of ≡ N.of }
+    requires many { length tables.items ≡ N.of.shards }
+    requires empty { All (λ t. t ≡ finmap.empty) tables.items }
+{
+    let (table, passes) = open_with::<N, PlainTable>(alloc, ready, tables).ok()?;
+    play_all(rt, alloc, table, passes, rows)
+}
+
+/// A run over plain tables.
+pub fn run_plain<R: Wait>(rt: &R, alloc: Global, config: Config, rows: &[Row]) -> Option<Ran> {
+    let ready = prepare(alloc, config).ok()?;
+    let tables = plain_tables(alloc, config.shards).ok()?;
+    run_named::<Brand, R>(rt, alloc, ready, tables, rows)
+}

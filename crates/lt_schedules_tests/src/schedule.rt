@@ -1,0 +1,191 @@
+ghost use Rattle.std.specs.Prelude.{◌<◌, ◌≤◌};
+
+use crate::cases::Counts;
+use crate::table::SecondTable;
+use lt_ids::Access;
+use lt_rules_tests::random::Random;
+use lt_table::Config;
+use lt_table_tests::command::{Command, Row};
+use lt_table_tests::desk::Line;
+use std::alloc::Global;
+
+/// How many commands a schedule has.
+const COMMANDS: usize = 80;
+
+/// A schedule: the numbers of its table, commands with what each is to be told, and what the rules give in full.
+#[derive(Drop)]
+pub struct Schedule {
+    pub config: Config,
+    pub rows: Vec<Row>,
+    pub lines: Vec<Line>,
+    pub second: SecondTable,
+}
+
+/// Up to `few` in one of two cases, so that the limit is often met.
+fn random_limit(random: &mut Random, few: u64) -> u64
+    requires some { 0 < few }
+    requires small { few ≤ 1000 }
+    ensures { result ≤ 1000 }
+{
+    if random.below(2) == 0 {
+        1 + random.below(few)
+    } else {
+        1000
+    }
+}
+
+/// 1 to 4 passes, and more often 4: it takes three to wait in a queue behind another.
+fn random_passes(random: &mut Random) -> usize
+    ensures { 0 < result }
+{
+    if random.below(2) == 0 {
+        1 + random.below(4) as usize
+    } else {
+        4
+    }
+}
+
+fn random_config(random: &mut Random) -> Config
+    ensures shards { 0 < result.shards }
+    ensures passes { 0 < result.passes }
+{
+    Config {
+        shards: 1 + random.below(4) as usize,
+        passes: random_passes(random),
+        max_steps: random_limit(random, 30),
+        max_requests: random_limit(random, 6),
+        max_waits: random_limit(random, 2) as u32,
+    }
+}
+
+/// A number below 5, and the more often the smaller it is, so that requests meet at few keys.
+fn random_place(random: &mut Random) -> u64
+    ensures { result < 5 }
+{
+    let mut limit = 5;
+    for _ in 0..3 {
+        limit = 1 + random.below(limit);
+    }
+    limit - 1
+}
+
+fn random_key(random: &mut Random) -> u8 {
+    b'a' + random_place(random) as u8
+}
+
+/// One to three accesses, or none at all.
+fn random_accesses(alloc: Global, random: &mut Random) -> Option<Vec<(u8, Access)>> {
+    let mut accesses = Vec::new(alloc);
+    if random.below(16) == 0 {
+        return Some(accesses);
+    }
+    for _ in 0..1 + random.below(3) {
+        let access = if random.below(4) < 3 {
+            Access::Write
+        } else {
+            Access::Read
+        };
+        accesses.push((random_key(random), access)).ok()?;
+    }
+    Some(accesses)
+}
+
+fn random_entry(alloc: Global, random: &mut Random) -> Option<Command> {
+    Some(Command::Enter {
+        txn: 1 + random.below(4),
+        wall: random.below(4),
+        accesses: random_accesses(alloc, random)?,
+    })
+}
+
+/// A call on the lock of a key, often by the transaction that holds it.
+fn random_lock_call(random: &mut Random, second: &SecondTable) -> Command {
+    let key = random_key(random);
+    let wall = random.below(4);
+    let mut txn = 1 + random.below(4);
+    if let Some(holder) = second.holder(key) {
+        if random.below(2) == 0 {
+            txn = holder;
+        }
+    }
+    match random.below(6) {
+        0 | 1 => Command::Acquire { txn, wall, key },
+        2 => Command::Update { txn, wall, key },
+        _ => Command::Finish { txn, key },
+    }
+}
+
+/// A call of a request that has entered.
+fn random_call(random: &mut Random, second: &SecondTable) -> Command {
+    match random.below(20) {
+        0..=6 => Command::Scan,
+        7 | 8 => Command::Poll,
+        9..=12 => Command::Look {
+            index: random_place(random) as usize,
+        },
+        13 | 14 => Command::Leave,
+        _ => random_lock_call(random, second),
+    }
+}
+
+/// A command that a pass with a request can make, or one without; and now and then one that it can not.
+fn random_command(
+    alloc: Global,
+    random: &mut Random,
+    second: &SecondTable,
+    is_open: bool,
+) -> Option<Command> {
+    let is_reversed = random.below(25) == 0;
+    if is_open != is_reversed {
+        return Some(random_call(random, second));
+    }
+    if random.below(5) < 2 {
+        return Some(random_lock_call(random, second));
+    }
+    random_entry(alloc, random)
+}
+
+/// A new table, and no command.
+fn random_start(alloc: Global, random: &mut Random) -> Schedule
+    ensures { 0 < result.config.passes }
+{
+    let config = random_config(random);
+    Schedule {
+        config,
+        rows: Vec::new(alloc),
+        lines: Vec::new(alloc),
+        second: SecondTable::new(alloc, config),
+    }
+}
+
+/// Adds a command by the pass at this place, and what the rules give for it.
+fn add_command(
+    alloc: Global,
+    random: &mut Random,
+    place: usize,
+    schedule: &mut Schedule,
+    counts: &mut Counts,
+) -> Option<()> {
+    let before = schedule.second.stands(place);
+    let command = random_command(alloc, random, &schedule.second, before.is_open)?;
+    let line = schedule.second.play(place, &command)?;
+    counts.add_line(before, &command, &line);
+    schedule.rows.push((place, command, line.told)).ok()?;
+    schedule.lines.push(line).ok()?;
+    Some(())
+}
+
+/// The schedule of this seed. None where memory is refused.
+pub fn random_schedule(alloc: Global, seed: u64, counts: &mut Counts) -> Option<Schedule> {
+    let mut random = Random::new(seed);
+    let mut schedule = random_start(alloc, &mut random);
+    let passes = schedule.config.passes as u64;
+    for _ in 0..COMMANDS {
+        let place = random.below(passes) as usize;
+        add_command(alloc, &mut random, place, &mut schedule, counts)?;
+    }
+    for step in schedule.second.steps() {
+        counts.add_step(step);
+    }
+    Some(schedule)
+}

@@ -1,0 +1,167 @@
+use crate::cases::Counts;
+use crate::plain::run_plain;
+use crate::schedule::{Schedule, random_schedule};
+use crate::steps::{Asked, Step};
+use lt_history::Entry;
+use lt_ids::{Access, Timestamp};
+use lt_plain::Call;
+use lt_rules_tests::second::{Let, Time};
+use lt_table_tests::run::{Ran, run};
+use std::alloc::{AllocError, Global};
+use std::process::Abort;
+use std::sync::Wait;
+use std::test::Fail;
+
+fn time_of(ts: Timestamp) -> Time {
+    (ts.wall, ts.logical)
+}
+
+fn asked_of(call: &Call) -> Asked {
+    match *call {
+        Call::Visit {
+            ticket,
+            txn,
+            ts,
+            access,
+        } => Asked::Visit {
+            number: ticket.number(),
+            wait: ticket.wait(),
+            txn: txn.number(),
+            time: time_of(ts),
+            is_write: access == Access::Write,
+        },
+        Call::Acquire { txn, ts } => Asked::Acquire {
+            txn: txn.number(),
+            time: time_of(ts),
+        },
+        Call::Update { txn, ts } => Asked::Update {
+            txn: txn.number(),
+            time: time_of(ts),
+        },
+        Call::Finish { txn } => Asked::Finish { txn: txn.number() },
+        Call::Leave { number } => Asked::Leave { number },
+        Call::Look { number } => Asked::Look { number },
+    }
+}
+
+fn lets_of(alloc: Global, entry: &Entry) -> Result<Vec<Let>, AllocError> {
+    let mut lets = Vec::new(alloc);
+    for through in entry.lets.as_slice() {
+        lets.push((through.pass, through.ticket.number(), through.ticket.wait()))?;
+    }
+    Ok(lets)
+}
+
+/// Each command was told what the rules give, with the same replies and at the same place.
+fn compare_lines<R: Abort>(rt: &R, seed: u64, schedule: &Schedule, ran: &Ran) -> Result<(), Fail> {
+    assert_eq!(rt; ran.lines.len(), schedule.lines.len());
+    let mut number = 0u64;
+    for (line, wanted) in ran.lines.iter().zip(&schedule.lines) {
+        assert_eq!(rt; line.told, wanted.told, "seed {seed}, command {number}");
+        assert_eq!(rt;
+            line.at,
+            wanted.at,
+            "the place, seed {seed}, command {number}"
+        );
+        assert!(rt;
+            line.replies == wanted.replies,
+            "the replies differ, seed {seed}, command {number}"
+        );
+        number = number.wrapping_add(1);
+    }
+    Ok(())
+}
+
+/// The entry is this step.
+fn compare_entry<R: Abort>(
+    rt: &R,
+    alloc: Global,
+    seed: u64,
+    entry: &Entry,
+    step: &Step,
+) -> Result<(), Fail> {
+    assert_eq!(rt;
+        entry.key.as_bytes(),
+        [step.key].as_slice(),
+        "the key, seed {seed}"
+    );
+    assert_eq!(rt; entry.pass, step.pass, "the pass, seed {seed}");
+    assert_eq!(rt; asked_of(&entry.call), step.asked, "the call, seed {seed}");
+    assert_eq!(rt; entry.reply, step.reply, "the reply, seed {seed}");
+    assert!(rt;
+        lets_of(alloc, entry)? == step.lets,
+        "the lets differ, seed {seed}"
+    );
+    Ok(())
+}
+
+/// The history is that of the shard at this place, from 0.
+fn compare_history<R: Abort>(
+    rt: &R,
+    alloc: Global,
+    seed: u64,
+    schedule: &Schedule,
+    shard: u64,
+    history: &[Entry],
+) -> Result<(), Fail> {
+    let mut entries = history.iter();
+    for step in schedule.second.steps() {
+        if schedule.second.shard_of(step.key) == shard {
+            let entry = entries.next().ok_or("an entry")?;
+            compare_entry(rt, alloc, seed, entry, step)?;
+        }
+    }
+    assert!(rt; entries.next().is_none(), "an entry too many, seed {seed}");
+    Ok(())
+}
+
+/// The run came out as the rules give.
+fn compare<R: Abort>(
+    rt: &R,
+    alloc: Global,
+    seed: u64,
+    schedule: &Schedule,
+    ran: &Ran,
+) -> Result<(), Fail> {
+    compare_lines(rt, seed, schedule, ran)?;
+    assert_eq!(rt;
+        ran.histories.draws,
+        schedule.second.draws(),
+        "the draws, seed {seed}"
+    );
+    assert_eq!(rt;
+        ran.histories.shards.len(),
+        schedule.config.shards,
+        "seed {seed}"
+    );
+    let mut shard = 0;
+    for history in &ran.histories.shards {
+        compare_history(rt, alloc, seed, schedule, shard, history)?;
+        shard = shard.wrapping_add(1);
+    }
+    Ok(())
+}
+
+/// One schedule on both tables.
+fn compare_both<R: Abort + Wait>(
+    rt: &R,
+    alloc: Global,
+    seed: u64,
+    counts: &mut Counts,
+) -> Result<(), Fail> {
+    let schedule = random_schedule(alloc, seed, counts).ok_or("the schedule")?;
+    let linked = run(rt, alloc, schedule.config, &schedule.rows).ok_or("the linked tables")?;
+    compare(rt, alloc, seed, &schedule, &linked)?;
+    let plain = run_plain(rt, alloc, schedule.config, &schedule.rows).ok_or("the plain tables")?;
+    compare(rt, alloc, seed, &schedule, &plain)
+}
+
+#[test]
+fn both_tables_agree_with_the_rules_read_a_second_time(rt: HostRuntime) -> Result<(), Fail> {
+    let mut counts = Counts::new();
+    for seed in 0..1_000 {
+        compare_both(&rt, rt.alloc(), seed, &mut counts)?;
+    }
+    assert_eq!(rt; counts.missing(), None);
+    Ok(())
+}
