@@ -116,13 +116,8 @@ impl Steps {
         count
     }
 
-    /// What the key's record gives, and whom it lets through.
-    fn answer(
-        &mut self,
-        pass: u32,
-        key: u8,
-        asked: Asked,
-    ) -> Result<(Reply, Vec<Let>), AllocError> {
+    /// The step that the key's record makes.
+    fn step(&mut self, pass: u32, key: u8, asked: Asked) -> Result<Step, AllocError> {
         let alloc = self.alloc;
         let record = self.keys.entry(key)?.or_insert(Second::new(alloc));
         record.lets.clear();
@@ -150,7 +145,13 @@ impl Steps {
             Asked::Leave { number } => record.leave(alloc, number)?,
             Asked::Look { number } => record.look(number),
         };
-        Ok((reply, record.lets.clone()?))
+        Ok(Step {
+            pass,
+            key,
+            asked,
+            reply,
+            lets: record.lets.clone()?,
+        })
     }
 
     /// Makes the step. None, and nothing changes, where the key's shard has made as many steps as it may.
@@ -159,14 +160,9 @@ impl Steps {
         if at >= self.max_steps {
             return Ok(None);
         }
-        let (reply, lets) = self.answer(pass, key, asked)?;
-        self.made.push(Step {
-            pass,
-            key,
-            asked,
-            reply,
-            lets,
-        })?;
+        let step = self.step(pass, key, asked)?;
+        let reply = step.reply;
+        self.made.push(step)?;
         Ok(Some(Made { reply, at }))
     }
 }
