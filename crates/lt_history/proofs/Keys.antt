@@ -70,14 +70,6 @@ upto_before a b c p q =
       | inr lt ↦ before_before a b c lt q
     ]
 
--- a is not after b, nor b after c
-pub upto_upto : (a b c : List ℕ) → precedes b a ≡ false → precedes c b ≡ false → precedes c a ≡ false
-upto_upto a b c p q =
-    elim (same_or_after b c q) [
-      | inl e ↦ subst (λ (x : List ℕ). precedes x a ≡ false) (sym (same_key c b e)) p
-      | inr lt ↦ not_back a c (upto_before a b c p lt)
-    ]
-
 -- a is before b, and b not after c
 pub before_upto : (a b c : List ℕ) → precedes a b ≡ true → precedes c b ≡ false → precedes a c ≡ true
 before_upto a b c p q =

@@ -54,10 +54,6 @@ pub stand_of-unowned : (x : Option Node) → stand_of (unowned x) ≡ stand_of x
 stand_of-unowned None = refl
 stand_of-unowned (Some d) = refl
 
-pub is_some-unowned : (x : Option Node) → is_some (unowned x) ≡ is_some x
-is_some-unowned None = refl
-is_some-unowned (Some d) = refl
-
 -- what is not of a node's neighbours in its queue
 module _ (o o' : Option Node) (same : unqueued o' ≡ unqueued o) where
   pub over : {X : Type 0} (f : Option Node → X) → ((x : Option Node) → f (unqueued x) ≡ f x) → f o' ≡ f o

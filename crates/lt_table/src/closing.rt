@@ -176,34 +176,17 @@ fn all_passes(mut passes: Vec<Pass>, guards: Vec<Guard>) -> Vec<Pass>
     passes
 }
 
-/// The shards out of their locks.
-fn unlock_all<N: Name, T: KeyTable + Drop>(
-    slots: Vec<Slot<N, T>>,
-    mut shards: Vec<Shard<N, T>>,
-) -> Vec<Shard<N, T>>
-    requires empty { shards.items ≡ [] }
-    requires room { length slots.items ≤ vec_capacity shards }
-    ensures { length result.items ≡ length slots.items }
+/// What is made of each item, in order, for which there is room.
+fn each_into<A: Drop, B: Drop, F: Fn(A) -> B>(items: Vec<A>, mut made: Vec<B>, make: F) -> Vec<B>
+    requires callable { F.IsAlwaysCallable make }
+    requires empty { made.items ≡ [] }
+    requires room { length items.items ≤ vec_capacity made }
+    ensures { length result.items ≡ length items.items }
 {
-    for slot in slots {
-        shards.push_reserved(slot.into_shard());
+    for item in items {
+        made.push_reserved(make(item));
     }
-    shards
-}
-
-/// The shards behind locks again.
-fn lock_all<N: Name, T: KeyTable + Drop>(
-    shards: Vec<Shard<N, T>>,
-    mut slots: Vec<Slot<N, T>>,
-) -> Vec<Slot<N, T>>
-    requires empty { slots.items ≡ [] }
-    requires room { length shards.items ≤ vec_capacity slots }
-    ensures { length result.items ≡ length shards.items }
-{
-    for shard in shards {
-        slots.push_reserved(Slot::new(shard));
-    }
-    slots
+    made
 }
 
 /// Room for the shards, for their locks if the table comes back, and for their histories.
@@ -307,13 +290,13 @@ impl<N: Name, T: KeyTable + Drop> Table<N, T> {
             book,
             shards,
         } = self;
-        let shards = unlock_all(shards, room.shards);
+        let shards = each_into(shards, room.shards, |slot| slot.into_shard());
         if let Some(place) = first_miscounted(&shards, &passes, &guards) {
             return Err(CloseRefused {
                 table: Table {
                     config,
                     book,
-                    shards: lock_all(shards, room.slots),
+                    shards: each_into(shards, room.slots, |shard| Slot::new(shard)),
                 },
                 passes,
                 guards,

@@ -12,12 +12,16 @@ use thiserror::Error;
 /// Why a request does not enter.
 #[derive(Clone, Copy, Debug, PartialEq, Eq, Drop, Error)]
 pub enum EnterError {
+    /// It names no key.
     #[error("a request names at least one key")]
     NoKeys,
+    /// It names more than 256 accesses; a key that is named twice counts twice.
     #[error("a request names at most 256 accesses")]
     TooManyKeys,
+    /// There was no memory for its key list and the answers of its scans.
     #[error("out of memory")]
     Memory,
+    /// As many requests have entered as the table takes.
     #[error("all numbers are drawn")]
     NumbersOut,
 }

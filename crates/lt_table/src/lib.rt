@@ -17,10 +17,10 @@
 //! table.finish(rt, &mut pass, &key, txn)?;                             // at its end: the lock is free, the next may go
 //! ```
 //!
-//! A scan never blocks: at a conflict the request stands in the key's queue and the scan answers `Waiting`. A poll is one
-//! load of the pass's own status word, so a thread may poll as often as it likes, or do something else meanwhile. Keys
-//! are spread over 1 to 64 shards by the sum of their bytes; each shard has a lock of its own, and a call holds at most
-//! one of them, for one key step.
+//! A scan waits for the locks of shards alone: at a conflict its request stands in the key's queue, and it answers
+//! `Waiting`. A poll is one load of the pass's own status word, so a thread may poll as often as it likes, or do something
+//! else meanwhile. Keys are spread over 1 to 64 shards by the sum of their bytes; each shard has a lock of its own, and a
+//! call holds at most one of them, for one key step.
 //!
 //! **What is promised**, in any schedule: each key step that a call reports stands with its reply in one legal history of
 //! all steps, once, and after all that its caller had seen; a request that is read as let through was let through there; no

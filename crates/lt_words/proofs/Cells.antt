@@ -6,7 +6,7 @@ use Rattle.std.proofs.lemmas.List.{set-get_or}
 use Rattle.logbook.specs.Pages.{Cell, cell}
 use Rattle.lt_history.specs.declared.entry.Entry.{Entry}
 use Rattle.lt_words.specs.declared.event.Event.{Event}
-use Rattle.lt_words.specs.declared.event.Event.TheVariants.{Opened, Draw, Step}
+use Rattle.lt_words.specs.declared.event.Event.TheVariants.{Draw, Step}
 use Rattle.lt_words.specs.History.{part, draws_of, shard_of, MayFollow}
 use Rattle.lt_words.specs.Rules.{IsKept, IsStatus, ShowsLet}
 use Rattle.lt_words.proofs.Histories.{part-append, draws_of-append, let_more, legal_draw, legal_step}
@@ -30,10 +30,6 @@ shows_more h more p n l = record { ticket = l.ticket; number = l.number; wait = 
 -- a status word goes on to say what it says
 pub status_more : (h more : List Event) (p t : ℕ) → IsStatus h p t → IsStatus (h ++ more) p t
 status_more h more p t s = ⊎_elim (λ z. inl z) (λ l. inr (shows_more h more p t l)) s
-
--- the opening entry lets nobody through
-pub status_opened : (shards passes : ℕ) (h : List Event) (p n : ℕ) → IsStatus h p n → IsStatus (Opened shards passes ∷ h) p n
-status_opened shards passes h p n s = ⊎_elim (λ z. inl z) (λ l. inr (record { ticket = l.ticket; number = l.number; wait = l.wait; value = l.value; through = l.through })) s
 
 -- nothing changes
 pub kept_same : (cs : List Cell) (log : List Event) (k : ℕ) → IsKept cs log → k < length cs → IsKept (set cs k ((cell cs k).0, true)) (log ++ [])

@@ -1,5 +1,5 @@
 -- Steps on one word keep the rule, and tell what they tell.
-use Rattle.std.proofs.Common.{◌≡◌, ◌≢◌, ℕ, ◌+◌, ◌-◌, ◌<◌, ◌≤◌, ◌==◌, Bool, true, false, List, [], ◌∷◌, ◌++◌, length, set, refl, ap, sym, subst, ◌∙◌, inl, inr, arith, append-nil, eq-eqb, ne_eqb, Option, None, MatchBool}
+use Rattle.std.proofs.Common.{◌≡◌, ◌≢◌, ℕ, ◌+◌, ◌<◌, ◌≤◌, ◌==◌, Bool, true, false, List, [], ◌∷◌, ◌++◌, length, set, refl, ap, sym, subst, ◌∙◌, inl, inr, arith, append-nil, eq-eqb, ne_eqb, Option, None, MatchBool}
 use mathlib.Core.List.{IsPrefix}
 use prog.Atomic.{either}
 use Rattle.logbook.specs.Pages.{Cell, cell, Act, keeps, cells_after, nib_after, Valid, Runs, View, no_nib, step, Moves}
@@ -9,11 +9,11 @@ use Rattle.lt_words.specs.declared.event.Event.{Event}
 use Rattle.lt_words.specs.declared.event.Event.TheVariants.{Opened, Draw, Step}
 use Rattle.lt_ids.specs.Ticket.{Wait, value_of, IsNumber, IsWaitNumber}
 use Rattle.lt_words.specs.History.{part, draws_of, shard_of, IsLegalHistory, MayFollow, LetIn}
-use Rattle.lt_words.specs.Rules.{history_of, IsLog, IsKept, IsStatus, IsGood, Counts, Reads, AddsDraw, AddsStep, Meets, Sees}
+use Rattle.lt_words.specs.Rules.{history_of, IsLog, IsKept, IsGood, AddsDraw, AddsStep, Sees}
 use Rattle.lt_words.specs.Row.{GoesTo}
 use Rattle.lt_words.proofs.Prefixes.{prefix_trans, prefix_head, prefix_tail}
 use Rattle.lt_words.proofs.Histories.{part_same, let_more}
-use Rattle.lt_words.proofs.Cells.{kept_same, kept_draw, kept_step, kept_status, status_opened}
+use Rattle.lt_words.proofs.Cells.{kept_same, kept_draw, kept_step, kept_status}
 
 abbrev pub shown : List Event → List Event
 shown log = []
@@ -24,28 +24,6 @@ moved xs ys n = Unit {0}
 -- a view with no pen and no answer
 abbrev pub at_rest : List Event → View Event ℕ
 at_rest v = (v, (no_nib, None))
-
-abbrev Telling : Type 1
-Telling = ℕ → View Event ℕ → Type 0
-
--- a load
-pub loads : (k : ℕ) (v : List Event) (T : ℕ → View Event ℕ → Type 0)
-    → ((cs : List Cell) (log : List Event) → IsKept cs log → IsPrefix v log → (k < length cs) × T (cell cs k).0 (at_rest log))
-    → Moves IsKept shown moved k (at_rest v) (λ n. n) T
-loads k v T see cs log kept pre away =
-    let s = see cs log kept pre in (
-      s.0,
-      kept.home k s.0,
-      (
-        keeps,
-        [],
-        None,
-        tt,
-        kept_same cs log k kept s.0,
-        inl (refl, refl),
-        subst (λ (l : List Event). T (cell cs k).0 (at_rest l)) (sym (append-nil log)) s.1,
-      ),
-    )
 
 -- an exchange: the word was as expected, and something was added; or nothing changed
 pub exchanges : (k : ℕ) (v : List Event) (old new : ℕ) (T : ℕ → View Event ℕ → Type 0)
@@ -80,22 +58,11 @@ same_sizes shards passes v s p h log is opened pre =
     let heads : Opened shards passes ≡ Opened s p = prefix_head _ _ _ _ both in
     (cc, cc, prefix_tail _ _ _ _ both)
 
--- a log that goes on from one with these numbers is one too
-pub good_again : (shards passes : ℕ) (v w : List Event) → IsLog shards passes v → IsGood w → IsPrefix v w → IsLog shards passes w
-good_again shards passes v w is g pre =
-    let same = same_sizes shards passes v g.0 g.1 (history_of w) w is g.2.opened pre in
-    subst (λ (t : ℕ × ℕ). IsLog t.0 t.1 w) (λ i. (same.0 i, same.1 i)) g.2
-
 match_true : (b : Bool) (P Q : Type 0) → b ≡ true → P → MatchBool b P Q
 match_true b P Q e p = subst (λ (c : Bool). MatchBool c P Q) (sym e) p
 
 match_false : (b : Bool) (P Q : Type 0) → b ≡ false → Q → MatchBool b P Q
 match_false b P Q e q = subst (λ (c : Bool). MatchBool c P Q) (sym e) q
-
--- the number word is loaded
-pub count_moves : (v : List Event) (ask : Event) → Moves IsKept shown moved 0 (at_rest v) (λ n. n) (Counts (step 0 0 0 ask) (at_rest v))
-count_moves v ask = loads 0 v (Counts (step 0 0 0 ask) (at_rest v))
-    (λ cs log kept pre. (omega (arith, kept.many), (good cs log kept, ap draws_of kept.opened ∙ sym kept.number)))
 
 -- the number word goes from old to old + 1
 pub draw_moves : (v : List Event) (pass old new : ℕ) → new ≡ old + 1
@@ -131,37 +98,6 @@ step_moves shards passes v front shard old new entry is begins small many one at
       (good _ _ next, match_true (old == old) _ _ (eq-eqb old old refl) (log, pre, ap (λ l. length (part shard l)) kept.opened ∙ counted, refl)),
     ))
     (λ cs log kept pre ne. (good cs log kept, match_false ((cell cs (shard + 1)).0 == old) _ _ (ne_eqb (cell cs (shard + 1)).0 old ne) tt))
-
-same_again : (cs : List Cell) (log : List Event) (k n : ℕ) → IsKept cs log → k < length cs → (cell cs k).0 ≡ n → IsKept (set cs k (n, true)) (log ++ [])
-same_again cs log k n kept inside e = subst (λ (m : ℕ). IsKept (set cs k (m, true)) (log ++ [])) e (kept_same cs log k kept inside)
-
--- a step word is exchanged for itself
-pub meet_moves : (v : List Event) (shard old : ℕ) (ask : Event) → shard < 64
-    → Moves IsKept shown moved (shard + 1) (at_rest v) (λ n. either (n == old) old n) (Meets (step (shard + 1) old old ask) (at_rest v))
-meet_moves v shard old ask small =
-    let T : ℕ → View Event ℕ → Type 0 = Meets (step (shard + 1) old old ask) (at_rest v) in
-    exchanges (shard + 1) v old old T
-    (λ cs log kept pre. omega (arith, kept.many))
-    (λ cs log kept pre e.
-    let back : (shard + 1) - 1 ≡ shard = omega arith in
-    let counted : length (part shard log) ≡ old = ap (λ l. length (part shard l)) kept.opened ∙ (sym (kept.steps shard small) ∙ e) in
-    let all = append-nil log in (
-      [],
-      same_again cs log (shard + 1) old kept (omega (arith, kept.many)) e,
-      subst (λ (l : List Event). T old (at_rest l)) (sym all) (good cs log kept, match_true (old == old) _ _ (eq-eqb old old refl) (subst (λ (s : ℕ). length (part s log) ≡ old) (sym back) counted)),
-    ))
-    (λ cs log kept pre ne. (good cs log kept, match_false ((cell cs (shard + 1)).0 == old) _ _ (ne_eqb (cell cs (shard + 1)).0 old ne) tt))
-
--- a status word is loaded
-pub read_moves : (shards passes : ℕ) (v : List Event) (pass : ℕ) (ask : Event) → IsLog shards passes v → 0 < pass → pass ≤ passes
-    → Moves IsKept shown moved (pass + 64) (at_rest v) (λ n. n) (Reads (step (pass + 64) 0 0 ask) (at_rest v))
-read_moves shards passes v pass ask is low high = loads (pass + 64) v (Reads (step (pass + 64) 0 0 ask) (at_rest v))
-    (λ cs log kept pre.
-    let sizes = same_sizes shards passes v kept.shards kept.passes kept.history log is kept.opened pre in
-    let back : (pass + 64) - 64 ≡ pass = omega arith in
-    let said : IsStatus kept.history pass (cell cs (pass + 64)).0 = kept.status pass low (omega (arith, sizes.1)) in
-    let whole : IsStatus log pass (cell cs (pass + 64)).0 = subst (λ (l : List Event). IsStatus l pass (cell cs (pass + 64)).0) (sym kept.opened) (status_opened kept.shards kept.passes kept.history pass (cell cs (pass + 64)).0 said) in
-    (omega (arith, kept.many, sizes.1), (good cs log kept, subst (λ (p : ℕ). IsStatus log p (cell cs (pass + 64)).0) (sym back) whole)))
 
 -- a status word goes to a ticket that was let through
 pub signal_moves : (shards passes : ℕ) (v : List Event) (pass old new : ℕ) (t : Wait) (ask : Event) → IsLog shards passes v → 0 < pass → pass ≤ passes → IsNumber t.number → IsWaitNumber t.wait → new ≡ value_of t → LetIn (history_of v) pass t

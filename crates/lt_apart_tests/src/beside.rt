@@ -1,0 +1,225 @@
+//! One thread is inside a shard, and another makes a call.
+ghost use Rattle.std.specs.Prelude.{◌≡◌, IfOk, length};
+ghost use Rattle.std.specs.List.{All};
+ghost use Rattle.std.specs.FinMap as finmap;
+
+use crate::seat::{Seat, Waiter, seated};
+use crate::watched::{Stop, Watched};
+use lt_ids::{Access, Key, Timestamp, TxnId};
+use lt_plain::{KeyTable, Reply};
+use lt_table::{Config, Poll, Ready, Scan, Table, open_with, prepare};
+use lt_words::Name;
+use std::alloc::{AllocError, Global};
+use std::marker::Brand;
+use std::sync::Wait;
+use std::thread::{Threads, join};
+
+const TIME: Timestamp = Timestamp {
+    wall: 1,
+    logical: 0,
+};
+
+/// What came of two acquires at once.
+#[derive(Clone, Copy, Debug, PartialEq, Eq)]
+pub struct Apart {
+    /// The shards of the two keys.
+    pub shards: (usize, usize),
+    pub first: Reply,
+    pub second: Reply,
+    /// The second had returned before the first went on.
+    pub is_apart: bool,
+}
+
+/// What came of a poll while another thread was inside the shard of the key that the request waits for.
+#[derive(Clone, Copy, Debug, PartialEq, Eq)]
+pub struct Polled {
+    pub scan: Scan,
+    pub poll: Poll,
+    pub acquire: Reply,
+    /// The poll had returned before the acquire went on.
+    pub is_apart: bool,
+}
+
+/// So many empty tables with one stop.
+fn watched_tables<'a>(
+    alloc: Global,
+    count: usize,
+    stop: &'a Stop,
+) -> Result<Vec<Watched<'a>>, AllocError>
+    ensures many { IfOk result (λ tables. length tables.items ≡ count) }
+    ensures empty { IfOk result (λ tables. All (λ t. t.table ≡ finmap.empty) tables.items) }
+{
+    let mut tables = Vec::new(alloc);
+    for _ in 0..count {
+        tables.push(Watched::new(alloc, stop))?;
+    }
+    Ok(tables)
+}
+
+/// The transaction takes the lock of the key.
+fn acquire<N: Name, T: KeyTable, R: Wait>(
+    rt: &R,
+    alloc: Global,
+    table: &Table<N, T>,
+    seat: Seat<N>,
+    txn: u64,
+    key: u8,
+) -> Option<Reply> {
+    let mut pass = seat.into_pass();
+    let key = Key::from_bytes(alloc, &[key]).ok()?;
+    let txn = TxnId::new(txn)?;
+    let answer = table.acquire(rt, &mut pass, &key, txn, TIME).ok()?;
+    Some(answer.reply)
+}
+
+/// Takes the lock of the key once another thread is at the stop, and then lets that one go on.
+fn acquire_beside<N: Name, T: KeyTable, R: Wait>(
+    rt: &R,
+    alloc: Global,
+    table: &Table<N, T>,
+    seat: Seat<N>,
+    key: u8,
+    stop: &Stop,
+) -> Option<Reply> {
+    let has_come = stop.come.wait();
+    let reply = acquire(rt, alloc, table, seat, 2, key);
+    stop.go.set();
+    if has_come { reply } else { None }
+}
+
+fn shard_of<N: Name, T: KeyTable>(alloc: Global, table: &Table<N, T>, key: u8) -> Option<usize> {
+    let key = Key::from_bytes(alloc, &[key]).ok()?;
+    Some(table.shard_of(&key))
+}
+
+fn two_acquires_named<N: Name + Send + Sync, R: Threads + Wait + Sync>(
+    rt: &R,
+    alloc: Global,
+    ready: Ready,
+    shards: usize,
+    keys: (u8, u8),
+) -> Option<Apart>
+    requires named { ready.of ≡ N.of }
+    requires many { ready.of.shards ≡ shards }
+{
+    let stop = Stop::at(keys.0);
+    let at = &stop;
+    let tables = watched_tables(alloc, shards, at).ok()?;
+    let (table, passes) = open_with::<N, Watched<'_>>(alloc, ready, tables).ok()?;
+    let mut seats = seated::<N>(alloc, passes)?;
+    let two = seats.pop()?;
+    let one = seats.pop()?;
+    let shards = (
+        shard_of(alloc, &table, keys.0)?,
+        shard_of(alloc, &table, keys.1)?,
+    );
+    let inside = &table;
+    let (first, second) = join(
+        rt,
+        move || acquire(rt, alloc, inside, one, 1, keys.0),
+        move || acquire_beside(rt, alloc, inside, two, keys.1, at),
+    );
+    Some(Apart {
+        shards,
+        first: first?,
+        second: second?,
+        is_apart: stop.gone.is_set(),
+    })
+}
+
+fn config_of(shards: usize, passes: usize) -> Config
+    ensures { result.shards ≡ shards }
+{
+    Config {
+        shards,
+        passes,
+        max_steps: 10,
+        max_requests: 10,
+        max_waits: 10,
+    }
+}
+
+/// One thread takes the lock of the first key, and while it is inside the shard of that key, another takes that of the
+/// second key.
+pub fn two_acquires<R: Threads + Wait + Sync>(
+    rt: &R,
+    alloc: Global,
+    shards: usize,
+    keys: (u8, u8),
+) -> Option<Apart> {
+    let ready = prepare(alloc, config_of(shards, 2)).ok()?;
+    two_acquires_named::<Brand, R>(rt, alloc, ready, shards, keys)
+}
+
+/// Polls once another thread is at the stop, and then lets that one go on.
+fn poll_beside<N: Name, T: KeyTable>(
+    table: &Table<N, T>,
+    waiter: Waiter<N>,
+    stop: &Stop,
+) -> Option<Poll> {
+    let mut guard = waiter.into_guard();
+    let has_come = stop.come.wait();
+    let poll = table.poll(&mut guard);
+    stop.go.set();
+    if has_come { Some(poll) } else { None }
+}
+
+/// A request that comes to write the key, and what its scan was told.
+fn scanned<N: Name, T: KeyTable, R: Wait>(
+    rt: &R,
+    alloc: Global,
+    table: &Table<N, T>,
+    seat: Seat<N>,
+    txn: u64,
+    key: u8,
+) -> Option<(Waiter<N>, Scan)> {
+    let key = Key::from_bytes(alloc, &[key]).ok()?;
+    let txn = TxnId::new(txn)?;
+    let mut accesses = Vec::new(alloc);
+    accesses.push((key, Access::Write)).ok()?;
+    let Ok(mut guard) = table.enter(rt, alloc, seat.into_pass(), txn, TIME, &accesses) else {
+        return None;
+    };
+    let scan = table.scan(rt, &mut guard).ok()?;
+    Some((Waiter::new(guard), scan))
+}
+
+fn poll_named<N: Name + Send + Sync, R: Threads + Wait + Sync>(
+    rt: &R,
+    alloc: Global,
+    ready: Ready,
+    keys: (u8, u8),
+) -> Option<Polled>
+    requires named { ready.of ≡ N.of }
+    requires many { ready.of.shards ≡ 1 }
+{
+    let stop = Stop::at(keys.0);
+    let at = &stop;
+    let tables = watched_tables(alloc, 1, at).ok()?;
+    let (table, passes) = open_with::<N, Watched<'_>>(alloc, ready, tables).ok()?;
+    let mut seats = seated::<N>(alloc, passes)?;
+    let three = seats.pop()?;
+    let two = seats.pop()?;
+    let one = seats.pop()?;
+    acquire(rt, alloc, &table, one, 1, keys.1)?;
+    let (waiter, scan) = scanned(rt, alloc, &table, two, 2, keys.1)?;
+    let inside = &table;
+    let (first, second) = join(
+        rt,
+        move || acquire(rt, alloc, inside, three, 3, keys.0),
+        move || poll_beside(inside, waiter, at),
+    );
+    Some(Polled {
+        scan,
+        poll: second?,
+        acquire: first?,
+        is_apart: stop.gone.is_set(),
+    })
+}
+
+/// A request waits for the second key, and while a thread is inside the one shard of both keys to take the lock of the
+/// first, another thread polls.
+pub fn poll<R: Threads + Wait + Sync>(rt: &R, alloc: Global, keys: (u8, u8)) -> Option<Polled> {
+    let ready = prepare(alloc, config_of(1, 3)).ok()?;
+    poll_named::<Brand, R>(rt, alloc, ready, keys)
+}

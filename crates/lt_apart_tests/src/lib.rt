@@ -1,0 +1,13 @@
+//! What works beside a thread that is inside a shard: a call at another shard, and a poll of that very shard's waiter.
+//!
+//! A [`watched::Watched`] is the table of a shard whose acquire of one key goes no further, while it holds the shard's
+//! lock, until another thread sets a flag. [`beside`] has the two runs: in each the other thread sets the flag once its
+//! own call has returned, so a call that waits for the lock is seen.
+#![tactic(auto)]
+
+pub mod beside;
+pub mod flag;
+pub mod seat;
+#[cfg(test)]
+mod tests;
+pub mod watched;

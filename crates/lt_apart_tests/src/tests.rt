@@ -1,0 +1,41 @@
+use crate::beside::{Apart, Polled, poll, two_acquires};
+use lt_plain::Reply;
+use lt_table::{Poll, Scan};
+use std::test::Fail;
+
+/// Of four shards no two share a lock: at each two of them, one acquire is made while another is inside.
+#[test]
+fn shards_work_apart(rt: HostRuntime) -> Result<(), Fail> {
+    let keys = [(b'a', 1), (b'b', 2), (b'c', 3), (b'd', 0)];
+    for (first, first_shard) in keys {
+        for (second, second_shard) in keys {
+            if first != second {
+                let wanted = Apart {
+                    shards: (first_shard, second_shard),
+                    first: Reply::Taken,
+                    second: Reply::Taken,
+                    is_apart: true,
+                };
+                let apart = two_acquires(&rt, rt.alloc(), 4, (first, second)).ok_or(
+                    "the acquires",
+                )?;
+                assert_eq!(rt; apart, wanted);
+            }
+        }
+    }
+    Ok(())
+}
+
+/// A request waits for a key that is held, and polls while another thread is inside that key's shard.
+#[test]
+fn a_poll_takes_no_lock(rt: HostRuntime) -> Result<(), Fail> {
+    let wanted = Polled {
+        scan: Scan::Waiting(0),
+        poll: Poll::Waiting,
+        acquire: Reply::Taken,
+        is_apart: true,
+    };
+    let polled = poll(&rt, rt.alloc(), (b'a', b'b')).ok_or("the poll")?;
+    assert_eq!(rt; polled, wanted);
+    Ok(())
+}
