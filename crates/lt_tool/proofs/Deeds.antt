@@ -1,5 +1,5 @@
 -- Commands that are done one after the other.
-use Rattle.std.proofs.Common.{◌≡◌, ℕ, List, [], ◌∷◌, ◌++◌, ◌+◌, ◌<◌, length, get_or, take, refl, sym, ap, subst, ◌∙◌}
+use Rattle.std.proofs.Common.{◌≡◌, ℕ, List, [], ◌∷◌, ◌++◌, ◌+◌, ◌<◌, length, get_or, take, sym, ap, subst, ◌∙◌}
 use Rattle.std.proofs.lemmas.List.{map-append, append-nil, take_more}
 use Rattle.std.proofs.lemmas.Grind.{flat_map-append}
 use Rattle.lt_history.specs.declared.entry.Entry.{Entry}
@@ -8,9 +8,6 @@ use Rattle.lt_tool.specs.declared.answer.Answer.{Answer}
 use Rattle.lt_tool.specs.declared.answer.AnswerLine.{AnswerLine}
 use Rattle.lt_tool.specs.Deeds.{Deed, IsDeed, IsDone, answer_line, AreDeeds}
 use Rattle.lt_history.proofs.OneMore.{all_more}
-
-pub none_done : AreDeeds [] [] []
-none_done = record { deeds = []; each = tt; commands_are = refl; answers_are = refl; entries_are = refl }
 
 pub done_more : (commands : List Command) (answers : List AnswerLine) (old new : List Entry) (c : Command) (answer : Answer) (steps : List Entry) → AreDeeds commands answers old → new ≡ old ++ steps → IsDone c.pass c.action answer steps
     → AreDeeds (commands ++ c ∷ []) (answers ++ (record { pass = c.pass; line = c.line; answer = answer }) ∷ []) new

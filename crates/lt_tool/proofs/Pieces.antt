@@ -1,5 +1,5 @@
 -- Bytes that are read piece after piece.
-use Rattle.std.proofs.Common.{◌≡◌, ℕ, ◌<◌, ◌≤◌, List, [], ◌∷◌, ◌++◌, length, take, Option, Some, None, refl, sym, ap, ◌∙◌, append_assoc, arith, length-append, length-take-le}
+use Rattle.std.proofs.Common.{◌≡◌, ℕ, ◌<◌, ◌≤◌, List, ◌++◌, length, take, Option, Some, None, sym, ap, ◌∙◌, append_assoc, arith, length-append, length-take-le}
 use Rattle.std.specs.Prelude.{IfSome}
 use Rattle.std.specs.Io.KnownBytes.{Consumes, IsAtEnd}
 use Rattle.std.proofs.lemmas.List.{append-nil}
@@ -18,10 +18,6 @@ at_end : (first last : Option (List ℕ)) (text : List ℕ) → Consumes first l
 at_end None last text h e = tt
 at_end (Some xs) None text h e = absurd h
 at_end (Some xs) (Some ys) text h e = sym (h ∙ (ap (λ (t : List ℕ). text ++ t) e ∙ append-nil text))
-
-no_bytes : (bytes : List ℕ) → length bytes ≡ 0 → bytes ≡ []
-no_bytes [] e = refl
-no_bytes (b ∷ bs) e = absurd (omega arith)
 
 pub whole : (first mid last : Option (List ℕ)) (old new : List ℕ) (n : ℕ) → Consumes first mid old → IsPiece mid last old new n → n ≡ 0 → IfSome first (λ all. new ≡ all)
 whole first mid last old new n h p z = at_end first last new (more first mid last old new n h p) (p.at_end z)
