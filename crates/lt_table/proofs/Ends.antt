@@ -9,7 +9,7 @@ use native.Mathlib.Decide.{ℕ_discrete}
 use mathlib.Core.Logic.{dite}
 use mathlib.Core.List.{IsPrefix}
 use Rattle.lt_history.specs.declared.entry.Entry.{Entry}
-use Rattle.lt_history.specs.Histories.{AreLegalKeys}
+use Rattle.lt_history.specs.Histories.{AreLegalKeys, IsInRange}
 use Rattle.lt_words.specs.declared.event.Event.{Event}
 use Rattle.lt_words.specs.History.{part, draws_of, shard_of, IsLegalHistory}
 use Rattle.lt_words.specs.Row.{Opening, Seer, SeesMore}
@@ -59,15 +59,16 @@ was_met of v w old new es kept index stored is met more =
     record {
       legal = subst AreLegalKeys (sym is) kept.legal;
       home = subst (λ i. AllByRecursion (λ e. i ≡ shard_of e.key of.shards) es) index (subst (AllByRecursion (λ e. w.index ≡ shard_of e.key of.shards)) (sym is) kept.home);
+      in_range = subst (AllByRecursion IsInRange) (sym is) kept.in_range;
       within = subst (IsPrefix (part v.index old.seen)) (sym all) (part_prefix v.index old.seen new.seen more);
       behind = prefix_same es (part v.index new.seen) (sym all);
     }
 
 met_later : (of : Opening) (old mid new : Seer) (s : ℕ) (es : List Entry) → IsMet of old mid s es → IsPrefix mid.seen new.seen → IsMet of old new s es
-met_later of old mid new s es m more = record { legal = m.legal; home = m.home; within = m.within; behind = prefix_trans es (part s mid.seen) (part s new.seen) m.behind (part_prefix s mid.seen new.seen more) }
+met_later of old mid new s es m more = record { legal = m.legal; home = m.home; in_range = m.in_range; within = m.within; behind = prefix_trans es (part s mid.seen) (part s new.seen) m.behind (part_prefix s mid.seen new.seen more) }
 
 met_before : (of : Opening) (old mid new : Seer) (s : ℕ) (es : List Entry) → IsMet of mid new s es → IsPrefix old.seen mid.seen → IsMet of old new s es
-met_before of old mid new s es m more = record { legal = m.legal; home = m.home; within = prefix_trans (part s old.seen) (part s mid.seen) es (part_prefix s old.seen mid.seen more) m.within; behind = m.behind }
+met_before of old mid new s es m more = record { legal = m.legal; home = m.home; in_range = m.in_range; within = prefix_trans (part s old.seen) (part s mid.seen) es (part_prefix s old.seen mid.seen more) m.within; behind = m.behind }
 
 -- at each place of a list and of one more, a fact of the item there
 at_each : {A : Type 0} (P : ℕ → A → Type 0) (xs : List A) (x : A) (n : ℕ) → n ≡ length xs → ((s : ℕ) (d : A) → s < n → P s (get_or xs s d)) → P n x → (s : ℕ) (d : A) → s < n + 1 → P s (get_or (xs ++ x ∷ []) s d)
@@ -105,6 +106,7 @@ ends of ps vs hs one two three draws seen met first second legal drawn many coun
       record {
         legal = m.legal;
         home = m.home;
+        in_range = m.in_range;
         counted = ap length (met.same s v d (omega (arith, lt, many))) ∙ (counted s v lt).counted;
         seen = each_seen ps (λ h p. prefix_trans (part s h) (part s one.seen) (get_or hs s d).items (part_prefix s h one.seen p) m.within) seen;
         stands = prefix_trans (get_or hs s d).items (part s two.seen) (part s three.seen) m.behind (part_prefix s two.seen three.seen second);

@@ -4,7 +4,7 @@ use Rattle.std.specs.Global.{Vec}
 use Rattle.std.specs.List.{AllByRecursion}
 use mathlib.Core.List.{IsPrefix}
 use Rattle.lt_history.specs.declared.entry.Entry.{Entry}
-use Rattle.lt_history.specs.Histories.{AreLegalKeys}
+use Rattle.lt_history.specs.Histories.{AreLegalKeys, IsInRange}
 use Rattle.lt_words.specs.declared.event.Event.{Event}
 use Rattle.lt_words.specs.History.{part, draws_of, shard_of, IsLegalHistory}
 use Rattle.lt_words.specs.Row.{Opening, Seer}
@@ -24,9 +24,10 @@ passes_of passes guards = passes ++ map (λ g. g.pass) guards
 
 -- The final history of a shard.
 pub record IsFinal (of : Opening) (ps : List Seer) (whole : List Event) (s : ℕ) (es : List Entry) : Type 0 where
-  -- it is legal for every key, and of keys of its shard alone
+  -- it is legal for every key, of keys of its shard alone, and can stand in a text of histories
   pub legal : AreLegalKeys es
   pub home : AllByRecursion (λ e. s ≡ shard_of e.key of.shards) es
+  pub in_range : AllByRecursion IsInRange es
   -- it has as many steps as the passes made there
   pub counted : length es ≡ counts_at s ps
   -- what any of the passes had seen of the shard begins it
@@ -60,6 +61,7 @@ pub record IsCounted (ps : List Seer) (s : ℕ) (v : View) : Type 0 where
 pub record IsMet (of : Opening) (old new : Seer) (s : ℕ) (es : List Entry) : Type 0 where
   pub legal : AreLegalKeys es
   pub home : AllByRecursion (λ e. s ≡ shard_of e.key of.shards) es
+  pub in_range : AllByRecursion IsInRange es
   pub within : IsPrefix (part s old.seen) es
   pub behind : IsPrefix es (part s new.seen)
 

@@ -18,6 +18,8 @@ at_start = record { place = 0; waits = 0; waited = false; mode = Free }
 
 -- The guard stands at the start of the key list of what was given, with the number that its pass has just drawn.
 pub record IsEntered (old : Seer) (given : List (List ℕ × Access)) (txn : ℕ) (ts : Timestamp) (max_requests : ℕ) (guard : GuardState) : Type 0 where
+  pub some : given ≢ []
+  pub few : length given ≤ 256
   pub keys : IsKeyList given guard.walk.asked.keys
   pub txn_is : guard.walk.asked.txn ≡ txn
   pub ts_is : guard.walk.asked.ts ≡ ts
