@@ -46,7 +46,27 @@ split_access word =
     else if bytes_eq (drop n word) (codes ":w") then Ok (take n word, Write)
     else Err BadAccess
 
+-- a key with its access, of which the access is looked at first
+abbrev pub access_of : List ℕ → Result (List ℕ × Access) Fault
+access_of word = do
+  parts ← split_access word
+  key ← key_of parts.0
+  Ok (key, parts.1)
+
+-- the keys with their accesses, from left to right
+abbrev pub accesses_of : List (List ℕ) → Result (List (List ℕ × Access)) Fault
+accesses_of [] = Ok []
+accesses_of (word ∷ words) = do
+  first ← access_of word
+  others ← accesses_of words
+  Ok (first ∷ others)
+
 -- ---- so many words, and no more
+
+-- the first word, and those after it
+abbrev pub next_of : List (List ℕ) → Result (List ℕ × List (List ℕ)) Fault
+next_of [] = Err BadWords
+next_of (word ∷ words) = Ok (word, words)
 
 abbrev pub none_of : List (List ℕ) → Result (Unit {0}) Fault
 none_of [] = Ok tt
@@ -72,15 +92,15 @@ three_of (word ∷ words) = do
 
 -- ---- the calls, by what stands after their names
 
--- A request names one key.
+-- A request names any number of keys, also none.
 unfoldable pub open_of : List (List ℕ) → Result Action Fault
 open_of args = do
-  words ← three_of args
-  txn ← txn_of words.0
-  ts ← ts_of words.1
-  parts ← split_access words.2
-  key ← key_of parts.0
-  Ok (Open txn ts key parts.1)
+  first ← next_of args
+  second ← next_of first.1
+  txn ← txn_of first.0
+  ts ← ts_of second.0
+  accesses ← accesses_of second.1
+  Ok (Open txn ts accesses)
 
 unfoldable pub look_of : List (List ℕ) → Result Action Fault
 look_of args = do

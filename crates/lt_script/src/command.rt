@@ -1,18 +1,64 @@
 ghost use Rattle.std.specs.Prelude.{◌≡◌};
+ghost use Rattle.std.specs.Cmp.{partial_equiv_from_equiv};
+ghost use Rattle.std.specs.Cmp.Lexicographic.{pointwise, lists_equiv};
+ghost use Rattle.lt_script.specs.Same.{same_access, same_access_equiv};
 
 use crate::ScriptPass;
 use lt_ids::{Access, Key, Timestamp, TxnId};
 use std::marker::Model;
 
+/// The keys that a request names, each with what it means to do with it, in the order of its line; a key may stand more
+/// than once. In a contract it is their list.
+#[derive(Debug, Drop)]
+pub struct Accesses {
+    accesses: Vec<(Key, Access)>,
+}
+
+impl Model for Accesses {
+    ghost use Rattle.std.specs.Prelude.{ℕ, List};
+    ghost use Rattle.lt_ids.specs.declared.request.Access.{Access};
+
+    ghost Value = { List (List ℕ × Access) };
+
+    ghost view = { λ a. a.accesses.items };
+}
+
+impl Accesses {
+    pub(crate) fn new(accesses: Vec<(Key, Access)>) -> Self
+        ensures { result ≡ accesses.items }
+    {
+        Accesses { accesses }
+    }
+
+    pub fn as_slice(&self) -> &[(Key, Access)]
+        ensures { result.now ≡ self.now }
+    {
+        &self.accesses
+    }
+}
+
+impl PartialEq for Accesses {
+    ghost eq = { pointwise same_access };
+
+    ghost laws = { partial_equiv_from_equiv (lists_equiv same_access_equiv) };
+
+    fn eq(&self, other: &Accesses) -> bool {
+        self.accesses == other.accesses
+    }
+}
+
+impl Eq for Accesses {
+    ghost laws = { lists_equiv same_access_equiv };
+}
+
 /// What a line of a script asks for.
 #[derive(Debug, PartialEq, Eq, Drop)]
 pub enum Action {
-    /// A request of the transaction for the key.
+    /// A request of the transaction for these keys.
     Open {
         txn: TxnId,
         ts: Timestamp,
-        key: Key,
-        access: Access,
+        accesses: Accesses,
     },
     /// The request of the pass visits its keys.
     Scan,

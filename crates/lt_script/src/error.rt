@@ -6,7 +6,7 @@ use std::fmt;
 use thiserror::Error;
 
 /// What is wrong with a line of a script. The first word is looked at first, then the second, then how many words there
-/// are, and then what stands after them, from left to right; of a key with its access, the access comes first.
+/// are, and then what stands after them, from left to right; of each key with its access, the access comes first.
 #[derive(Clone, Copy, Debug, PartialEq, Eq, Error)]
 pub enum Fault {
     /// The first word is no number from 1 to 64.

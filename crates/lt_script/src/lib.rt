@@ -1,6 +1,7 @@
 //! The text of a script, read and checked.
 //!
-//! A script says, line by line, which pass asks for what: to open a request, to scan, to acquire a key and so on.
+//! A script says, line by line, which pass asks for what: to open a request of any number of keys, to scan, to acquire a
+//! key and so on.
 //! [`read_script`] gives its commands, each with its line and its pass, or the first line with a fault and the first
 //! fault in it. It promises both ways: what it gives is just what the text says, and a text without a fault is read
 //! unless memory runs out.
@@ -18,7 +19,7 @@ mod read;
 mod tests;
 mod words;
 
-pub use command::{Action, Command, Script};
+pub use command::{Accesses, Action, Command, Script};
 pub use error::{Fault, ScriptError};
 pub use pass::ScriptPass;
 pub use read::read_script;

@@ -2,12 +2,12 @@ ghost use Rattle.std.specs.Prelude.{◌≡◌};
 ghost use Rattle.lt_text.specs.Fields.{number_within};
 ghost use Rattle.lt_script.specs.Lines.{is_comment};
 ghost use Rattle.lt_script.specs.Reading.{Reads};
-ghost use Rattle.lt_script.specs.Script.{pass_of, txn_of, ts_of, key_of, split_access, none_of, one_of, two_of, three_of, open_of, look_of, acquire_of, update_of, finish_of, alone, action_named, action_of, saying_of, line_of};
+ghost use Rattle.lt_script.specs.Script.{pass_of, txn_of, ts_of, key_of, split_access, access_of, accesses_of, next_of, none_of, one_of, two_of, three_of, open_of, look_of, acquire_of, update_of, finish_of, alone, action_named, action_of, saying_of, line_of};
 
 use crate::command::Saying;
 use crate::error::{Fault, Refusal};
 use crate::words::Words;
-use crate::{Action, ScriptPass};
+use crate::{Accesses, Action, ScriptPass};
 use lt_ids::{Access, IdError, Key, Timestamp, TxnId};
 use lt_text::field;
 use lt_text::number::number;
@@ -70,6 +70,36 @@ fn split_access(word: &[u8]) -> Result<(&[u8], Access), Refusal>
     Err(Refusal::Fault(Fault::BadAccess))
 }
 
+/// A key with its access.
+fn access(alloc: Global, word: &[u8]) -> Result<(Key, Access), Refusal>
+    ensures { Reads (λ access. access) result (access_of word.now) }
+{
+    let (key_word, access) = split_access(word)?;
+    let key = key(alloc, key_word)?;
+    Ok((key, access))
+}
+
+/// The keys with their accesses that all the words left name.
+fn accesses(alloc: Global, words: &mut Words) -> Result<Accesses, Refusal>
+    ensures { Reads (λ accesses. accesses) result (accesses_of words.old) }
+{
+    let mut list = Vec::new(alloc);
+    while let Some(word) = words.next() {
+        list.push(access(alloc, word)?)?;
+    }
+    Ok(Accesses::new(list))
+}
+
+/// The next word; words may be left after it.
+fn next<'a>(words: &mut Words<'a>) -> Result<&'a [u8], Refusal>
+    ensures { Reads (λ word. (word.now, words.new)) result (next_of words.old) }
+{
+    match words.next() {
+        Some(word) => Ok(word),
+        None => Err(Refusal::Fault(Fault::BadWords)),
+    }
+}
+
 /// No word is left.
 fn none(words: &mut Words) -> Result<(), Refusal>
     ensures { Reads (λ _. tt) result (none_of words.old) }
@@ -117,17 +147,12 @@ fn three<'a>(words: &mut Words<'a>) -> Result<(&'a [u8], &'a [u8], &'a [u8]), Re
 fn open(alloc: Global, args: &mut Words) -> Result<Action, Refusal>
     ensures { Reads (λ action. action) result (open_of args.old) }
 {
-    let (txn_word, ts_word, access_word) = three(args)?;
+    let txn_word = next(args)?;
+    let ts_word = next(args)?;
     let txn = txn(txn_word)?;
     let ts = timestamp(ts_word)?;
-    let (key_word, access) = split_access(access_word)?;
-    let key = key(alloc, key_word)?;
-    Ok(Action::Open {
-        txn,
-        ts,
-        key,
-        access,
-    })
+    let accesses = accesses(alloc, args)?;
+    Ok(Action::Open { txn, ts, accesses })
 }
 
 #[tactic(auto, unfolding(crate::specs::Script::look_of))]

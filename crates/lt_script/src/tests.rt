@@ -4,7 +4,16 @@ use std::alloc::Global;
 use std::test::*;
 
 const MIXED: &str =
-    "# a comment\n\n   \r\n7 scan\r\n 64  open 18446744073709551615 0.4294967295 a::r  \n\n1 leave\n2 finish 7 k";
+    "# a comment\n\n   \r\n7 scan\r\n 64  open 18446744073709551615 0.4294967295 a::r   b:w  \n\n1 leave\n2 finish 7 k";
+
+fn reads_and_writes(alloc: Global) -> Option<Accesses> {
+    let mut list = Vec::new(alloc);
+    list.push((Key::from_bytes(alloc, b"a:").ok()?, Access::Read))
+        .ok()?;
+    list.push((Key::from_bytes(alloc, b"b").ok()?, Access::Write))
+        .ok()?;
+    Some(Accesses::new(list))
+}
 
 fn mixed(alloc: Global) -> Option<Vec<Command>> {
     let open = Action::Open {
@@ -13,8 +22,7 @@ fn mixed(alloc: Global) -> Option<Vec<Command>> {
             wall: 0,
             logical: u32::MAX,
         },
-        key: Key::from_bytes(alloc, b"a:").ok()?,
-        access: Access::Read,
+        accesses: reads_and_writes(alloc)?,
     };
     let finish = Action::Finish {
         txn: TxnId::new(7)?,
@@ -55,6 +63,32 @@ fn lines_are_counted_and_words_are_cut(rt: HostRuntime) -> Result<(), Fail> {
     Ok(())
 }
 
+/// The keys that the first line asks for, if it opens a request.
+fn opened(script: &Script) -> Option<&[(Key, Access)]> {
+    match &script.as_slice().first()?.action {
+        Action::Open { accesses, .. } => Some(accesses.as_slice()),
+        _ => None,
+    }
+}
+
+fn named(script: &Script, place: usize) -> Option<(&[u8], Access)> {
+    let (key, access) = opened(script)?.get(place)?;
+    Some((key.as_bytes(), *access))
+}
+
+/// A request names no key, or several, in the order of its line, and one may stand there twice.
+#[test]
+fn a_request_names_any_number_of_keys(rt: HostRuntime) -> Result<(), Fail> {
+    let none = read(&rt, "1 open 7 1.0")?;
+    assert_eq!(rt; opened(&none).map(|accesses| accesses.len()), Some(0));
+    let three = read(&rt, "1 open 7 1.0 b:w a:r b:r")?;
+    assert_eq!(rt; opened(&three).map(|accesses| accesses.len()), Some(3));
+    assert_eq!(rt; named(&three, 0), Some((b"b".as_slice(), Access::Write)));
+    assert_eq!(rt; named(&three, 1), Some((b"a".as_slice(), Access::Read)));
+    assert_eq!(rt; named(&three, 2), Some((b"b".as_slice(), Access::Read)));
+    Ok(())
+}
+
 fn first_fault(read: Result<Script, ScriptError>) -> Option<(usize, Fault)> {
     match read {
         Err(ScriptError::Fault { line, fault }) => Some((line, fault)),
@@ -75,9 +109,15 @@ fn each_fault_is_told_with_its_line(rt: HostRuntime) {
         ("1", 1, Fault::BadCall),
         ("1 scan\r", 1, Fault::BadCall),
         ("1 scan now", 1, Fault::BadWords),
-        ("1 open 0 1.0", 1, Fault::BadWords),
-        ("1 open 0 1.0 a:r b:r", 1, Fault::BadWords),
-        ("1 open 0 1.0 a:r", 1, Fault::BadTxn),
+        ("1 open", 1, Fault::BadWords),
+        ("1 open 0", 1, Fault::BadWords),
+        ("1 open 0 1.0", 1, Fault::BadTxn),
+        ("1 open 0 01.0 a b", 1, Fault::BadTxn),
+        ("1 open 7 a:r b:r", 1, Fault::BadTime),
+        ("1 open 7 1.0 a:r b", 1, Fault::BadAccess),
+        ("1 open 7 1.0 a:r :w", 1, Fault::BadKey),
+        ("1 open 7 1.0 a:r b:x :r", 1, Fault::BadAccess),
+        ("1 open 7 1.0 a:r :r b:x", 1, Fault::BadKey),
         ("1 acquire 7 01.0 a", 1, Fault::BadTime),
         ("1 acquire 7 1.4294967296 a", 1, Fault::BadTime),
         ("1 open 7 1.0 :r", 1, Fault::BadKey),
