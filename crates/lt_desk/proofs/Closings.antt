@@ -1,0 +1,223 @@
+-- A table is closed over what the passes did.
+use Rattle.std.proofs.Common.{◌≡◌, ◌≢◌, ℕ, zero, suc, ◌+◌, ◌<◌, ◌≤◌, Bool, true, false, cond, nat_eq, List, [], ◌∷◌, ◌++◌, length, map, get_or, Option, Some, refl, sym, ap, subst, ◌∙◌, append_assoc, append-nil, arith}
+use Rattle.std.specs.Prelude.{Contains}
+use Rattle.std.specs.Global.{Vec}
+use Rattle.std.specs.List.{flat_map, AllByRecursion}
+use Rattle.std.specs.Str.{bytes_eq}
+use Rattle.std.proofs.lemmas.List.{map-append}
+use Rattle.std.proofs.lemmas.List.Elements.{Contains-append_left, Contains-append_right, Contains-push, filter-append}
+use mathlib.Core.List.{IsPrefix}
+use Rattle.lt_history.specs.declared.entry.Entry.{Entry}
+use Rattle.lt_history.specs.Histories.{AreLegalKeys, IsInRange, event_of}
+use Rattle.lt_history.specs.Histories.{part as key_part}
+use Rattle.lt_history.proofs.Keys.{same_key}
+use Rattle.lt_plain.specs.Step.{IsLegal}
+use Rattle.lt_words.specs.declared.event.Event.{Event}
+use Rattle.lt_words.specs.History.{part, shard_of}
+use Rattle.lt_words.specs.Row.{Opening, Seer}
+use Rattle.lt_script.specs.declared.command.Command.{Command}
+use Rattle.lt_table.specs.Reported.{GuardState}
+use Rattle.lt_table.specs.Closed.{IsClosed, IsFinal, passes_of}
+use Rattle.lt_desk.specs.declared.answer.AnswerLine.{AnswerLine}
+use Rattle.lt_desk.specs.declared.desk.Desk.{Desk}
+use Rattle.lt_desk.specs.declared.desk.Desk.TheVariants.{Free, Open}
+use Rattle.lt_desk.specs.declared.outcome.Finish.{Finish}
+use Rattle.lt_desk.specs.declared.outcome.Finish.TheVariants.{Done, TurnsOut}
+use Rattle.lt_desk.specs.declared.outcome.Ran.{Ran}
+use Rattle.lt_desk.specs.declared.outcome.Work.{Work}
+use Rattle.lt_desk.specs.Desks.{pass_of, request_of}
+use Rattle.lt_desk.specs.Machine.{Rules, Deed}
+use Rattle.lt_desk.specs.Worked.{IsRun, deed_line, lines_of}
+use Rattle.lt_desk.specs.Turns.{AreNumbered, AreWorked, IsAmong}
+use Rattle.lt_desk.specs.Standing.{Finals, final_of, AllStand}
+use Rattle.lt_desk.specs.Closing.{AreHanded, IsPut, IsWithin, AreWithin, finish_all, join}
+use Rattle.lt_desk.specs.Ran.{AreAnswered, IsAnswered, IsRan, joined}
+use Rattle.lt_desk.proofs.Telling.{all_append, all_more, all_weaker}
+use Rattle.lt_desk.proofs.Standings.{AreRun, AreOfShards, all_stand}
+
+-- ---- handing over
+
+abbrev IsOf : Opening → Seer → Type 0
+IsOf of p = p.of ≡ of
+
+pub put_passes : (of : Opening) (d : Desk) (ps qs : List Seer) (gs hs : List GuardState) → IsPut d ps gs qs hs → (pass_of d).of ≡ of → AllByRecursion (λ p. p.of ≡ of) ps → AllByRecursion (λ p. p.of ≡ of) qs
+put_passes of (Free p) ps qs gs hs put is a = subst (AllByRecursion (λ x. x.of ≡ of)) (sym put.0) (all_more (λ x. x.of ≡ of) ps p a is)
+put_passes of (Open g) ps qs gs hs put is a = subst (AllByRecursion (λ x. x.of ≡ of)) (sym put.0) a
+
+pub put_guards : (of : Opening) (d : Desk) (ps qs : List Seer) (gs hs : List GuardState) → IsPut d ps gs qs hs → (pass_of d).of ≡ of → AllByRecursion (λ g. g.pass.of ≡ of) gs → AllByRecursion (λ g. g.pass.of ≡ of) hs
+put_guards of (Free p) ps qs gs hs put is a = subst (AllByRecursion (λ x. x.pass.of ≡ of)) (sym put.1) a
+put_guards of (Open g) ps qs gs hs put is a = subst (AllByRecursion (λ x. x.pass.of ≡ of)) (sym put.1) (all_more (λ x. x.pass.of ≡ of) gs g a is)
+
+abbrev guard_pass : GuardState → Seer
+guard_pass g = g.pass
+
+one_pass_more : (ps : List Seer) (p x : Seer) (gs : List GuardState) → Contains (passes_of ps gs) x → Contains (passes_of (ps ++ p ∷ []) gs) x
+one_pass_more ps p x gs c = between ps (map guard_pass gs) p x c
+  where
+    between : (ps qs : List Seer) (p x : Seer) → Contains (ps ++ qs) x → Contains ((ps ++ p ∷ []) ++ qs) x
+    between [] qs p x c = Contains-append_right (p ∷ []) qs x c
+    between (y ∷ ps) qs p x (zero, c) = (zero, omega arith, c.1)
+    between (y ∷ ps) qs p x (suc k, c) = let d = between ps qs p x (k, (omega (arith, c.0), c.1)) in (suc d.0, omega (arith, d.1), d.2)
+
+pub put_handed : (d : Desk) (ps qs : List Seer) (gs hs : List GuardState) (ws : List Work) (w : Work) → w.desk ≡ d → IsPut d ps gs qs hs → AreHanded (passes_of ps gs) ws → AreHanded (passes_of qs hs) (ws ++ w ∷ [])
+put_handed (Free p) ps qs gs hs ws w is put h =
+    let here : Contains (passes_of (ps ++ p ∷ []) gs) p = Contains-append_left (ps ++ p ∷ []) (map guard_pass gs) p (Contains-push ps p) in
+    let own : Contains (passes_of (ps ++ p ∷ []) gs) (pass_of w.desk) = subst (λ (d : Desk). Contains (passes_of (ps ++ p ∷ []) gs) (pass_of d)) (sym is) here in
+    rw (put.0, put.1) (all_more (λ x. Contains (passes_of (ps ++ p ∷ []) gs) (pass_of x.desk)) ws w (all_weaker (λ x. Contains (passes_of ps gs) (pass_of x.desk)) (λ x. Contains (passes_of (ps ++ p ∷ []) gs) (pass_of x.desk)) ws (λ x. one_pass_more ps p (pass_of x.desk) gs) h) own)
+put_handed (Open g) ps qs gs hs ws w is put h =
+    let all : passes_of ps (gs ++ g ∷ []) ≡ passes_of ps gs ++ g.pass ∷ [] = ap (λ (l : List Seer). ps ++ l) (map-append guard_pass gs (g ∷ [])) ∙ sym (append_assoc ps (map guard_pass gs) (g.pass ∷ [])) in
+    let more : AreHanded (passes_of ps gs ++ g.pass ∷ []) (ws ++ w ∷ []) =
+    all_more (λ x. Contains (passes_of ps gs ++ g.pass ∷ []) (pass_of x.desk)) ws w
+    (all_weaker (λ x. Contains (passes_of ps gs) (pass_of x.desk)) (λ x. Contains (passes_of ps gs ++ g.pass ∷ []) (pass_of x.desk)) ws (λ x. Contains-append_left (passes_of ps gs) (g.pass ∷ []) (pass_of x.desk)) h)
+    (subst (λ (d : Desk). Contains (passes_of ps gs ++ g.pass ∷ []) (pass_of d)) (sym is) (Contains-push (passes_of ps gs) g.pass)) in
+    rw (put.0, put.1) (subst (λ (l : List Seer). AreHanded l (ws ++ w ∷ [])) (sym all) more)
+
+pub finish_more : (fs : List Finish) (f : Finish) → finish_all (fs ++ f ∷ []) ≡ join (finish_all fs) f
+finish_more [] Done = refl
+finish_more [] TurnsOut = refl
+finish_more (Done ∷ fs) f = finish_more fs f
+finish_more (TurnsOut ∷ fs) f = refl
+
+-- ---- what the close says of each
+
+contained : {A : Type 0} (P : A → Type 0) (xs : List A) (x : A) → AllByRecursion P xs → Contains xs x → P x
+contained P [] x a (k, c) = absurd (omega (arith, c.0))
+contained P (y ∷ xs) x a (zero, c) = subst P c.1 a.0
+contained P (y ∷ xs) x a (suc k, c) = contained P xs x a.1 (k, (omega (arith, c.0), c.1))
+
+at_map : {A B : Type 0} (f : A → B) (xs : List A) (i : ℕ) (b : B) (P : B → Type 0) → i < length xs → ((d : A) → P (f (get_or xs i d))) → P (get_or (map f xs) i b)
+at_map f [] i b P lt h = absurd (omega arith)
+at_map f (x ∷ xs) zero b P lt h = h x
+at_map f (x ∷ xs) (suc i) b P lt h = at_map f xs i b P (omega arith) h
+
+abbrev entries_of : Vec Entry → List Entry
+entries_of v = v.items
+
+pub are_within : (of : Opening) (ps : List Seer) (shards : List (Vec Entry)) (draws : ℕ) (ws : List Work) → 0 < of.shards → IsClosed of ps shards draws → AreHanded ps ws → AreWithin of.shards (map entries_of shards) ws
+are_within of ps shards draws ws some c h = record {
+  some = some;
+  whole = c.whole;
+  legal = c.legal;
+  within = all_weaker (λ w. Contains ps (pass_of w.desk)) (λ w. IsWithin of.shards c.whole (map entries_of shards) (pass_of w.desk)) ws
+      (λ w inside. record {
+        seen = contained (λ p. IsPrefix p.seen c.whole) ps (pass_of w.desk) c.seen inside;
+        parts = λ s lt.
+            at_map entries_of shards s [] (λ (es : List Entry). IsPrefix (part s (pass_of w.desk).seen) es) (omega (arith, c.many))
+            (λ d. contained (λ p. IsPrefix (part s p.seen) (get_or shards s d).items) ps (pass_of w.desk) (c.each s d lt).seen inside);
+      }) h;
+}
+
+-- ---- the histories of all shards, one behind the other
+
+-- the entries are of this shard
+abbrev AtHome : ℕ → ℕ → List Entry → Type 0
+AtHome n s es = AllByRecursion (λ e. s ≡ shard_of e.key n) es
+
+-- each is legal, can be written, and is of its shard, from this one on
+abbrev AreGood : ℕ → ℕ → List (Vec Entry) → Type 0
+AreGood n s [] = Unit {0}
+AreGood n s (v ∷ vs) = (AreLegalKeys v.items × AtHome n s v.items × AllByRecursion IsInRange v.items) × AreGood n (s + 1) vs
+
+are_good : (n s : ℕ) (vs : List (Vec Entry)) → ((k : ℕ) (d : Vec Entry) → k < length vs → AreLegalKeys (get_or vs k d).items × AtHome n (s + k) (get_or vs k d).items × AllByRecursion IsInRange (get_or vs k d).items) → AreGood n s vs
+are_good n s [] h = tt
+are_good n s (v ∷ vs) h =
+    let first = h zero v (omega arith) in
+    let plus : s + zero ≡ s = omega arith in
+    ((first.0, subst (λ (k : ℕ). AtHome n k v.items) plus first.1, first.2),
+      are_good n (s + 1) vs (λ k d lt. let at = h (suc k) d (omega arith) in let plus' : s + suc k ≡ s + 1 + k = omega arith in (at.0, subst (λ (j : ℕ). AtHome n j (get_or vs k d).items) plus' at.1, at.2)))
+
+skipped : (b : Bool) (e : Entry) (es fs : List Entry) → b ≡ false → es ≡ fs → cond b (e ∷ es) es ≡ fs
+skipped true e es fs f is = cc
+skipped false e es fs f is = is
+
+other_shard : (n s : ℕ) (key : List ℕ) (e : Entry) → s ≡ shard_of e.key n → s ≢ shard_of key n → bytes_eq e.key key ≡ false
+other_shard n s key e home ne = not_true (bytes_eq e.key key) (λ same. ne (home ∙ ap (λ (k : List ℕ). shard_of k n) (same_key e.key key same)))
+  where
+    not_true : (b : Bool) → (b ≡ true → ⊥) → b ≡ false
+    not_true true f = absurd (f refl)
+    not_true false f = refl
+
+none_of_key : (n s : ℕ) (key : List ℕ) (es : List Entry) → AtHome n s es → s ≢ shard_of key n → key_part key es ≡ []
+none_of_key n s key [] home ne = refl
+none_of_key n s key (e ∷ es) home ne = skipped (bytes_eq e.key key) e (key_part key es) [] (other_shard n s key e home.0 ne) (none_of_key n s key es home.1 ne)
+
+split_part : (key : List ℕ) (es fs : List Entry) → key_part key (es ++ fs) ≡ key_part key es ++ key_part key fs
+split_part key es fs = filter-append (λ (e : Entry). bytes_eq e.key key) es fs
+
+none_later : (n s : ℕ) (key : List ℕ) (vs : List (Vec Entry)) → AreGood n s vs → shard_of key n < s → key_part key (joined vs) ≡ []
+none_later n s key [] good lt = refl
+none_later n s key (v ∷ vs) good lt =
+    let here : key_part key v.items ≡ [] = none_of_key n s key v.items good.0.1 (λ e. absurd (omega (arith, e, lt))) in
+    let rest : key_part key (joined vs) ≡ [] = none_later n (s + 1) key vs good.1 (omega arith) in
+    split_part key v.items (joined vs) ∙ (ap (λ (l : List Entry). l ++ key_part key (joined vs)) here ∙ rest)
+
+legal_key : (n s : ℕ) (key : List ℕ) (vs : List (Vec Entry)) → AreGood n s vs → IsLegal (map event_of (key_part key (joined vs)))
+legal_key n s key [] good = tt
+legal_key n s key (v ∷ vs) good = by_test (nat_eq s (shard_of key n)) refl
+  where
+    by_test : (b : Bool) → nat_eq s (shard_of key n) ≡ b → IsLegal (map event_of (key_part key (joined (v ∷ vs))))
+    by_test true e =
+        let is : s ≡ shard_of key n = grind (arith, e) in
+        let rest : key_part key (joined vs) ≡ [] = none_later n (s + 1) key vs good.1 (omega (arith, is)) in
+        let all : key_part key (joined (v ∷ vs)) ≡ key_part key v.items = split_part key v.items (joined vs) ∙ (ap (λ (l : List Entry). key_part key v.items ++ l) rest ∙ append-nil (key_part key v.items)) in
+        subst (λ (es : List Entry). IsLegal (map event_of es)) (sym all) (good.0.0 key)
+    by_test false e =
+        let ne : s ≢ shard_of key n = grind (arith, e) in
+        let here : key_part key v.items ≡ [] = none_of_key n s key v.items good.0.1 ne in
+        let all : key_part key (joined (v ∷ vs)) ≡ key_part key (joined vs) = split_part key v.items (joined vs) ∙ ap (λ (l : List Entry). l ++ key_part key (joined vs)) here in
+        subst (λ (es : List Entry). IsLegal (map event_of es)) (sym all) (legal_key n (s + 1) key vs good.1)
+
+all_in_range : (n s : ℕ) (vs : List (Vec Entry)) → AreGood n s vs → AllByRecursion IsInRange (joined vs)
+all_in_range n s [] good = tt
+all_in_range n s (v ∷ vs) good = all_append IsInRange v.items (joined vs) good.0.2 (all_in_range n (s + 1) vs good.1)
+
+closed_good : (of : Opening) (ps : List Seer) (shards : List (Vec Entry)) (draws : ℕ) → IsClosed of ps shards draws → AreGood of.shards 0 shards
+closed_good of ps shards draws c = are_good of.shards 0 shards (λ k d lt. let f = c.each k d (omega (arith, c.many)) in (f.legal, f.home, f.in_range))
+
+-- ---- the run
+
+deeds_of : (rules : Rules) (always : Bool) (cs : List Command) (ps : List Seer) (ws : List Work) → AreWorked rules always cs ps ws → (dss : List (List Deed)) × AreRun rules always cs ps dss ws × (length dss ≡ length ps)
+deeds_of rules always cs [] [] a = ([], tt, refl)
+deeds_of rules always cs [] (w ∷ ws) a = absurd a
+deeds_of rules always cs (p ∷ ps) [] a = absurd a
+deeds_of rules always cs (p ∷ ps) (w ∷ ws) a = let rest = deeds_of rules always cs ps ws a.1 in (a.0.0 ∷ rest.0, ((a.0.1, rest.1), ap (λ n. suc n) rest.2))
+
+answers_in : Work → Vec AnswerLine
+answers_in w = w.answers
+
+answered : (rules : Rules) (always : Bool) (cs : List Command) (n : ℕ) (ps : List Seer) (dss : List (List Deed)) (ws : List Work) → AreRun rules always cs ps dss ws → AreNumbered n ps → AreAnswered rules always cs (n + 1) dss (map (λ w. w.answers) ws) (map (λ w. w.finish) ws)
+answered rules always cs n [] [] [] r num = tt
+answered rules always cs n [] [] (w ∷ ws) r num = absurd r
+answered rules always cs n [] (ds ∷ dss) ws r num = absurd r
+answered rules always cs n (p ∷ ps) [] ws r num = absurd r
+answered rules always cs n (p ∷ ps) (ds ∷ dss) [] r num = absurd r
+answered rules always cs n (p ∷ ps) (ds ∷ dss) (w ∷ ws) r num =
+    let one : IsAnswered rules always p.number (lines_of p.number cs) ds w.answers.items w.finish = record {
+      rest = r.0.rest;
+      all = r.0.all ∙ ap (λ (l : List Command). l ++ r.0.rest) (sym r.0.done.lines_are);
+      after = request_of w.desk;
+      runs = r.0.done.runs;
+      answers_are = r.0.done.answers_are;
+      ended = r.0.ended;
+    } in
+    (subst (λ (k : ℕ). IsAnswered rules always k (lines_of k cs) ds w.answers.items w.finish) num.0 one, answered rules always cs (n + 1) ps dss ws r.1 num.1)
+
+pub is_ran : (rules : Rules) (always : Bool) (of : Opening) (cs : List Command) (ps qs : List Seer) (ws : List Work) (draws : ℕ) (ran : Ran)
+    → 0 < of.shards → AllByRecursion (IsAmong (length ps)) cs → AllByRecursion (λ p. p.of ≡ of) ps → AreNumbered 0 ps → AreWorked rules always cs ps ws → IsClosed of qs ran.histories.items draws → AreHanded qs ws
+    → ran.answers.items ≡ map (λ w. w.answers) ws → ran.finish ≡ finish_all (map (λ w. w.finish) ws) → IsRan rules always of.shards cs ran
+is_ran rules always of cs ps qs ws draws ran some among are_of num worked closed handed answers_are finish_is =
+    let run = deeds_of rules always cs ps ws worked in
+    let within : AreWithin of.shards (map entries_of ran.histories.items) ws = are_within of qs ran.histories.items draws ws some closed handed in
+    let shards : AreOfShards of.shards ps = all_weaker (λ p. p.of ≡ of) (λ p. p.of.shards ≡ of.shards) ps (λ p e. ap (λ (o : Opening). o.shards) e) are_of in
+    let good : AreGood of.shards 0 ran.histories.items = closed_good of qs ran.histories.items draws closed in
+    record {
+      deeds = run.0;
+      finishes = map (λ w. w.finish) ws;
+      among = subst (λ (n : ℕ). AllByRecursion (IsAmong n) cs) (sym run.2) among;
+      answered = subst (λ (as' : List (Vec AnswerLine)). AreAnswered rules always cs 1 run.0 as' (map (λ w. w.finish) ws)) (sym answers_are) (answered rules always cs 0 ps run.0 ws run.1 num);
+      finish = finish_is;
+      many = closed.many;
+      stand = all_stand rules always cs of.shards within.whole (map entries_of ran.histories.items) 0 ps run.0 ws some within.legal shards run.1 num within.within;
+      legal = λ key. legal_key of.shards 0 key ran.histories.items good;
+      in_range = all_in_range of.shards 0 ran.histories.items good;
+    }

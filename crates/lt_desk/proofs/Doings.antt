@@ -1,0 +1,82 @@
+-- Lines that call nothing, and lines of one step.
+use Rattle.std.proofs.Common.{◌≡◌, ℕ, List, [], ◌∷◌, Option, Some, None, Result, Ok, Err, refl, sym, ap, subst, ◌∙◌}
+use Rattle.std.specs.Prelude.{IfOk, OnErr}
+use Rattle.lt_ids.specs.Ticket.{Wait}
+use Rattle.lt_plain.specs.declared.call.Call.{Call}
+use Rattle.lt_plain.specs.declared.call.Call.TheVariants as calls
+use Rattle.lt_plain.specs.declared.call.Reply.{Reply}
+use Rattle.lt_words.specs.Row.{Seer}
+use Rattle.lt_shard.specs.declared.answer.Answer.{Answer}
+use Rattle.lt_shard.specs.declared.answer.StepError.{StepError}
+use Rattle.lt_shard.specs.declared.answer.StepError.TheVariants as steps
+use Rattle.lt_table.specs.Runs.{WalkState, Step}
+use Rattle.lt_table.specs.Reported.{GuardState, Reported}
+use Rattle.lt_desk.specs.declared.desk.Desk.{Desk}
+use Rattle.lt_desk.specs.declared.desk.Desk.TheVariants.{Free, Open}
+use Rattle.lt_desk.specs.declared.desk.Told.{Told}
+use Rattle.lt_desk.specs.declared.outcome.OutOfMemory.{OutOfMemory}
+use Rattle.lt_desk.specs.declared.answer.LineAnswer.{LineAnswer}
+use Rattle.lt_desk.specs.declared.answer.LineAnswer.TheVariants as answers
+use Rattle.lt_desk.specs.declared.answer.Refusal.TheVariants as refusals
+use Rattle.lt_desk.specs.Told.{Tells}
+use Rattle.lt_desk.specs.Desks.{request_of, pass_of}
+use Rattle.lt_desk.specs.Machine.{numbers_of, place_of, IsMade, IsLooked, IsLookAt}
+use Rattle.lt_desk.specs.Doing.{Does, Fact, IsTold, Lets, no_lets}
+use Rattle.lt_desk.proofs.Telling.{tells_none, tells_step}
+
+-- The pass has what it had.
+pub does_same : (fact : Fact) (lets : Lets) (d : Desk) (answer : LineAnswer) → fact (request_of d) 0 answer [] (request_of d) → numbers_of answer ≡ [] → lets (request_of d) 0 ≡ [] → Does fact lets d answer d
+does_same fact lets d answer h n l = record {
+  word = 0;
+  steps = [];
+  done = h;
+  tells = subst (λ (x : List Wait). Tells (pass_of d) (pass_of d) [] (numbers_of answer) x) (sym l) (subst (λ (x : List ℕ). Tells (pass_of d) (pass_of d) [] x []) (sym n) (tells_none (pass_of d)));
+}
+
+-- A pass without a request is told so.
+pub does_none : (fact : Fact) (lets : Lets) (old new : Desk) (answer : LineAnswer) (p : Seer) → old ≡ Free p → new ≡ Free p → answer ≡ answers.NoRequest → fact None 0 answers.NoRequest [] None → lets None 0 ≡ [] → Does fact lets old answer new
+does_none fact lets old new answer p o n a h l = rw (o, n, a) (does_same fact lets (Free p) answers.NoRequest h refl l)
+
+-- the same with a request
+pub does_open : (fact : Fact) (lets : Lets) (old : Desk) (g : GuardState) (answer : LineAnswer) → old ≡ Open g → fact (Some g.walk) 0 answer [] (Some g.walk) → numbers_of answer ≡ [] → lets (Some g.walk) 0 ≡ [] → Does fact lets old answer (Open g)
+does_open fact lets old g answer o h n l = rw o (does_same fact lets (Open g) answer h n l)
+
+pub strange : (key : List ℕ) (g : GuardState) → None ≡ place_of g.walk.asked.keys key → Does (IsLooked key) no_lets (Open g) answers.Stranger (Open g)
+strange key g none = does_same (IsLooked key) no_lets (Open g) answers.Stranger
+    (subst (λ (o : Option ℕ). IsLookAt o g.walk.asked.number key answers.Stranger []) none (refl, refl), refl) refl refl
+
+-- ---- one step
+
+-- A call of the pass that was answered so, and told so.
+pub made : (key : List ℕ) (call : Call) (old new : Desk) (answered : Result Answer StepError) (told : Result Told OutOfMemory) → request_of new ≡ request_of old
+    → IfOk answered (λ a. Reported (pass_of old) (pass_of new) (record { key = key; call = call; answer = a })) → OnErr answered (pass_of new ≡ pass_of old) → IsTold answered new told
+    → IfOk told (λ t. Does (IsMade key call) no_lets old t.answer t.desk)
+made key call old new (Ok a) (Err e) same ok err told = tt
+made key call old new (Ok a) (Ok t) same ok err told =
+    let x : Step = record { key = key; call = call; answer = a } in
+    let done : Does (IsMade key call) no_lets old (answers.Replied a.reply) new = record {
+      word = 0;
+      steps = x ∷ [];
+      done = (record { step = x; alone = refl; key_is = refl; call_is = refl; told = refl }, same);
+      tells = tells_step (pass_of old) (pass_of new) x ok;
+    } in
+    rw (told.0, told.1) done
+made key call old new (Err steps.HistoryFull) (Err e) same ok err told = tt
+made key call old new (Err steps.HistoryFull) (Ok t) same ok err told =
+    let none : Tells (pass_of old) (pass_of new) [] [] [] = subst (λ (p : Seer). Tells (pass_of old) p [] [] []) (sym err) (tells_none (pass_of old)) in
+    let done : Does (IsMade key call) no_lets old (answers.Refused refusals.HistoryFull) new = record { word = 0; steps = []; done = (refl, same); tells = none } in
+    rw (told.0, told.1) done
+made key call old new (Err steps.Memory) (Err e) same ok err told = tt
+made key call old new (Err steps.Memory) (Ok t) same ok err told = absurd told
+
+-- A look is a call of the pass at a key that its request has.
+pub looked : (key : List ℕ) (old new : GuardState) (place : ℕ) (told : Result Told OutOfMemory) → Some place ≡ place_of old.walk.asked.keys key
+    → IfOk told (λ t. Does (IsMade key (calls.Look old.walk.asked.number)) no_lets (Open old) t.answer t.desk)
+    → IfOk told (λ t. Does (IsLooked key) no_lets (Open old) t.answer t.desk)
+looked key old new place (Err e) at told = tt
+looked key old new place (Ok t) at told = record {
+  word = told.word;
+  steps = told.steps;
+  done = (subst (λ (o : Option ℕ). IsLookAt o old.walk.asked.number key t.answer told.steps) at told.done.0, told.done.1);
+  tells = told.tells;
+}

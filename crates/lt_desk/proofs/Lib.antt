@@ -1,0 +1,10 @@
+pub mod Telling
+pub mod Scans
+pub mod Doings
+pub mod Lines
+pub mod Slots
+pub mod Standings
+pub mod Closings
+pub mod Latest
+pub mod Waiting
+pub mod Replying

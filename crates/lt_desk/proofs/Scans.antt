@@ -1,0 +1,126 @@
+-- What a scan and a poll tell.
+use Rattle.std.proofs.Common.{◌≡◌, ◌≢◌, ℕ, ◌+◌, Bool, true, false, cond, nat_eq, nat_lt, List, [], ◌∷◌, ◌++◌, length, Option, Some, None, Result, Ok, Err, refl, sym, ap, subst, ◌∙◌}
+use Rattle.std.specs.List.{AllByRecursion}
+use Rattle.lt_ids.specs.Ticket.{Wait, value_of}
+use Rattle.lt_plain.specs.declared.call.Call.{Call}
+use Rattle.lt_words.specs.History.{LetIn}
+use Rattle.lt_words.specs.Row.{Seer}
+use Rattle.lt_shard.specs.declared.answer.StepError.{StepError}
+use Rattle.lt_shard.specs.declared.answer.StepError.TheVariants as steps
+use Rattle.lt_table.specs.declared.progress.Mode.{Mode}
+use Rattle.lt_table.specs.declared.progress.Mode.TheVariants.{Free, Awaiting, Let, Leaving}
+use Rattle.lt_table.specs.declared.progress.Progress.{Progress}
+use Rattle.lt_table.specs.declared.progress.Ended.{Ended}
+use Rattle.lt_table.specs.declared.scan.Scan.{Scan}
+use Rattle.lt_table.specs.declared.scan.Scan.TheVariants as scans
+use Rattle.lt_table.specs.declared.scan.ScanError.{ScanError}
+use Rattle.lt_table.specs.declared.scan.ScanError.TheVariants as refused
+use Rattle.lt_table.specs.declared.scan.Poll.{Poll}
+use Rattle.lt_table.specs.declared.scan.Poll.TheVariants as polls
+use Rattle.lt_table.specs.Machine.{heard, mode_heard, polled, polled_in, scan_start, scan_start_in, scan_end, is_awaiting, next_visit}
+use Rattle.lt_table.specs.Runs.{WalkState, Step, Ends, IsScanBegun, of_step}
+use Rattle.lt_table.specs.Reported.{GuardState, IsScan, IsPoll, PassStays, GuardStays, wait_of}
+use Rattle.lt_desk.specs.Told.{Tells}
+use Rattle.lt_desk.specs.Machine.{let_in_mode, let_from, let_read, let_gone_on, state_heard}
+use Rattle.lt_desk.specs.Doing.{Polls}
+use Rattle.lt_desk.proofs.Telling.{tells_none, tells_more, tells_then, tells_steps, tells_let}
+
+-- ---- a scan that goes on is not told that it still waits
+
+ended_so : (waits more waited : Bool) (p : Progress)
+    → (cond {A = Ended} waits (record { after = p; result = Ok (scans.Waiting p.place) }) (cond more (record { after = p; result = Err refused.WaitsOut }) (record { after = record p { place = 0; waited = false }; result = Ok (cond waited scans.Rescan scans.Proceed) }))).result ≢ Err refused.StillWaiting
+ended_so true more waited p = λ e. cc
+ended_so false true waited p = λ e. cc
+ended_so false false true p = λ e. cc
+ended_so false false false p = λ e. cc
+
+refused_so : (e : StepError) → Err {A = Scan} (of_step e) ≢ Err refused.StillWaiting
+refused_so steps.HistoryFull = λ e. cc
+refused_so steps.Memory = λ e. cc
+
+ends_so : (next : Option (List ℕ × Call)) (keys : ℕ) (last after : Progress) (result : Result Scan ScanError) → Ends next (scan_end keys last) last result after → result ≢ Err refused.StillWaiting
+ends_so None keys last after result e = λ is. ended_so (is_awaiting last.mode) (nat_lt last.place keys) last.waited last (sym e.0 ∙ is)
+ends_so (Some y) keys last after result e = λ is. refused_so e.0.0 (sym e.0.1 ∙ is)
+
+goes_on : (m : Mode) (p : Progress) (max_waits : ℕ) (old : WalkState) (xs : List Step) (result : Result Scan ScanError) (after : WalkState) → m ≡ Let → IsScanBegun (scan_start_in m p) max_waits old xs result after → result ≢ Err refused.StillWaiting
+goes_on Let p max_waits old xs result after e s = ends_so (next_visit old.asked max_waits s.last) (length old.asked.keys) s.last after.progress result s.ends
+goes_on Free p max_waits old xs result after e s = absurd cc
+goes_on Awaiting p max_waits old xs result after e s = absurd cc
+goes_on Leaving p max_waits old xs result after e s = absurd cc
+
+-- The ticket with which a scan goes on, if it goes on by its own reading of the word.
+lets_in : (m n : Mode) (P : Wait → Type 0) (t : Wait) → (m ≡ Awaiting → n ≡ Let → P t) → AllByRecursion P (let_from m (let_in_mode n t))
+lets_in Awaiting Let P t f = (f refl refl, tt)
+lets_in Awaiting Free P t f = tt
+lets_in Awaiting Awaiting P t f = tt
+lets_in Awaiting Leaving P t f = tt
+lets_in Free n P t f = tt
+lets_in Let n P t f = tt
+lets_in Leaving n P t f = tt
+
+pub tells_scan : (max_waits : ℕ) (old new : GuardState) (result : Result Scan ScanError) → (s : IsScan max_waits old new result) → new.pass.number ≡ old.pass.number
+    → (old.walk.progress.mode ≡ Awaiting → result ≢ Err refused.StillWaiting → LetIn new.pass.seen new.pass.number (wait_of old.walk)) → Tells old.pass new.pass s.steps [] (let_gone_on (Some old.walk) s.word)
+tells_scan max_waits old new result s number went =
+    let heard' : Progress = heard old.walk.asked.number old.walk.progress s.word in
+    let on : heard'.mode ≡ Let → result ≢ Err refused.StillWaiting = λ e. goes_on heard'.mode heard' max_waits old.walk s.steps result new.walk e s.scan in
+    tells_let old.pass new.pass s.steps (let_gone_on (Some old.walk) s.word) (tells_then old.pass s.read new.pass [] s.steps [] [] [] [] (tells_more old.pass s.read s.reads) (tells_steps s.read s.steps new.pass s.reported))
+    (lets_in old.walk.progress.mode heard'.mode (LetIn new.pass.seen old.pass.number) (wait_of old.walk)
+    (λ w l. subst (λ (n : ℕ). LetIn new.pass.seen n (wait_of old.walk)) number (went w (on l))))
+
+-- ---- polls
+
+through : (m : Mode) (P : Wait → Type 0) (t : Wait) → (polled_in m ≡ polls.Through → P t) → AllByRecursion P (let_in_mode m t)
+through Let P t f = (f refl, tt)
+through Free P t f = tt
+through Awaiting P t f = tt
+through Leaving P t f = tt
+
+pub one_poll : (old new : GuardState) (found : Poll) → IsPoll old new found → (found ≡ polls.Through → LetIn new.pass.seen new.pass.number (wait_of new.walk)) → Polls old found new
+one_poll old new found p let_in =
+    let after : new.walk ≡ state_heard old.walk p.word = p.walk in
+    let mode : new.walk.progress.mode ≡ (state_heard old.walk p.word).progress.mode = ap (λ (w : WalkState). w.progress.mode) after in
+    let wait : wait_of new.walk ≡ wait_of old.walk = ap wait_of after in
+    record {
+      word = p.word;
+      after = after;
+      answer = p.answer;
+      tells = tells_let old.pass new.pass [] (let_read (Some old.walk) p.word) (tells_more old.pass new.pass p.reads)
+          (through (state_heard old.walk p.word).progress.mode (LetIn new.pass.seen old.pass.number) (wait_of old.walk)
+          (λ e. subst (λ (n : ℕ). LetIn new.pass.seen n (wait_of old.walk)) p.reads.number
+          (subst (λ (t : Wait). LetIn new.pass.seen new.pass.number t) wait (let_in (p.answer ∙ (ap polled_in mode ∙ e))))));
+    }
+
+still : (m : Mode) (b : Bool) → polls.Waiting ≡ polled_in (mode_heard m b) → mode_heard m b ≡ m
+still Free true e = refl
+still Free false e = refl
+still Awaiting true e = cc
+still Awaiting false e = refl
+still Let true e = refl
+still Let false e = refl
+still Leaving true e = refl
+still Leaving false e = refl
+
+no_let : (m : Mode) (t : Wait) → polls.Waiting ≡ polled_in m → let_in_mode m t ≡ []
+no_let Free t e = refl
+no_let Awaiting t e = refl
+no_let Let t e = cc
+no_let Leaving t e = refl
+
+-- Who waits still is as before.
+same : (s : WalkState) (w : ℕ) → polls.Waiting ≡ polled (state_heard s w).progress → state_heard s w ≡ s
+same s w e = ap (λ (m : Mode). record s { progress = record s.progress { mode = m } }) (still s.progress.mode (nat_eq w (value_of (wait_of s))) e)
+
+-- After a poll that found nothing a further one is as the first.
+pub polls_then : (a b c : GuardState) (r : Poll) → Polls a polls.Waiting b → Polls b r c → Polls a r c
+polls_then a b c r p q =
+    let waits : polls.Waiting ≡ polled (state_heard a.walk p.word).progress = p.answer ∙ ap (λ (s : WalkState). polled s.progress) p.after in
+    let b_is : b.walk ≡ a.walk = p.after ∙ same a.walk p.word waits in
+    let none : let_read (Some a.walk) p.word ≡ [] = no_let (state_heard a.walk p.word).progress.mode (wait_of a.walk) waits in
+    let first : Tells a.pass b.pass [] [] [] = subst (λ (l : List Wait). Tells a.pass b.pass [] [] l) none p.tells in
+    let second : Tells b.pass c.pass [] [] (let_read (Some a.walk) q.word) = subst (λ (s : WalkState). Tells b.pass c.pass [] [] (let_read (Some s) q.word)) b_is q.tells in
+    record {
+      word = q.word;
+      after = q.after ∙ ap (λ (s : WalkState). state_heard s q.word) b_is;
+      answer = q.answer;
+      tells = tells_then a.pass b.pass c.pass [] [] [] [] [] (let_read (Some a.walk) q.word) first second;
+    }

@@ -1,0 +1,14 @@
+use Rattle.std.proofs.Common.{◌≡◌, map}
+use Rattle.std.specs.List.{AllByRecursion}
+use Rattle.lt_table.specs.Closed.{passes_of}
+use Rattle.lt_desk.specs.Closing.{AreHanded, finish_all}
+use Rattle.lt_desk.proofs.whole.hand_over.Given as goal
+
+abbrev pub invariant-loop-work : goal.invariant-loop-work
+invariant-loop-work g l = record {
+  passes : AllByRecursion (λ p. p.of ≡ g.N.Name.of) l.passes.items;
+  guards : AllByRecursion (λ x. x.pass.of ≡ g.N.Name.of) l.guards.items;
+  handed : AreHanded (passes_of l.passes.items l.guards.items) l.yielded;
+  answers : l.answers.items ≡ map (λ w. w.answers) l.yielded;
+  finish : l.finish ≡ finish_all (map (λ w. w.finish) l.yielded);
+}

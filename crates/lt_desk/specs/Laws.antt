@@ -1,0 +1,75 @@
+-- Laws of the machine of a pass.
+use Rattle.std.specs.Prelude.{ℕ, ◌≡◌, List, [], ◌∷◌, ◌++◌, Option, Some, None}
+use Rattle.lt_plain.specs.declared.call.Call.{Call}
+use Rattle.lt_plain.specs.declared.call.Call.TheVariants.{Visit}
+use Rattle.lt_plain.specs.declared.call.Reply.TheVariants.{MustWait}
+use Rattle.lt_table.specs.Runs.{WalkState, Step}
+use Rattle.lt_script.specs.declared.command.Action.TheVariants as acts
+use Rattle.lt_desk.specs.declared.answer.LineAnswer.{LineAnswer}
+use Rattle.lt_desk.specs.declared.answer.LineAnswer.TheVariants as answers
+use Rattle.lt_desk.specs.Machine.{Rules, Deed, Runs, IsDone, lets_of}
+use Rattle.lt_table.specs.Reported.{wait_of}
+use Rattle.lt_plain.specs.declared.call.Call.TheVariants as calls
+use Rattle.lt_plain.specs.declared.call.Reply.{Reply}
+use Rattle.lt_script.specs.declared.command.Action.{Action}
+
+-- the number of the latest `request` line
+abbrev pub latest : Option ℕ → LineAnswer → Option ℕ
+latest number (answers.Request n) = Some n
+latest number _ = number
+
+-- The pass's request, if it has one, has this number.
+abbrev pub HasNumber : Option ℕ → Option WalkState → Type 0
+HasNumber number None = Unit {0}
+HasNumber number (Some s) = number ≡ Some s.asked.number
+
+-- At each line the pass's request has the number of the latest `request` line before it.
+abbrev pub HaveLatest : Option ℕ → List Deed → Type 0
+HaveLatest number [] = Unit {0}
+HaveLatest number (d ∷ ds) = HasNumber number d.before × HaveLatest (latest number d.answer) ds
+
+abbrev pub NumbersAreLatest : Type 0
+NumbersAreLatest = (rules : Rules) (ds : List Deed) (after : Option WalkState) → Runs rules None ds after → HaveLatest None ds
+
+abbrev pub IsVisitOf : ℕ → Call → Type 0
+IsVisitOf number (Visit ticket txn ts access) = ticket.number ≡ number
+IsVisitOf number _ = ⊥
+
+-- The last step is a visit of the key by the request of this number, which has to wait.
+pub record EndsInWait (number : ℕ) (key : List ℕ) (steps : List Step) : Type 0 where
+  pub front : List Step
+  pub last : Step
+  pub all : steps ≡ front ++ last ∷ []
+  pub key_is : last.key ≡ key
+  pub visit : IsVisitOf number last.call
+  pub waits : last.answer.reply ≡ MustWait
+
+-- A line that is answered `waiting KEY` has made such a visit.
+abbrev pub WaitingHasVisit : Type 0
+WaitingHasVisit = (rules : Rules) (s : WalkState) (word : ℕ) (key : List ℕ) (steps : List Step) (after : Option WalkState) →
+    IsDone rules acts.Scan (Some s) word (answers.WaitingAt key) steps after → EndsInWait s.asked.number key steps
+
+-- A line `let` goes on with the ticket of its request's latest wait.
+abbrev pub LetHasTicket : Type 0
+LetHasTicket = (rules : Rules) (s : WalkState) (word : ℕ) (steps : List Step) (after : Option WalkState) →
+    IsDone rules acts.Await (Some s) word answers.Let steps after → lets_of acts.Await (Some s) word ≡ wait_of s ∷ []
+
+-- the call that a line asks for at a key, by the request of the pass
+abbrev pub IsCallOf : Action → Option WalkState → Step → Type 0
+IsCallOf (acts.Acquire txn ts key) before x = (x.key ≡ key) × (x.call ≡ calls.Acquire txn ts)
+IsCallOf (acts.Update txn ts key) before x = (x.key ≡ key) × (x.call ≡ calls.Update txn ts)
+IsCallOf (acts.Finish txn key) before x = (x.key ≡ key) × (x.call ≡ calls.Finish txn)
+IsCallOf (acts.Look key) (Some s) x = (x.key ≡ key) × (x.call ≡ calls.Look s.asked.number)
+IsCallOf _ before x = ⊥
+
+-- There is one step, that of the line's call, with this reply.
+pub record HasStep (action : Action) (before : Option WalkState) (reply : Reply) (steps : List Step) : Type 0 where
+  pub step : Step
+  pub alone : steps ≡ step ∷ []
+  pub call : IsCallOf action before step
+  pub reply_is : step.answer.reply ≡ reply
+
+-- An answer that is a reply has its step; only acquire, update, finish and look have such answers.
+abbrev pub ReplyHasStep : Type 0
+ReplyHasStep = (rules : Rules) (action : Action) (before : Option WalkState) (word : ℕ) (reply : Reply) (steps : List Step) (after : Option WalkState) →
+    IsDone rules action before word (answers.Replied reply) steps after → HasStep action before reply steps

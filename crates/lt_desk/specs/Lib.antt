@@ -1,0 +1,10 @@
+pub mod Told
+pub mod Desks
+pub mod Machine
+pub mod Doing
+pub mod Worked
+pub mod Standing
+pub mod Turns
+pub mod Closing
+pub mod Ran
+pub mod Laws

@@ -1,0 +1,237 @@
+-- The machine of a pass: what each of its lines is answered, which steps it makes, and which request the pass has then.
+use Rattle.std.specs.Prelude.{ℕ, ◌≡◌, ◌≢◌, ◌≤◌, ◌<◌, List, [], ◌∷◌, length, position, Option, Some, None, Result, Ok, Err, slice_get}
+use Rattle.std.specs.Str.{bytes_eq}
+use Rattle.lt_ids.specs.Ticket.{Wait}
+use Rattle.lt_ids.specs.declared.timestamp.Timestamp.{Timestamp}
+use Rattle.lt_ids.specs.declared.request.Access.{Access}
+use Rattle.lt_plain.specs.declared.call.Call.{Call}
+use Rattle.lt_plain.specs.declared.call.Call.TheVariants as calls
+use Rattle.lt_shard.specs.declared.answer.Answer.{Answer}
+use Rattle.lt_table.specs.declared.progress.Mode.{Mode}
+use Rattle.lt_table.specs.declared.progress.Mode.TheVariants.{Awaiting, Let}
+use Rattle.lt_table.specs.declared.scan.Scan.{Scan}
+use Rattle.lt_table.specs.declared.scan.Scan.TheVariants as scans
+use Rattle.lt_table.specs.declared.scan.ScanError.{ScanError}
+use Rattle.lt_table.specs.declared.scan.ScanError.TheVariants as refused
+use Rattle.lt_table.specs.declared.scan.Poll.{Poll}
+use Rattle.lt_table.specs.declared.scan.Poll.TheVariants as polls
+use Rattle.lt_table.specs.Keys.{IsKeyList}
+use Rattle.lt_table.specs.Machine.{heard, polled}
+use Rattle.lt_table.specs.Entered.{at_start}
+use Rattle.lt_table.specs.Reported.{wait_of}
+use Rattle.lt_table.specs.Runs.{WalkState, Step, IsWalkScan, IsLeft, IsRefusedLeave}
+use Rattle.lt_script.specs.declared.command.Action.{Action}
+use Rattle.lt_script.specs.declared.command.Action.TheVariants as acts
+use Rattle.lt_script.specs.declared.command.Command.{Command}
+use Rattle.lt_desk.specs.declared.answer.LineAnswer.{LineAnswer}
+use Rattle.lt_desk.specs.declared.answer.LineAnswer.TheVariants as answers
+use Rattle.lt_desk.specs.declared.answer.Refusal.{Refusal}
+use Rattle.lt_desk.specs.declared.answer.Refusal.TheVariants as refusals
+
+-- what is fixed for a run: how often a request may wait, and, with threads, how often a line `await` may poll
+pub record Rules : Type 0 where
+  pub max_waits : ℕ
+  pub turns : Option ℕ
+
+-- ---- a pass without a request
+
+abbrev pub IsNone : LineAnswer → List Step → Option WalkState → Type 0
+IsNone answer steps after = (answer ≡ answers.NoRequest) × (steps ≡ []) × (after ≡ None)
+
+-- ---- open
+
+-- a request that has just entered
+abbrev pub entered : List (List ℕ × Access) → ℕ → ℕ → Timestamp → WalkState
+entered keys number txn ts = record { asked = record { keys = keys; number = number; txn = txn; ts = ts }; progress = at_start; answers = [] }
+
+-- A request entered, with this number.
+pub record IsEntered (txn : ℕ) (ts : Timestamp) (accesses : List (List ℕ × Access)) (number : ℕ) (after : Option WalkState) : Type 0 where
+  pub some : accesses ≢ []
+  pub few : length accesses ≤ 256
+  pub keys : List (List ℕ × Access)
+  pub list : IsKeyList accesses keys
+  pub state : after ≡ Some (entered keys number txn ts)
+
+abbrev pub IsEnterRefused : List (List ℕ × Access) → Refusal → Type 0
+IsEnterRefused accesses refusals.NoKeys = accesses ≡ []
+IsEnterRefused accesses refusals.TooManyKeys = 256 < length accesses
+IsEnterRefused accesses refusals.NumbersOut = (accesses ≢ []) × (length accesses ≤ 256)
+IsEnterRefused accesses _ = ⊥
+
+abbrev pub IsEntering : ℕ → Timestamp → List (List ℕ × Access) → LineAnswer → Option WalkState → Type 0
+IsEntering txn ts accesses (answers.Request number) after = IsEntered txn ts accesses number after
+IsEntering txn ts accesses (answers.Refused refusal) after = IsEnterRefused accesses refusal × (after ≡ None)
+IsEntering txn ts accesses _ after = ⊥
+
+-- With a request it is busy, and nothing is called.
+abbrev pub IsOpened : ℕ → Timestamp → List (List ℕ × Access) → Option WalkState → ℕ → LineAnswer → List Step → Option WalkState → Type 0
+IsOpened txn ts accesses None word answer steps after = (steps ≡ []) × IsEntering txn ts accesses answer after
+IsOpened txn ts accesses (Some s) word answer steps after = (answer ≡ answers.Busy) × (steps ≡ []) × (after ≡ Some s)
+
+-- ---- scan
+
+-- It waits at the key of this place.
+abbrev pub IsWaitingAt : Option (List ℕ × Access) → LineAnswer → Type 0
+IsWaitingAt None answer = ⊥
+IsWaitingAt (Some k) answer = answer ≡ answers.WaitingAt k.0
+
+-- what is answered where a scan ended so
+abbrev pub IsScanAnswer : List (List ℕ × Access) → Result Scan ScanError → LineAnswer → Type 0
+IsScanAnswer keys (Ok scans.Proceed) answer = answer ≡ answers.Proceed
+IsScanAnswer keys (Ok scans.Rescan) answer = answer ≡ answers.Rescan
+IsScanAnswer keys (Ok (scans.Waiting place)) answer = IsWaitingAt (slice_get keys place) answer
+IsScanAnswer keys (Err refused.Leaving) answer = answer ≡ answers.Refused refusals.Leaving
+IsScanAnswer keys (Err refused.StillWaiting) answer = answer ≡ answers.Refused refusals.StillWaiting
+IsScanAnswer keys (Err refused.WaitsOut) answer = answer ≡ answers.Refused refusals.WaitsOut
+IsScanAnswer keys (Err refused.HistoryFull) answer = answer ≡ answers.Refused refusals.HistoryFull
+IsScanAnswer keys (Err refused.Memory) answer = ⊥
+
+-- A scan of the request.
+pub record IsScanOf (max_waits : ℕ) (s : WalkState) (word : ℕ) (answer : LineAnswer) (steps : List Step) (after : Option WalkState) : Type 0 where
+  pub result : Result Scan ScanError
+  pub state : WalkState
+  pub scan : IsWalkScan max_waits s word steps result state
+  pub told : IsScanAnswer s.asked.keys result answer
+  pub goes_on : after ≡ Some state
+
+abbrev pub IsScanned : ℕ → Option WalkState → ℕ → LineAnswer → List Step → Option WalkState → Type 0
+IsScanned max_waits None word answer steps after = IsNone answer steps after
+IsScanned max_waits (Some s) word answer steps after = IsScanOf max_waits s word answer steps after
+
+-- ---- await
+
+-- On one thread a request that still waits is told so; with threads the turns are used up then.
+abbrev pub still_waiting : Option ℕ → LineAnswer
+still_waiting None = answers.Waiting
+still_waiting (Some turns) = answers.Turns
+
+abbrev pub poll_answer : Option ℕ → Poll → LineAnswer
+poll_answer turns polls.Through = answers.Let
+poll_answer turns polls.Waiting = still_waiting turns
+poll_answer turns polls.Idle = answers.Idle
+
+-- a request after its status word was read
+abbrev pub state_heard : WalkState → ℕ → WalkState
+state_heard s word = record s { progress = heard s.asked.number s.progress word }
+
+abbrev pub IsAwaited : Option ℕ → Option WalkState → ℕ → LineAnswer → List Step → Option WalkState → Type 0
+IsAwaited turns None word answer steps after = IsNone answer steps after
+IsAwaited turns (Some s) word answer steps after =
+    (answer ≡ poll_answer turns (polled (state_heard s word).progress)) × (steps ≡ []) × (after ≡ Some (state_heard s word))
+
+-- ---- one step
+
+-- There is one step, this call at the key, and its reply is answered.
+pub record IsStep (key : List ℕ) (call : Call) (answer : LineAnswer) (steps : List Step) : Type 0 where
+  pub step : Step
+  pub alone : steps ≡ step ∷ []
+  pub key_is : step.key ≡ key
+  pub call_is : step.call ≡ call
+  pub told : answer ≡ answers.Replied step.answer.reply
+
+abbrev pub IsReplied : List ℕ → Call → LineAnswer → List Step → Type 0
+IsReplied key call (answers.Refused refusals.HistoryFull) steps = steps ≡ []
+IsReplied key call answer steps = IsStep key call answer steps
+
+-- acquire, update, finish: calls of the pass, whether it has a request or not
+abbrev pub IsMade : List ℕ → Call → Option WalkState → ℕ → LineAnswer → List Step → Option WalkState → Type 0
+IsMade key call before word answer steps after = IsReplied key call answer steps × (after ≡ before)
+
+-- ---- look
+
+-- at which place the request has the key
+abbrev pub place_of : List (List ℕ × Access) → List ℕ → Option ℕ
+place_of keys key = position (λ k. bytes_eq k.0 key) keys
+
+-- A key that the request does not have is a stranger, and nothing is called.
+abbrev pub IsLookAt : Option ℕ → ℕ → List ℕ → LineAnswer → List Step → Type 0
+IsLookAt None number key answer steps = (answer ≡ answers.Stranger) × (steps ≡ [])
+IsLookAt (Some place) number key answer steps = IsReplied key (calls.Look number) answer steps
+
+abbrev pub IsLooked : List ℕ → Option WalkState → ℕ → LineAnswer → List Step → Option WalkState → Type 0
+IsLooked key None word answer steps after = IsNone answer steps after
+IsLooked key (Some s) word answer steps after = IsLookAt (place_of s.asked.keys key) s.asked.number key answer steps × (after ≡ Some s)
+
+-- ---- leave
+
+-- Each key is left, with its step.
+pub record IsLeftAll (s : WalkState) (steps : List Step) : Type 0 where
+  pub answered : List Answer
+  pub left : IsLeft s steps answered
+
+-- A step was refused: the request goes on leaving there.
+pub record IsStopped (s : WalkState) (steps : List Step) (after : Option WalkState) : Type 0 where
+  pub state : WalkState
+  pub refused : IsRefusedLeave s steps state
+  pub goes_on : after ≡ Some state
+
+abbrev pub IsLeaveOf : WalkState → LineAnswer → List Step → Option WalkState → Type 0
+IsLeaveOf s answers.Done steps after = IsLeftAll s steps × (after ≡ None)
+IsLeaveOf s (answers.Refused refusals.HistoryFull) steps after = IsStopped s steps after
+IsLeaveOf s _ steps after = ⊥
+
+abbrev pub IsLeave : Option WalkState → ℕ → LineAnswer → List Step → Option WalkState → Type 0
+IsLeave None word answer steps after = IsNone answer steps after
+IsLeave (Some s) word answer steps after = IsLeaveOf s answer steps after
+
+-- ---- lines
+
+-- The line does this: with the status word that was read it is answered so, makes these steps, and leaves this request.
+abbrev pub IsDone : Rules → Action → Option WalkState → ℕ → LineAnswer → List Step → Option WalkState → Type 0
+IsDone rules (acts.Open txn ts accesses) before word answer steps after = IsOpened txn ts accesses before word answer steps after
+IsDone rules acts.Scan before word answer steps after = IsScanned rules.max_waits before word answer steps after
+IsDone rules acts.Await before word answer steps after = IsAwaited rules.turns before word answer steps after
+IsDone rules (acts.Look key) before word answer steps after = IsLooked key before word answer steps after
+IsDone rules (acts.Acquire txn ts key) before word answer steps after = IsMade key (calls.Acquire txn ts) before word answer steps after
+IsDone rules (acts.Update txn ts key) before word answer steps after = IsMade key (calls.Update txn ts) before word answer steps after
+IsDone rules (acts.Finish txn key) before word answer steps after = IsMade key (calls.Finish txn) before word answer steps after
+IsDone rules acts.Leave before word answer steps after = IsLeave before word answer steps after
+
+-- the number that an answer says was drawn
+abbrev pub numbers_of : LineAnswer → List ℕ
+numbers_of (answers.Request number) = number ∷ []
+numbers_of _ = []
+
+abbrev pub let_in_mode : Mode → Wait → List Wait
+let_in_mode Let t = t ∷ []
+let_in_mode _ t = []
+
+-- the ticket with which an `await` finds that the request was let through
+abbrev pub let_read : Option WalkState → ℕ → List Wait
+let_read None word = []
+let_read (Some s) word = let_in_mode (state_heard s word).progress.mode (wait_of s)
+
+abbrev pub let_from : Mode → List Wait → List Wait
+let_from Awaiting lets = lets
+let_from _ lets = []
+
+-- the ticket with which a scan goes on, where no `await` has told it before
+abbrev pub let_gone_on : Option WalkState → ℕ → List Wait
+let_gone_on None word = []
+let_gone_on (Some s) word = let_from s.progress.mode (let_read (Some s) word)
+
+-- the ticket with which the request goes on at a line, where it does
+abbrev pub lets_of : Action → Option WalkState → ℕ → List Wait
+lets_of acts.Scan before word = let_gone_on before word
+lets_of acts.Await before word = let_read before word
+lets_of _ before word = []
+
+-- a line that was done: the request before it, the status word that was read, the answer, the steps, the request after it
+pub record Deed : Type 0 where
+  pub line : Command
+  pub before : Option WalkState
+  pub word : ℕ
+  pub answer : LineAnswer
+  pub steps : List Step
+  pub after : Option WalkState
+
+abbrev pub deed_numbers : Deed → List ℕ
+deed_numbers d = numbers_of d.answer
+
+abbrev pub deed_lets : Deed → List Wait
+deed_lets d = lets_of d.line.action d.before d.word
+
+-- The lines are done one after the other, from this request on.
+abbrev pub Runs : Rules → Option WalkState → List Deed → Option WalkState → Type 0
+Runs rules before [] after = after ≡ before
+Runs rules before (d ∷ ds) after = (d.before ≡ before) × IsDone rules d.line.action before d.word d.answer d.steps d.after × Runs rules d.after ds after

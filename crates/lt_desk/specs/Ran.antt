@@ -1,0 +1,49 @@
+-- What a run of a script promises.
+use Rattle.std.specs.Prelude.{ℕ, ◌≡◌, ◌+◌, Bool, List, [], ◌∷◌, ◌++◌, length, map, None, Option}
+use Rattle.std.specs.Global.{Vec}
+use Rattle.std.specs.List.{flat_map, AllByRecursion}
+use Rattle.lt_history.specs.declared.entry.Entry.{Entry}
+use Rattle.lt_history.specs.Histories.{AreLegalKeys, IsInRange}
+use Rattle.lt_script.specs.declared.command.Command.{Command}
+use Rattle.lt_table.specs.Runs.{WalkState}
+use Rattle.lt_desk.specs.declared.answer.AnswerLine.{AnswerLine}
+use Rattle.lt_desk.specs.declared.outcome.Finish.{Finish}
+use Rattle.lt_desk.specs.declared.outcome.Ran.{Ran}
+use Rattle.lt_desk.specs.Machine.{Rules, Deed, Runs}
+use Rattle.lt_desk.specs.Worked.{HasEnded, answer_line, deed_line, lines_of}
+use Rattle.lt_desk.specs.Turns.{IsAmong}
+use Rattle.lt_desk.specs.Standing.{AllStand}
+use Rattle.lt_desk.specs.Closing.{finish_all}
+
+-- The pass is answered by its machine, from no request on, over a front of its lines; how it ended tells what of the rest.
+pub record IsAnswered (rules : Rules) (always : Bool) (pass : ℕ) (lines : List Command) (deeds : List Deed) (answers : List AnswerLine) (finish : Finish) : Type 0 where
+  pub rest : List Command
+  pub all : lines ≡ map deed_line deeds ++ rest
+  pub after : Option WalkState
+  pub runs : Runs rules None deeds after
+  pub answers_are : answers ≡ map (answer_line pass) deeds
+  pub ended : HasEnded always deeds rest finish
+
+-- the same of all passes from this number on
+abbrev pub AreAnswered : Rules → Bool → List Command → ℕ → List (List Deed) → List (Vec AnswerLine) → List Finish → Type 0
+AreAnswered rules always commands n [] [] [] = Unit {0}
+AreAnswered rules always commands n (ds ∷ dss) (a ∷ as') (f ∷ fs) = IsAnswered rules always n (lines_of n commands) ds a.items f × AreAnswered rules always commands (n + 1) dss as' fs
+AreAnswered rules always commands n _ _ _ = ⊥
+
+-- the histories of the shards, one behind the other
+abbrev pub joined : List (Vec Entry) → List Entry
+joined histories = flat_map (λ h. h.items) histories
+
+-- Each pass is answered as its machine says, over a front of its lines: over all of them, if the run is done. All that is
+-- told stands in the final histories, of which there is one for each shard; they are legal for every key, and can stand in
+-- a text of histories.
+pub record IsRan (rules : Rules) (always : Bool) (shards : ℕ) (commands : List Command) (ran : Ran) : Type 0 where
+  pub deeds : List (List Deed)
+  pub finishes : List Finish
+  pub among : AllByRecursion (IsAmong (length deeds)) commands
+  pub answered : AreAnswered rules always commands 1 deeds ran.answers.items finishes
+  pub finish : ran.finish ≡ finish_all finishes
+  pub many : length ran.histories.items ≡ shards
+  pub stand : AllStand shards (map (λ h. h.items) ran.histories.items) 1 deeds
+  pub legal : AreLegalKeys (joined ran.histories.items)
+  pub in_range : AllByRecursion IsInRange (joined ran.histories.items)

@@ -1,0 +1,158 @@
+//! The lines of all passes: each pass on a thread of its own, or all in turn on one thread.
+ghost use Rattle.std.specs.Prelude.{◌≡◌, ◌≤◌, ◌-◌, [], IfOk, length, map, List, Ok};
+ghost use Rattle.std.specs.List.{All, AllByRecursion};
+ghost use Rattle.lt_desk.specs.Turns.{AreNumbered, AreTried, AreWorked, HaveBegun, IsAmong, IsReady, IsTriedOf, TakesTurn, slot_at, somes};
+
+use crate::gate::Gate;
+use crate::outcome::{OutOfMemory, Work};
+use crate::worker::{begin, next_line, work};
+use lt_plain::KeyTable;
+use lt_script::Command;
+use lt_table::Table;
+use lt_words::{Name, Pass};
+use std::alloc::Global;
+use std::mem;
+use std::sync::Wait;
+use std::thread;
+use std::thread::Threads;
+
+/// Each pass runs its lines on a thread of its own.
+fn start_all<
+    N: Name + Sync,
+    T: KeyTable + Send,
+    G: Gate + Sync,
+    R: Threads + Wait + Sync,
+>(
+    rt: &R,
+    alloc: Global,
+    table: &Table<N, T>,
+    gate: &G,
+    turns: Option<u64>,
+    passes: Vec<Pass>,
+    commands: &[Command],
+) -> Result<Vec<Result<Work, OutOfMemory>>, OutOfMemory>
+    requires { All (λ p. p.of ≡ N.of) passes.items }
+    ensures { IfOk result (λ works. AreTried (record { max_waits = table.now.max_waits; turns = turns }) (G.always gate.now) commands.now passes.items works.items) }
+{
+    let done = thread::map_vec(
+        rt,
+        passes,
+        &|pass: Pass| -> Result<Work, OutOfMemory>
+            requires { pass.of ≡ N.of }
+            ensures { IsTriedOf (record { max_waits = table.entry.now.max_waits; turns = turns }) (G.always gate.entry.now) commands.entry.now pass result }
+        { work(rt, alloc, table, gate, turns, pass, commands) },
+    );
+    match done {
+        Ok(works) => Ok(works),
+        Err(_) => Err(OutOfMemory),
+    }
+}
+
+/// All that they did, where memory ran out for none.
+fn collect(alloc: Global, done: Vec<Result<Work, OutOfMemory>>) -> Result<Vec<Work>, OutOfMemory>
+    ensures { IfOk result (λ works. done.items ≡ map Ok works.items) }
+{
+    let mut works = Vec::new(alloc);
+    for tried in done {
+        let Ok(()) = works.push(tried?) else {
+            return Err(OutOfMemory);
+        };
+    }
+    Ok(works)
+}
+
+/// Each pass runs its lines on a thread of its own, and all are waited for. Where no thread can be made they run one
+/// after another.
+pub(crate) fn run_on_threads<
+    N: Name + Sync,
+    T: KeyTable + Send,
+    G: Gate + Sync,
+    R: Threads + Wait + Sync,
+>(
+    rt: &R,
+    alloc: Global,
+    table: &Table<N, T>,
+    gate: &G,
+    turns: Option<u64>,
+    passes: Vec<Pass>,
+    commands: &[Command],
+) -> Result<Vec<Work>, OutOfMemory>
+    requires { All (λ p. p.of ≡ N.of) passes.items }
+    ensures { IfOk result (λ works. AreWorked (record { max_waits = table.now.max_waits; turns = turns }) (G.always gate.now) commands.now passes.items works.items) }
+{
+    let done = start_all(rt, alloc, table, gate, turns, passes, commands)?;
+    collect(alloc, done)
+}
+
+/// The pass of the command does its line.
+fn take_turn<N: Name, T: KeyTable, G: Gate, R: Wait>(
+    rt: &R,
+    alloc: Global,
+    table: &Table<N, T>,
+    gate: &G,
+    turns: Option<u64>,
+    slots: &mut [Option<Work>],
+    command: &Command,
+) -> Result<(), OutOfMemory>
+    requires low { 1 ≤ command.now.pass }
+    requires high { command.now.pass ≤ length slots.old }
+    requires ready { IsReady N.of (slot_at slots.old (command.now.pass - 1)) }
+    ensures { IfOk result (λ _. TakesTurn (record { max_waits = table.now.max_waits; turns = turns }) (G.always gate.now) command.now slots.old slots.new) }
+{
+    let number = command.pass.number();
+    let place = (number - 1) as usize;
+    let Some(before) = mem::replace(&mut slots[place], None) else {
+        unreachable!()
+    };
+    let after = next_line(rt, alloc, table, gate, turns, before, number, command)?;
+    slots[place] = Some(after);
+    Ok(())
+}
+
+fn begin_all(alloc: Global, passes: Vec<Pass>) -> Result<Vec<Option<Work>>, OutOfMemory>
+    ensures { IfOk result (λ slots. HaveBegun passes.items slots.items) }
+{
+    let mut slots = Vec::new(alloc);
+    for pass in passes {
+        let Ok(()) = slots.push(Some(begin(alloc, pass))) else {
+            return Err(OutOfMemory);
+        };
+    }
+    Ok(slots)
+}
+
+fn finish_all(alloc: Global, slots: Vec<Option<Work>>) -> Result<Vec<Work>, OutOfMemory>
+    ensures { IfOk result (λ works. works.items ≡ somes slots.items) }
+{
+    let mut works = Vec::new(alloc);
+    for slot in slots {
+        if let Some(work) = slot {
+            let Ok(()) = works.push(work) else {
+                return Err(OutOfMemory);
+            };
+        }
+    }
+    Ok(works)
+}
+
+/// The lines are run in their order, on one thread.
+pub(crate) fn run_in_turn<N: Name, T: KeyTable, G: Gate, R: Wait>(
+    rt: &R,
+    alloc: Global,
+    table: &Table<N, T>,
+    gate: &G,
+    turns: Option<u64>,
+    passes: Vec<Pass>,
+    commands: &[Command],
+) -> Result<Vec<Work>, OutOfMemory>
+    requires numbered { AreNumbered 0 passes.items }
+    requires of { AllByRecursion (λ p. p.of ≡ N.of) passes.items }
+    requires among { AllByRecursion (IsAmong (length passes.items)) commands.now }
+    ensures { IfOk result (λ works. AreWorked (record { max_waits = table.now.max_waits; turns = turns }) (G.always gate.now) commands.now passes.items works.items) }
+{
+    let mut slots = begin_all(alloc, passes)?;
+    for command in commands {
+        take_turn(rt, alloc, table, gate, turns, &mut slots, command)?;
+    }
+    finish_all(alloc, slots)
+}

@@ -1,0 +1,199 @@
+//! A whole run: a table is opened, the lines are run, and the table is closed.
+ghost use Rattle.std.specs.Prelude.{◌≡◌, ◌≤◌, ◌<◌, ◌^◌, IfOk, OnOk, length, map};
+ghost use Rattle.std.specs.List.{All, AllByRecursion};
+ghost use Rattle.lt_table.specs.Closed.{passes_of};
+ghost use Rattle.lt_desk.specs.Desks.{pass_of};
+ghost use Rattle.lt_desk.specs.Turns.{AreNumbered, AreWorked, IsAmong};
+ghost use Rattle.lt_desk.specs.Closing.{AreHanded, IsPut, finish_all, join};
+ghost use Rattle.lt_desk.specs.Ran.{IsRan};
+
+use crate::answer::AnswerLine;
+use crate::desk::Desk;
+use crate::gate::Gate;
+use crate::outcome::{Finish, OutOfMemory, Ran, RunFault, Work};
+use crate::running::{run_in_turn, run_on_threads};
+use lt_plain::KeyTable;
+use lt_script::Command;
+use lt_table::{CloseError, Config, Guard, Ready, Table, open, prepare};
+use lt_words::{Name, Pass};
+use std::alloc::Global;
+use std::marker::Brand;
+use std::sync::Wait;
+use std::thread::Threads;
+
+/// What workers hand over: their passes, alone or in a guard, their answers, and how they ended.
+#[derive(Drop)]
+struct Handed {
+    passes: Vec<Pass>,
+    guards: Vec<Guard>,
+    answers: Vec<Vec<AnswerLine>>,
+    finish: Finish,
+}
+
+/// How two passes ended together.
+fn join(one: Finish, other: Finish) -> Finish
+    ensures { result ≡ join one other }
+{
+    match one {
+        Finish::Done => other,
+        Finish::TurnsOut => Finish::TurnsOut,
+    }
+}
+
+/// Puts what the desk holds at the end of the passes, or of the guards.
+fn put(
+    desk: Desk,
+    passes: &mut Vec<Pass>,
+    guards: &mut Vec<Guard>,
+) -> Result<(), OutOfMemory>
+    ensures { OnOk result (IsPut desk passes.old.items guards.old.items passes.new.items guards.new.items) }
+{
+    let pushed = match desk {
+        Desk::Free(pass) => passes.push(pass).is_ok(),
+        Desk::Open(guard) => guards.push(guard).is_ok(),
+    };
+    if pushed { Ok(()) } else { Err(OutOfMemory) }
+}
+
+fn hand_over<N: Name>(alloc: Global, works: Vec<Work>) -> Result<Handed, OutOfMemory>
+    requires { All (λ w. (pass_of w.desk).of ≡ N.of) works.items }
+    ensures passes { IfOk result (λ h. AllByRecursion (λ p. p.of ≡ N.of) h.passes.items) }
+    ensures guards { IfOk result (λ h. AllByRecursion (λ g. g.pass.of ≡ N.of) h.guards.items) }
+    ensures handed { IfOk result (λ h. AreHanded (passes_of h.passes.items h.guards.items) works.items) }
+    ensures answers { IfOk result (λ h. h.answers.items ≡ map (λ w. w.answers) works.items) }
+    ensures finish { IfOk result (λ h. h.finish ≡ finish_all (map (λ w. w.finish) works.items)) }
+{
+    let mut passes = Vec::new(alloc);
+    let mut guards = Vec::new(alloc);
+    let mut answers = Vec::new(alloc);
+    let mut finish = Finish::Done;
+    for work in works {
+        let Work {
+            desk,
+            answers: lines,
+            finish: end,
+        } = work;
+        put(desk, &mut passes, &mut guards)?;
+        let Ok(()) = answers.push(lines) else {
+            return Err(OutOfMemory);
+        };
+        finish = join(finish, end);
+    }
+    Ok(Handed {
+        passes,
+        guards,
+        answers,
+        finish,
+    })
+}
+
+/// Runs the lines: with turns each pass on a thread of its own, else in their order on one thread.
+fn run_lines<
+    N: Name + Sync,
+    T: KeyTable + Send,
+    G: Gate + Sync,
+    R: Threads + Wait + Sync,
+>(
+    rt: &R,
+    alloc: Global,
+    table: &Table<N, T>,
+    gate: &G,
+    turns: Option<u64>,
+    passes: Vec<Pass>,
+    commands: &[Command],
+) -> Result<Vec<Work>, OutOfMemory>
+    requires numbered { AreNumbered 0 passes.items }
+    requires of { AllByRecursion (λ p. p.of ≡ N.of) passes.items }
+    requires among { AllByRecursion (IsAmong (length passes.items)) commands.now }
+    ensures { IfOk result (λ works. AreWorked (record { max_waits = table.now.max_waits; turns = turns }) (G.always gate.now) commands.now passes.items works.items) }
+{
+    match turns {
+        Some(_) => run_on_threads(rt, alloc, table, gate, turns, passes, commands),
+        None => run_in_turn(rt, alloc, table, gate, turns, passes, commands),
+    }
+}
+
+fn run_named<N: Name + Sync, G: Gate + Sync, R: Threads + Wait + Sync>(
+    rt: &R,
+    alloc: Global,
+    ready: Ready,
+    gate: &G,
+    turns: Option<u64>,
+    commands: &[Command],
+) -> Result<Ran, RunFault>
+    requires named { ready.of ≡ N.of }
+    requires shards { ready.config.shards ≡ N.of.shards }
+    requires passes { ready.config.passes ≡ N.of.passes }
+    requires some { 0 < N.of.shards }
+    requires among { AllByRecursion (IsAmong ready.config.passes) commands.now }
+    ensures { IfOk result (λ ran. IsRan (record { max_waits = ready.config.max_waits; turns = turns }) (G.always gate.now) ready.config.shards commands.now ran) }
+{
+    let Ok((table, passes)) = open::<N>(alloc, ready) else {
+        return Err(RunFault::Memory);
+    };
+    let works = run_lines(rt, alloc, &table, gate, turns, passes, commands)?;
+    let Handed {
+        passes,
+        guards,
+        answers,
+        finish,
+    } = hand_over::<N>(alloc, works)?;
+    match table.close(rt, alloc, passes, guards) {
+        Ok(histories) => Ok(Ran {
+            answers,
+            finish,
+            histories: histories.shards,
+        }),
+        Err(refused) => match refused.error {
+            CloseError::Memory => Err(RunFault::Memory),
+            _ => Err(RunFault::Counts),
+        },
+    }
+}
+
+/// The greatest number of a pass, at least 1.
+fn most_passes(commands: &[Command]) -> usize
+    ensures low { 1 ≤ result }
+    ensures high { result ≤ 64 }
+    ensures among { AllByRecursion (IsAmong result) commands.now }
+{
+    let mut most = 1;
+    for command in commands {
+        let pass = command.pass.number() as usize;
+        if most < pass {
+            most = pass;
+        }
+    }
+    most
+}
+
+/// Runs the commands over the public calls of a table that is opened for them, with so many shards and so many steps for
+/// each, and closes it. With turns each pass runs its lines on a thread of its own, and a line `await` polls so often; else
+/// the lines run in their order on one thread, and `await` polls once. The gate is asked before each line.
+pub fn run<G: Gate + Sync, R: Threads + Wait + Sync>(
+    rt: &R,
+    alloc: Global,
+    shards: usize,
+    max_steps: u64,
+    turns: Option<u64>,
+    gate: &G,
+    commands: &[Command],
+) -> Result<Ran, RunFault>
+    requires some_shards { 1 ≤ shards }
+    requires few_shards { shards ≤ 64 }
+    requires some_steps { 1 ≤ max_steps }
+    requires few_steps { max_steps ≤ 2 ^ 32 }
+    ensures { IfOk result (λ ran. IsRan (record { max_waits = 16777215; turns = turns }) (G.always gate.now) shards commands.now ran) }
+{
+    let config = Config {
+        shards,
+        passes: most_passes(commands),
+        max_steps,
+        max_requests: 1099511627775,
+        max_waits: 16777215,
+    };
+    let Ok(ready) = prepare(alloc, config) else {
+        return Err(RunFault::Memory);
+    };
+    run_named::<Brand, G, R>(rt, alloc, ready, gate, turns, commands)
+}
