@@ -1,9 +1,8 @@
 use Rattle.std.proofs.Common.{refl}
-use Rattle.lt_desk.specs.declared.answer.LineAnswer.TheVariants as answers
 use Rattle.lt_desk.specs.Machine.{IsOpened}
 use Rattle.lt_desk.specs.Doing.{no_lets}
 use Rattle.lt_desk.proofs.Doings.{does_open}
 use Rattle.lt_desk.proofs.act.open.Goals as goal
 
 pub returns-in-Open : goal.returns-in-Open
-returns-in-Open g c = does_open (IsOpened c.args.txn c.args.ts c.args.accesses.now) no_lets c.args.desk c.in-Open.guard answers.Busy c.in-Open.is (refl, refl, refl) refl refl
+returns-in-Open g c = does_open (IsOpened c.args.txn c.args.ts c.args.accesses.now) no_lets c.args.desk c.in-Open.guard _ c.in-Open.is (refl, refl, refl) refl refl
