@@ -4,6 +4,7 @@ ghost use Rattle.lt_text.specs.Compose.{spaced};
 ghost use Rattle.lt_text.specs.Fields.{ticket_word};
 ghost use Rattle.lt_history.specs.Lines.{lets_words, line_text};
 ghost use Rattle.lt_history.specs.Histories.{part, parts_of_entry, IsTextOf};
+ghost use Rattle.lt_history.specs.Print.{PutsText};
 ghost use Rattle.lt_history.specs.Sorted.{RiseFrom, HaveSameParts, next_index, lines_after};
 ghost use Rattle.std.specs.List.Sorted.{IsSortedByKey, IsStableByKey};
 ghost use Rattle.std.specs.Ordering.{nat_cmp};
@@ -116,15 +117,27 @@ fn put_lines(out: &mut Vec<u8>, entries: &[&Entry]) -> Result<(), AllocError>
     Ok(())
 }
 
-/// The text of the histories of some shards: `locks 1`, and then key after key, rising, each key's entries in the order
-/// in which they stand, shard after shard. It takes a reference for each entry, and time for one sort of these.
+/// Puts the text of the histories of some shards at the end: `locks 1`, and then key after key, rising, each key's
+/// entries in the order in which they stand, shard after shard. It takes a reference for each entry, and time for one
+/// sort of these.
+pub fn put_histories(out: &mut Vec<u8>, shards: &[Vec<Entry>]) -> Result<(), AllocError>
+    ensures text { OnOk result (PutsText out.old.items out.new.items (flat_map (λ shard. shard.items) shards.now)) }
+    // These entries have no other text.
+    ensures alone { OnOk result ((other : List ℕ) → IsTextOf other (flat_map (λ shard. shard.items) shards.now) → out.new.items ≡ out.old.items ++ other) }
+{
+    let entries = by_key(*out.allocator(), shards)?;
+    out.extend_from_slice(b"locks 1\n")?;
+    put_lines(out, &entries)?;
+    Ok(())
+}
+
+/// The text of the histories of some shards, as [`put_histories`] puts it.
 pub fn compose(alloc: Global, shards: &[Vec<Entry>]) -> Result<Vec<u8>, AllocError>
     ensures text { IfOk result (λ text. IsTextOf text.items (flat_map (λ shard. shard.items) shards.now)) }
     // These entries have no other text.
     ensures alone { IfOk result (λ text. (other : List ℕ) → IsTextOf other (flat_map (λ shard. shard.items) shards.now) → text.items ≡ other) }
 {
-    let entries = by_key(alloc, shards)?;
-    let mut text = Vec::from_slice(alloc, b"locks 1\n")?;
-    put_lines(&mut text, &entries)?;
+    let mut text = Vec::new(alloc);
+    put_histories(&mut text, shards)?;
     Ok(text)
 }

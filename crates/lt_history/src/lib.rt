@@ -1,14 +1,14 @@
 //! Histories of keys as text: how they are written, and an exact checker of such texts.
 //!
 //! A history is a list of the steps that were made of a lock table, each an [`Entry`]: which key, which pass, which call,
-//! which reply, and whom the step let through. [`print`] writes the text of such lists, and [`compose`] gives it in
-//! memory; [`check`] reads a text and says whether it is one of legal histories, that is, whether the
+//! which reply, and whom the step let through. [`print`] writes the text of such lists, [`compose`] gives it in
+//! memory, and [`put_histories`] puts it behind what a vector holds; [`check`] reads a text and says whether it is one of legal histories, that is, whether the
 //! rules of one key (`lt_plain`) give each reply and each let that the text has. So whoever has a text can audit a run
 //! without the table that made it.
 //!
 //! What is promised:
 //!
-//! - `compose` and `print` give the text of all entries: key after key, rising, each key's steps in their order
+//! - `compose`, `put_histories` and `print` give the text of all entries: key after key, rising, each key's steps in their order
 //!   (`IsTextOf` in `specs/Histories.antt`). `print` writes nothing without memory, and after a write that failed a
 //!   front of the text.
 //! - `check` answers `Ok` exactly on the texts of legal histories, with their numbers of keys and steps. Any other text
@@ -30,7 +30,7 @@ mod printer;
 mod tests;
 
 pub use checker::{CheckError, Report, check};
-pub use composer::compose;
+pub use composer::{compose, put_histories};
 pub use entry::{Entry, Lets};
 pub use error::Fault;
 pub use printer::{PrintError, print, write_out};
