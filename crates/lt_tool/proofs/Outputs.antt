@@ -1,21 +1,21 @@
 -- The output of a script ends with a text that a check takes.
-use Rattle.std.proofs.Common.{◌≡◌, ℕ, List, ◌++◌, length, refl}
-use Rattle.std.specs.List.{AllByRecursion}
-use Rattle.lt_history.specs.declared.entry.Entry.{Entry}
-use Rattle.lt_history.specs.Histories.{AreLegalKeys, IsInRange, IsTextOf}
+use Rattle.std.proofs.Common.{◌≡◌, ℕ, List, Bool, length, refl}
 use Rattle.lt_script.specs.declared.command.Command.{Command}
-use Rattle.lt_tool.specs.declared.answer.AnswerLine.{AnswerLine}
-use Rattle.lt_tool.specs.Answers.{answers_text}
-use Rattle.lt_tool.specs.Deeds.{AreDeeds}
-use Rattle.lt_tool.specs.Output.{IsOutput}
+use Rattle.lt_desk.specs.declared.outcome.Finish.{Finish}
+use Rattle.lt_desk.specs.declared.outcome.Ran.{Ran}
+use Rattle.lt_desk.specs.Ran.{IsRan, joined}
+use Rattle.lt_tool.specs.declared.run.Options.{Options}
+use Rattle.lt_tool.specs.Output.{IsComposed, IsOutput, rules_of}
 
-pub is_output : (text histories : List ℕ) (commands : List Command) (answers : List AnswerLine) (entries : List Entry) → AreDeeds commands answers entries → AreLegalKeys entries → AllByRecursion IsInRange entries → IsTextOf histories entries
-    → text ≡ answers_text answers ++ histories → IsOutput text commands
-is_output text histories commands answers entries deeds legal range is joined = record {
-  answers = answers;
-  histories = histories;
-  report = record { keys = length is.keys; steps = length entries };
-  legal = record { entries = entries; in_range = range; legal = legal; is_text = is; keys = refl; steps = refl };
-  deeds = deeds;
-  joined = joined;
+pub is_output : (options : Options) (always : Bool) (commands : List Command) (ran : Ran) (text : List ℕ) (finish : Finish) → IsRan (rules_of options) always options.shards commands ran → IsComposed ran text finish
+    → IsOutput options always commands text finish
+is_output options always commands ran text finish is_ran composed = record {
+  ran = ran;
+  is_ran = is_ran;
+  finish_is = composed.finish_is;
+  histories = composed.histories;
+  report = record { keys = length composed.is_text.keys; steps = length (joined ran.histories.items) };
+  legal = record { entries = joined ran.histories.items; in_range = is_ran.in_range; legal = is_ran.legal; is_text = composed.is_text; keys = refl; steps = refl };
+  entries_are = refl;
+  whole = composed.whole;
 }

@@ -1,9 +1,5 @@
 pub mod Answers
-pub mod Guards
-pub mod Slots
 pub mod Input
-pub mod Recorded
-pub mod Deeds
 pub mod Output
 pub mod Check
 pub mod Program
