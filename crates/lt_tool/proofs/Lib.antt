@@ -6,6 +6,7 @@ pub mod Steps
 pub mod Appended
 pub mod Swaps
 pub mod Commands
+pub mod Ranges
 pub mod Literals
 pub mod Told
 pub mod Checks

@@ -7,5 +7,6 @@ pub mod Deeds
 pub mod Output
 pub mod Check
 pub mod Program
+pub mod Options
 pub mod Words
 pub mod Work
