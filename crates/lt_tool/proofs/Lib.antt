@@ -1,6 +1,7 @@
 pub mod Pieces
 pub mod Appended
 pub mod Commands
+pub mod Ranges
 pub mod Literals
 pub mod Told
 pub mod Checks

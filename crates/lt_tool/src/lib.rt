@@ -10,7 +10,8 @@
 //! [`perform`] does what they ask for; [`status`] and [`complain`] are what the program `lockrun` ends with.
 //!
 //! `specs/Output.antt` says what a run writes, `specs/Deeds.antt` what each line did, and `specs/Answers.antt` how an
-//! answer is written; `specs/Check.antt` what a check tells, and `specs/Words.antt` what the words ask for.
+//! answer is written; `specs/Check.antt` what a check tells, `specs/Words.antt` what the words ask for, and `specs/Options.antt`
+//! what the options of a run may say.
 //! `docs/FORMATS.md` has the same for readers. In `src/`, `recorder` keeps the table together with the steps that were
 //! made of it, `guard` has the requests of the passes, and `desk` does what a line asks for.
 #![tactic(auto)]

@@ -9,20 +9,23 @@ use std::alloc::Global;
 use std::io::{Read, Write};
 use thiserror::Error;
 
-/// How a script is run. Each script is run on one thread over a plain table today: `threads` has to be false, and nothing
-/// else is looked at.
+/// How a script is run. Each script is run on one thread over a plain table today, and none of this is looked at.
 #[derive(Clone, Copy, Debug, PartialEq, Eq)]
 pub struct Options {
+    /// Shards of the table.
     pub shards: usize,
+    /// Key steps that each shard can hold.
     pub steps: u64,
+    /// Whether each pass runs on a thread of its own.
     pub threads: bool,
+    /// Polls of one `await` with threads.
     pub turns: u64,
 }
 
 impl Default for Options {
     ghost is_default = { λ o. o ≡ record { shards = 4; steps = 1000000; threads = false; turns = 1000000 } };
 
-    /// 4 shards, 1,000,000 steps, no threads, 1,000,000 turns.
+    /// 4 shards, 1,000,000 steps for each, no threads, 1,000,000 turns.
     fn default() -> Options {
         Options {
             shards: 4,
@@ -106,8 +109,6 @@ pub fn run_script<R: Read, W: Write>(
     writer: &mut W,
     options: &Options,
 ) -> Result<Finish, RunError>
-    requires { options.now.threads ≡ false }
-
     // Each line is answered, then comes a text of legal histories, which a check takes; nothing else is written.
     ensures done { IfOk result (λ finish. (finish ≡ Finish.Done) × Ran (R.remaining reader.old) (W.contents writer.old) (W.contents writer.new)) }
 

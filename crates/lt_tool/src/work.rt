@@ -1,8 +1,8 @@
-ghost use Rattle.std.specs.Prelude.{◌≡◌, None, false, IfOk, IfErr};
+ghost use Rattle.std.specs.Prelude.{◌≡◌, None, IfOk, IfErr};
 ghost use Rattle.std.specs.Io.KnownBytes.{Appends};
 ghost use Rattle.lt_history.specs.Print.{AppendsFront};
 ghost use Rattle.lt_tool.specs.Output.{Ran};
-ghost use Rattle.lt_tool.specs.Words.{HasDefaultOptions, texts};
+ghost use Rattle.lt_tool.specs.Words.{texts};
 ghost use Rattle.lt_tool.specs.Work.{IsFailedRun, IsFailedCheck, Told, LeavesOutput, IsDone, IsFailed, ReadsInput, AskForInput, Performs, Fails};
 
 use crate::{
@@ -20,7 +20,6 @@ fn run_from<R: Read, W: Write>(
     output: &mut W,
     options: &Options,
 ) -> Result<Finish, Failure>
-    requires { options.now.threads ≡ false }
     ensures ok { IfOk result (λ finish. (finish ≡ Finish.Done) × Ran (R.remaining input.old) (W.contents output.old) (W.contents output.new)) }
     ensures err { IfErr result (λ e. IsFailedRun e (R.remaining input.old) (W.contents output.old) (W.contents output.new)) }
     ensures unwritten { IfErr result (λ e. LeavesOutput e → output.new ≡ output.old) }
@@ -53,7 +52,6 @@ fn run_file<F: Files, W: Write>(
     output: &mut W,
     options: &Options,
 ) -> Result<Finish, Failure>
-    requires { options.now.threads ≡ false }
     ensures ok { IfOk result (λ finish. (finish ≡ Finish.Done) × Ran None (W.contents output.old) (W.contents output.new)) }
     ensures err { IfErr result (λ e. IsFailedRun e None (W.contents output.old) (W.contents output.new)) }
     ensures unwritten { IfErr result (λ e. LeavesOutput e → output.new ≡ output.old) }
@@ -88,7 +86,6 @@ fn work<F: Files, R: Read, W: Write>(
     input: &mut R,
     output: &mut W,
 ) -> Result<Finish, Failure>
-    requires { HasDefaultOptions job }
     ensures ok { IfOk result (λ finish. (finish ≡ Finish.Done) × IsDone job.entry (R.remaining input.old) (W.contents output.old) (W.contents output.new)) }
     ensures err { IfErr result (λ e. IsFailed job.entry e (R.remaining input.old) (W.contents output.old) (W.contents output.new)) }
     ensures unwritten { IfErr result (λ e. LeavesOutput e → output.new ≡ output.old) }
