@@ -30,6 +30,7 @@ fn run(rt: &HostRuntime) -> Result<Finish, Failure> {
         return Err(Failure::Memory);
     };
     perform(
+        rt,
         rt.alloc(),
         rt,
         texts.as_slice(),
@@ -40,8 +41,6 @@ fn run(rt: &HostRuntime) -> Result<Finish, Failure> {
 
 fn main(rt: HostRuntime) -> ExitCode {
     let ending = run(&rt);
-    if let Err(failure) = &ending {
-        let _told = complain(&mut rt.stderr(), failure);
-    }
+    let _told = complain(&mut rt.stderr(), &ending);
     ExitCode::from(status(&ending))
 }

@@ -1,15 +1,15 @@
 -- The output of a script ends with a text that a check takes.
-use Rattle.std.proofs.Common.{◌≡◌, ℕ, List, Bool, length, refl}
+use Rattle.std.proofs.Common.{◌≡◌, ℕ, List, Bool, Option, length, refl, subst}
 use Rattle.lt_script.specs.declared.command.Command.{Command}
 use Rattle.lt_desk.specs.declared.outcome.Finish.{Finish}
 use Rattle.lt_desk.specs.declared.outcome.Ran.{Ran}
 use Rattle.lt_desk.specs.Ran.{IsRan, joined}
 use Rattle.lt_tool.specs.declared.run.Options.{Options}
-use Rattle.lt_tool.specs.Output.{IsComposed, IsOutput, rules_of}
+use Rattle.lt_tool.specs.Output.{IsComposed, IsOutput, rules_of, turns_of}
 
-pub is_output : (options : Options) (always : Bool) (commands : List Command) (ran : Ran) (text : List ℕ) (finish : Finish) → IsRan (rules_of options) always options.shards commands ran → IsComposed ran text finish
+written : (options : Options) (always : Bool) (commands : List Command) (ran : Ran) (text : List ℕ) (finish : Finish) → IsRan (rules_of options) always options.shards commands ran → IsComposed ran text finish
     → IsOutput options always commands text finish
-is_output options always commands ran text finish is_ran composed = record {
+written options always commands ran text finish is_ran composed = record {
   ran = ran;
   is_ran = is_ran;
   finish_is = composed.finish_is;
@@ -19,3 +19,10 @@ is_output options always commands ran text finish is_ran composed = record {
   entries_are = refl;
   whole = composed.whole;
 }
+
+pub is_output : (options : Options) (always : Bool) (commands given : List Command) (turns : Option ℕ) (ran : Ran) (text : List ℕ) (finish : Finish) → turns ≡ turns_of options → given ≡ commands
+    → IsRan (record { max_waits = 16777215; turns = turns }) always options.shards given ran → IsComposed ran text finish → IsOutput options always commands text finish
+is_output options always commands given turns ran text finish said same is_ran composed =
+    written options always commands ran text finish
+    (subst (λ (cs : List Command). IsRan (rules_of options) always options.shards cs ran) same
+    (subst (λ (t : Option ℕ). IsRan (record { max_waits = 16777215; turns = t }) always options.shards given ran) said is_ran)) composed

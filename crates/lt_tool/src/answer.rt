@@ -73,10 +73,7 @@ fn put_pass(out: &mut Vec<u8>, lines: &[AnswerLine]) -> Result<(), AllocError>
 }
 
 /// Puts the lines of all passes at the end, pass after pass.
-pub(crate) fn put_answers(
-    out: &mut Vec<u8>,
-    passes: &[Vec<AnswerLine>],
-) -> Result<(), AllocError>
+pub(crate) fn put_answers(out: &mut Vec<u8>, passes: &[Vec<AnswerLine>]) -> Result<(), AllocError>
     ensures { OnOk result (out.new.items ≡ out.old.items ++ answers_text passes.now) }
 {
     for lines in passes {

@@ -13,7 +13,7 @@ use std::thread::Threads;
 
 /// What a run writes, and how it ended.
 #[derive(Drop)]
-pub(crate) struct Output {
+pub(crate) struct Outcome {
     pub text: Vec<u8>,
     pub finish: Finish,
 }
@@ -30,8 +30,8 @@ fn turns_of(options: &Options) -> Option<u64>
 }
 
 /// The text of what came of a run. The answers are dropped before the histories are put.
-fn composed(alloc: Global, ran: Ran) -> Result<Output, AllocError>
-    ensures { IfOk result (λ output. IsComposed ran output.text.items output.finish) }
+fn composed(alloc: Global, ran: Ran) -> Result<Outcome, AllocError>
+    ensures { IfOk result (λ outcome. IsComposed ran outcome.text.items outcome.finish) }
 {
     let Ran {
         answers,
@@ -42,19 +42,19 @@ fn composed(alloc: Global, ran: Ran) -> Result<Output, AllocError>
     put_answers(&mut text, &answers)?;
     drop(answers);
     put_histories(&mut text, &histories)?;
-    Ok(Output { text, finish })
+    Ok(Outcome { text, finish })
 }
 
 /// Runs the commands: the text of their answers and of the histories. The script is dropped before the text is composed.
-pub(crate) fn output<G: Gate + Sync, H: Threads + Wait + Sync>(
+pub(crate) fn run_commands<G: Gate + Sync, H: Threads + Wait + Sync>(
     rt: &H,
     alloc: Global,
     options: &Options,
     gate: &G,
     script: Script,
-) -> Result<Output, RunFault>
+) -> Result<Outcome, RunFault>
     requires { AreInRange options.now }
-    ensures { IfOk result (λ output. IsOutput options.now (G.always gate.now) script output.text.items output.finish) }
+    ensures { IfOk result (λ outcome. IsOutput options.now (G.always gate.now) script outcome.text.items outcome.finish) }
 {
     let ran = run(
         rt,
@@ -67,7 +67,7 @@ pub(crate) fn output<G: Gate + Sync, H: Threads + Wait + Sync>(
     )?;
     drop(script);
     match composed(alloc, ran) {
-        Ok(output) => Ok(output),
+        Ok(outcome) => Ok(outcome),
         Err(_) => Err(RunFault::Memory),
     }
 }
