@@ -1,5 +1,5 @@
 -- A table is closed over what the passes did.
-use Rattle.std.proofs.Common.{◌≡◌, ◌≢◌, ℕ, zero, suc, ◌+◌, ◌<◌, ◌≤◌, Bool, true, false, cond, nat_eq, List, [], ◌∷◌, ◌++◌, length, map, get_or, Option, Some, refl, sym, ap, subst, ◌∙◌, append_assoc, append-nil, arith}
+use Rattle.std.proofs.Common.{◌≡◌, ◌≢◌, ℕ, zero, suc, ◌+◌, ◌<◌, ◌≤◌, Bool, true, false, cond, nat_eq, List, [], ◌∷◌, ◌++◌, length, map, get_or, Option, Some, refl, sym, ap, subst, ◌∙◌, append_assoc, append-nil, length-append, arith}
 use Rattle.std.specs.Prelude.{Contains}
 use Rattle.std.specs.Global.{Vec}
 use Rattle.std.specs.List.{flat_map, AllByRecursion}
@@ -14,7 +14,7 @@ use Rattle.lt_history.proofs.Keys.{same_key}
 use Rattle.lt_plain.specs.Step.{IsLegal}
 use Rattle.lt_words.specs.declared.event.Event.{Event}
 use Rattle.lt_words.specs.History.{part, shard_of}
-use Rattle.lt_words.specs.Row.{Opening, Seer}
+use Rattle.lt_words.specs.Row.{Opening, Seer, fresh, fresh_passes}
 use Rattle.lt_script.specs.declared.command.Command.{Command}
 use Rattle.lt_table.specs.Reported.{GuardState}
 use Rattle.lt_table.specs.Closed.{IsClosed, IsFinal, passes_of}
@@ -56,8 +56,8 @@ one_pass_more ps p x gs c = between ps (map guard_pass gs) p x c
   where
     between : (ps qs : List Seer) (p x : Seer) → Contains (ps ++ qs) x → Contains ((ps ++ p ∷ []) ++ qs) x
     between [] qs p x c = Contains-append_right (p ∷ []) qs x c
-    between (y ∷ ps) qs p x (zero, c) = (zero, omega arith, c.1)
-    between (y ∷ ps) qs p x (suc k, c) = let d = between ps qs p x (k, (omega (arith, c.0), c.1)) in (suc d.0, omega (arith, d.1), d.2)
+    between (y ∷ ps) qs p x (zero, lt, is) = (zero, omega arith, is)
+    between (y ∷ ps) qs p x (suc k, lt, is) = let d : Contains ((ps ++ p ∷ []) ++ qs) x = between ps qs p x (k, omega (arith, lt), is) in (suc d.0, omega (arith, d.1), d.2)
 
 pub put_handed : (d : Desk) (ps qs : List Seer) (gs hs : List GuardState) (ws : List Work) (w : Work) → w.desk ≡ d → IsPut d ps gs qs hs → AreHanded (passes_of ps gs) ws → AreHanded (passes_of qs hs) (ws ++ w ∷ [])
 put_handed (Free p) ps qs gs hs ws w is put h =
@@ -81,9 +81,9 @@ finish_more (TurnsOut ∷ fs) f = refl
 -- ---- what the close says of each
 
 contained : {A : Type 0} (P : A → Type 0) (xs : List A) (x : A) → AllByRecursion P xs → Contains xs x → P x
-contained P [] x a (k, c) = absurd (omega (arith, c.0))
-contained P (y ∷ xs) x a (zero, c) = subst P c.1 a.0
-contained P (y ∷ xs) x a (suc k, c) = contained P xs x a.1 (k, (omega (arith, c.0), c.1))
+contained P [] x a (k, lt, is) = absurd (omega (arith, lt))
+contained P (y ∷ xs) x a (zero, lt, is) = subst P is a.0
+contained P (y ∷ xs) x a (suc k, lt, is) = contained P xs x a.1 (k, omega (arith, lt), is)
 
 at_map : {A B : Type 0} (f : A → B) (xs : List A) (i : ℕ) (b : B) (P : B → Type 0) → i < length xs → ((d : A) → P (f (get_or xs i d))) → P (get_or (map f xs) i b)
 at_map f [] i b P lt h = absurd (omega arith)
@@ -122,9 +122,10 @@ are_good : (n s : ℕ) (vs : List (Vec Entry)) → ((k : ℕ) (d : Vec Entry) �
 are_good n s [] h = tt
 are_good n s (v ∷ vs) h =
     let first = h zero v (omega arith) in
-    let plus : s + zero ≡ s = omega arith in
-    ((first.0, subst (λ (k : ℕ). AtHome n k v.items) plus first.1, first.2),
-      are_good n (s + 1) vs (λ k d lt. let at = h (suc k) d (omega arith) in let plus' : s + suc k ≡ s + 1 + k = omega arith in (at.0, subst (λ (j : ℕ). AtHome n j (get_or vs k d).items) plus' at.1, at.2)))
+    let plus : s + zero ≡ s = omega arith in (
+      (first.0, subst (λ (k : ℕ). AtHome n k v.items) plus first.1, first.2),
+      are_good n (s + 1) vs (λ k d lt. let at = h (suc k) d (omega arith) in let plus' : s + suc k ≡ s + 1 + k = omega arith in (at.0, subst (λ (j : ℕ). AtHome n j (get_or vs k d).items) plus' at.1, at.2)),
+    )
 
 skipped : (b : Bool) (e : Entry) (es fs : List Entry) → b ≡ false → es ≡ fs → cond b (e ∷ es) es ≡ fs
 skipped true e es fs f is = cc
@@ -153,26 +154,26 @@ none_later n s key (v ∷ vs) good lt =
 
 legal_key : (n s : ℕ) (key : List ℕ) (vs : List (Vec Entry)) → AreGood n s vs → IsLegal (map event_of (key_part key (joined vs)))
 legal_key n s key [] good = tt
-legal_key n s key (v ∷ vs) good = by_test (nat_eq s (shard_of key n)) refl
+legal_key n s key (v ∷ vs) good = by_test (legal_key n (s + 1) key vs good.1) (nat_eq s (shard_of key n)) refl
   where
-    by_test : (b : Bool) → nat_eq s (shard_of key n) ≡ b → IsLegal (map event_of (key_part key (joined (v ∷ vs))))
-    by_test true e =
+    by_test : IsLegal (map event_of (key_part key (joined vs))) → (b : Bool) → nat_eq s (shard_of key n) ≡ b → IsLegal (map event_of (key_part key (joined (v ∷ vs))))
+    by_test later true e =
         let is : s ≡ shard_of key n = grind (arith, e) in
         let rest : key_part key (joined vs) ≡ [] = none_later n (s + 1) key vs good.1 (omega (arith, is)) in
         let all : key_part key (joined (v ∷ vs)) ≡ key_part key v.items = split_part key v.items (joined vs) ∙ (ap (λ (l : List Entry). key_part key v.items ++ l) rest ∙ append-nil (key_part key v.items)) in
         subst (λ (es : List Entry). IsLegal (map event_of es)) (sym all) (good.0.0 key)
-    by_test false e =
+    by_test later false e =
         let ne : s ≢ shard_of key n = grind (arith, e) in
         let here : key_part key v.items ≡ [] = none_of_key n s key v.items good.0.1 ne in
         let all : key_part key (joined (v ∷ vs)) ≡ key_part key (joined vs) = split_part key v.items (joined vs) ∙ ap (λ (l : List Entry). l ++ key_part key (joined vs)) here in
-        subst (λ (es : List Entry). IsLegal (map event_of es)) (sym all) (legal_key n (s + 1) key vs good.1)
+        subst (λ (es : List Entry). IsLegal (map event_of es)) (sym all) later
 
 all_in_range : (n s : ℕ) (vs : List (Vec Entry)) → AreGood n s vs → AllByRecursion IsInRange (joined vs)
 all_in_range n s [] good = tt
 all_in_range n s (v ∷ vs) good = all_append IsInRange v.items (joined vs) good.0.2 (all_in_range n (s + 1) vs good.1)
 
 closed_good : (of : Opening) (ps : List Seer) (shards : List (Vec Entry)) (draws : ℕ) → IsClosed of ps shards draws → AreGood of.shards 0 shards
-closed_good of ps shards draws c = are_good of.shards 0 shards (λ k d lt. let f = c.each k d (omega (arith, c.many)) in (f.legal, f.home, f.in_range))
+closed_good of ps shards draws c = are_good of.shards 0 shards (λ k d lt. let f = c.each k d (omega (arith, c.many)) in let zero_plus : k ≡ 0 + k = omega arith in (f.legal, subst (λ (j : ℕ). AtHome of.shards j (get_or shards k d).items) zero_plus f.home, f.in_range))
 
 -- ---- the run
 
@@ -180,7 +181,7 @@ deeds_of : (rules : Rules) (always : Bool) (cs : List Command) (ps : List Seer) 
 deeds_of rules always cs [] [] a = ([], tt, refl)
 deeds_of rules always cs [] (w ∷ ws) a = absurd a
 deeds_of rules always cs (p ∷ ps) [] a = absurd a
-deeds_of rules always cs (p ∷ ps) (w ∷ ws) a = let rest = deeds_of rules always cs ps ws a.1 in (a.0.0 ∷ rest.0, ((a.0.1, rest.1), ap (λ n. suc n) rest.2))
+deeds_of rules always cs (p ∷ ps) (w ∷ ws) a = let rest = deeds_of rules always cs ps ws a.1 in (a.0.0 ∷ rest.0, (a.0.1, rest.1), ap (λ n. suc n) rest.2)
 
 answers_in : Work → Vec AnswerLine
 answers_in w = w.answers
@@ -221,3 +222,30 @@ is_ran rules always of cs ps qs ws draws ran some among are_of num worked closed
       legal = λ key. legal_key of.shards 0 key ran.histories.items good;
       in_range = all_in_range of.shards 0 ran.histories.items good;
     }
+
+-- ---- the passes of a new table
+
+fresh_many : (of : Opening) (n : ℕ) → length (fresh_passes of n) ≡ n
+fresh_many of zero = refl
+fresh_many of (suc n) = length-append (fresh_passes of n) (fresh of (suc n) ∷ []) ∙ (let rest : length (fresh_passes of n) ≡ n = fresh_many of n in omega arith)
+
+numbered_more : (k : ℕ) (ps : List Seer) (p : Seer) → AreNumbered k ps → p.number ≡ k + length ps + 1 → AreNumbered k (ps ++ p ∷ [])
+numbered_more k [] p h is = (omega (arith, is), tt)
+numbered_more k (q ∷ ps) p h is = (h.0, numbered_more (k + 1) ps p h.1 (omega (arith, is)))
+
+fresh_numbered : (of : Opening) (n : ℕ) → AreNumbered 0 (fresh_passes of n)
+fresh_numbered of zero = tt
+fresh_numbered of (suc n) = numbered_more 0 (fresh_passes of n) (fresh of (suc n)) (fresh_numbered of n) (let many : length (fresh_passes of n) ≡ n = fresh_many of n in omega arith)
+
+pub new_numbered : (of : Opening) (n : ℕ) (ps : List Seer) → ps ≡ fresh_passes of n → AreNumbered 0 ps
+new_numbered of n ps e = subst (AreNumbered 0) (sym e) (fresh_numbered of n)
+
+pub new_among : (of : Opening) (n : ℕ) (ps : List Seer) (cs : List Command) → ps ≡ fresh_passes of n → AllByRecursion (IsAmong n) cs → AllByRecursion (IsAmong (length ps)) cs
+new_among of n ps cs e a = let many : length ps ≡ n = ap length e ∙ fresh_many of n in subst (λ (k : ℕ). AllByRecursion (IsAmong k) cs) (sym many) a
+
+-- the passes of what was done are the table's
+pub works_of : (rules : Rules) (always : Bool) (cs : List Command) (of : Opening) (ps : List Seer) (ws : List Work) → AreWorked rules always cs ps ws → AllByRecursion (λ p. p.of ≡ of) ps → AllByRecursion (λ w. (pass_of w.desk).of ≡ of) ws
+works_of rules always cs of [] [] a h = tt
+works_of rules always cs of [] (w ∷ ws) a h = absurd a
+works_of rules always cs of (p ∷ ps) [] a h = absurd a
+works_of rules always cs of (p ∷ ps) (w ∷ ws) a h = (a.0.1.done.tells.of ∙ h.0, works_of rules always cs of ps ws a.1 h.1)

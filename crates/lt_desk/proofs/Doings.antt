@@ -1,7 +1,11 @@
 -- Lines that call nothing, and lines of one step.
 use Rattle.std.proofs.Common.{◌≡◌, ℕ, List, [], ◌∷◌, Option, Some, None, Result, Ok, Err, refl, sym, ap, subst, ◌∙◌}
-use Rattle.std.specs.Prelude.{IfOk, OnErr}
+use Rattle.std.specs.Prelude.{IfOk, OnErr, slice_get}
+use Rattle.std.specs.Option.{option_map}
+use Rattle.std.proofs.lemmas.Result.{IfOk-weaker, on_err_weaker}
 use Rattle.lt_ids.specs.Ticket.{Wait}
+use Rattle.lt_ids.specs.declared.request.Access.{Access}
+use Rattle.lt_ids.specs.declared.timestamp.Timestamp.{Timestamp}
 use Rattle.lt_plain.specs.declared.call.Call.{Call}
 use Rattle.lt_plain.specs.declared.call.Call.TheVariants as calls
 use Rattle.lt_plain.specs.declared.call.Reply.{Reply}
@@ -9,6 +13,8 @@ use Rattle.lt_words.specs.Row.{Seer}
 use Rattle.lt_shard.specs.declared.answer.Answer.{Answer}
 use Rattle.lt_shard.specs.declared.answer.StepError.{StepError}
 use Rattle.lt_shard.specs.declared.answer.StepError.TheVariants as steps
+use Rattle.lt_table.specs.declared.progress.Progress.{Progress}
+use Rattle.lt_table.specs.Entered.{at_start}
 use Rattle.lt_table.specs.Runs.{WalkState, Step}
 use Rattle.lt_table.specs.Reported.{GuardState, Reported}
 use Rattle.lt_desk.specs.declared.desk.Desk.{Desk}
@@ -20,7 +26,7 @@ use Rattle.lt_desk.specs.declared.answer.LineAnswer.TheVariants as answers
 use Rattle.lt_desk.specs.declared.answer.Refusal.TheVariants as refusals
 use Rattle.lt_desk.specs.Told.{Tells}
 use Rattle.lt_desk.specs.Desks.{request_of, pass_of}
-use Rattle.lt_desk.specs.Machine.{numbers_of, place_of, IsMade, IsLooked, IsLookAt}
+use Rattle.lt_desk.specs.Machine.{entered, numbers_of, place_of, IsMade, IsLooked, IsLookAt}
 use Rattle.lt_desk.specs.Doing.{Does, Fact, IsTold, Lets, no_lets}
 use Rattle.lt_desk.proofs.Telling.{tells_none, tells_step}
 
@@ -80,3 +86,28 @@ looked key old new place (Ok t) at told = record {
   done = (subst (λ (o : Option ℕ). IsLookAt o old.walk.asked.number key t.answer told.steps) at told.done.0, told.done.1);
   tells = told.tells;
 }
+
+-- a call of the request's pass
+pub made_in : (key : List ℕ) (call : Call) (old new : GuardState) (answered : Result Answer StepError) (told : Result Told OutOfMemory) → new.walk ≡ old.walk
+    → IfOk answered (λ a. Reported old.pass new.pass (record { key = key; call = call; answer = a })) → OnErr answered (new ≡ old) → IsTold answered (Open new) told
+    → IfOk told (λ t. Does (IsMade key call) no_lets (Open old) t.answer t.desk)
+made_in key call old new answered told same ok err is = made key call (Open old) (Open new) answered told (ap (λ (w : WalkState). Some w) same) ok (on_err_weaker answered (λ e. ap (λ (g : GuardState). g.pass) e) err) is
+
+-- the look at a place is one at its key
+pub look_at : (keys : List (List ℕ × Access)) (place : ℕ) (key : List ℕ) (old new : Seer) (number : ℕ) (answered : Result Answer StepError) → (a : Access) × (slice_get keys place ≡ Some (key, a))
+    → IfOk answered (λ r. (k : List ℕ) × (option_map (λ x. x.0) (slice_get keys place) ≡ Some k) × Reported old new (record { key = k; call = calls.Look number; answer = r }))
+    → IfOk answered (λ r. Reported old new (record { key = key; call = calls.Look number; answer = r }))
+look_at keys place key old new number answered there ok = IfOk-weaker answered _ _ (λ r h. subst (λ (k : List ℕ). Reported old new (record { key = k; call = calls.Look number; answer = r })) (same h.0 h.1) h.2) ok
+  where
+    same : (k : List ℕ) → option_map (λ (x : List ℕ × Access). x.0) (slice_get keys place) ≡ Some k → k ≡ key
+    same k is = let both : Some k ≡ Some key = sym is ∙ ap (option_map (λ (x : List ℕ × Access). x.0)) there.1 in cc
+
+-- ---- open
+
+pub is_entered : (w : WalkState) (number txn : ℕ) (ts : Timestamp) → number ≡ w.asked.number → w.asked.txn ≡ txn → w.asked.ts ≡ ts → w.progress ≡ at_start → w.answers ≡ [] → w ≡ entered w.asked.keys number txn ts
+is_entered w number txn ts n t s p a =
+    ap (λ (x : ℕ). record w { asked = record w.asked { number = x } }) (sym n)
+    ∙ (ap (λ (x : ℕ). record w { asked = record w.asked { number = number; txn = x } }) t
+    ∙ (ap (λ (x : Timestamp). record w { asked = record w.asked { number = number; txn = txn; ts = x } }) s
+    ∙ (ap (λ (x : Progress). record w { asked = record w.asked { number = number; txn = txn; ts = ts }; progress = x }) p
+    ∙ ap (λ (x : List Answer). record w { asked = record w.asked { number = number; txn = txn; ts = ts }; progress = at_start; answers = x }) a)))

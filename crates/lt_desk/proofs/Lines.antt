@@ -27,7 +27,7 @@ flat_snoc : {A B : Type 0} (f : A → List B) (xs : List A) (x : A) → flat_map
 flat_snoc f xs x = flat_map-append f xs (x ∷ []) ∙ ap (λ ys. flat_map f xs ++ ys) (append-nil (f x))
 
 runs_more : (rules : Rules) (before after : Option WalkState) (ds : List Deed) (d : Deed) → Runs rules before ds after → d.before ≡ after → IsDone rules d.line.action after d.word d.answer d.steps d.after → Runs rules before (ds ++ d ∷ []) d.after
-runs_more rules before after [] d r e h = (e ∙ r, subst (λ (o : Option WalkState). IsDone rules d.line.action o d.word d.answer d.steps d.after) (sym e) h, refl)
+runs_more rules before after [] d r e h = (e ∙ r, subst (λ (o : Option WalkState). IsDone rules d.line.action o d.word d.answer d.steps d.after) r h, refl)
 runs_more rules before after (x ∷ ds) d r e h = (r.0, r.1, runs_more rules x.after after ds d r.2 e h)
 
 abbrev pub deed_of : Command → Desk → ℕ → LineAnswer → List Step → Desk → Deed
@@ -74,13 +74,16 @@ ended_on always ds rest more Done e h = cc
 
 -- Nothing was done: the line is left with the rest.
 left_over : (rules : Rules) (always : Bool) (old : Seer) (ls : List Command) (line : Command) (w : Work) → w.finish ≡ TurnsOut → IsWorked rules always old ls w → IsWorked rules always old (ls ++ line ∷ []) w
-left_over rules always old ls line w f h = (h.0, record {
-  front = h.1.front;
-  rest = h.1.rest ++ line ∷ [];
-  all = ap (λ (l : List Command). l ++ line ∷ []) h.1.all ∙ append_assoc h.1.front h.1.rest (line ∷ []);
-  done = h.1.done;
-  ended = ended_on always h.0 h.1.rest (h.1.rest ++ line ∷ []) w.finish f h.1.ended;
-})
+left_over rules always old ls line w f h = (
+  h.0,
+  record {
+    front = h.1.front;
+    rest = h.1.rest ++ line ∷ [];
+    all = ap (λ (l : List Command). l ++ line ∷ []) h.1.all ∙ append_assoc h.1.front h.1.rest (line ∷ []);
+    done = h.1.done;
+    ended = ended_on always h.0 h.1.rest (h.1.rest ++ line ∷ []) w.finish f h.1.ended;
+  },
+)
 
 -- what a pass that has not ended has done
 record IsAlive (rules : Rules) (old : Seer) (ls : List Command) (w : Work) : Type 0 where
@@ -96,24 +99,28 @@ alive rules always old ls w f h =
 
 taken : (rules : Rules) (always : Bool) (old : Seer) (ls : List Command) (number : ℕ) (line : Command) (w new : Work) → number ≡ old.number → IsAlive rules old ls w → TakesOn rules always number w.desk w.answers.items line new → IsWorked rules always old (ls ++ line ∷ []) new
 taken rules always old ls number line w new same a (inl s) =
-    let desk : AreDone rules old ls new.desk w.answers.items a.deeds = subst (λ (d : Desk). AreDone rules old ls d w.answers.items a.deeds) (sym s.desk_same) a.done in
-    (a.deeds, record {
-      front = ls;
-      rest = line ∷ [];
-      all = refl;
-      done = subst (λ (x : List AnswerLine). AreDone rules old ls new.desk x a.deeds) (sym s.answers_same) desk;
-      ended = subst (λ (f : Finish). HasEnded always a.deeds (line ∷ []) f) (sym s.finish_is) (inr (s.refused, a.none));
-    })
+    let desk : AreDone rules old ls new.desk w.answers.items a.deeds = subst (λ (d : Desk). AreDone rules old ls d w.answers.items a.deeds) (sym s.desk_same) a.done in (
+      a.deeds,
+      record {
+        front = ls;
+        rest = line ∷ [];
+        all = refl;
+        done = subst (λ (x : List AnswerLine). AreDone rules old ls new.desk x a.deeds) (sym s.answers_same) desk;
+        ended = subst (λ (f : Finish). HasEnded always a.deeds (line ∷ []) f) (sym s.finish_is) (inr (s.refused, a.none));
+      },
+    )
 taken rules always old ls number line w new same a (inr s) =
     let t : TakesLine rules old.number line w.desk w.answers.items new.desk new.answers.items s.out = subst (λ (n : ℕ). TakesLine rules n line w.desk w.answers.items new.desk new.answers.items s.out) same s.takes in
-    let d : Deed = deed_of line w.desk t.does.word t.answer t.does.steps new.desk in
-    (a.deeds ++ d ∷ [], record {
-      front = ls ++ line ∷ [];
-      rest = [];
-      all = sym (append-nil (ls ++ line ∷ []));
-      done = done_more rules old ls w.desk w.answers.items a.deeds line new.desk new.answers.items s.out a.done t;
-      ended = subst (λ (f : Finish). HasEnded always (a.deeds ++ d ∷ []) [] f) (sym s.finish_is) (out_ends always s.out a.deeds d a.none t.out_is);
-    })
+    let d : Deed = deed_of line w.desk t.does.word t.answer t.does.steps new.desk in (
+      a.deeds ++ d ∷ [],
+      record {
+        front = ls ++ line ∷ [];
+        rest = [];
+        all = sym (append-nil (ls ++ line ∷ []));
+        done = done_more rules old ls w.desk w.answers.items a.deeds line new.desk new.answers.items s.out a.done t;
+        ended = subst (λ (f : Finish). HasEnded always (a.deeds ++ d ∷ []) [] f) (sym s.finish_is) (out_ends always s.out a.deeds d a.none t.out_is);
+      },
+    )
 
 -- With its next line a pass has run one line more, or left it.
 pub goes_on : (rules : Rules) (always : Bool) (old : Seer) (ls : List Command) (number : ℕ) (line : Command) (f : Finish) (w new : Work) → w.finish ≡ f → number ≡ old.number → IsWorked rules always old ls w → GoesOn rules always number f w line new → IsWorked rules always old (ls ++ line ∷ []) new
@@ -124,14 +131,16 @@ goes_on rules always old ls number line Done w new f same h g = taken rules alwa
 pub worked_none : (rules : Rules) (always : Bool) (p : Seer) (w : Work) → IsBegun p w → IsWorked rules always p [] w
 worked_none rules always p w b =
     let none : AreDone rules p [] (Free p) [] [] = record { lines_are = refl; runs = refl; answers_are = refl; tells = tells_none p } in
-    let desk : AreDone rules p [] w.desk [] [] = subst (λ (x : Desk). AreDone rules p [] x [] []) (sym b.desk) none in
-    ([], record {
-      front = [];
-      rest = [];
-      all = refl;
-      done = subst (λ (x : List AnswerLine). AreDone rules p [] w.desk x []) (sym b.answers) desk;
-      ended = subst (λ (x : Finish). HasEnded always [] [] x) (sym b.finish) (refl, tt);
-    })
+    let desk : AreDone rules p [] w.desk [] [] = subst (λ (x : Desk). AreDone rules p [] x [] []) (sym b.desk) none in (
+      [],
+      record {
+        front = [];
+        rest = [];
+        all = refl;
+        done = subst (λ (x : List AnswerLine). AreDone rules p [] w.desk x []) (sym b.answers) desk;
+        ended = subst (λ (x : Finish). HasEnded always [] [] x) (sym b.finish) (refl, tt);
+      },
+    )
 
 -- ---- among the lines of others
 

@@ -1,7 +1,9 @@
 -- What a scan and a poll tell.
 use Rattle.std.proofs.Common.{◌≡◌, ◌≢◌, ℕ, ◌+◌, Bool, true, false, cond, nat_eq, nat_lt, List, [], ◌∷◌, ◌++◌, length, Option, Some, None, Result, Ok, Err, refl, sym, ap, subst, ◌∙◌}
+use Rattle.std.specs.Prelude.{slice_get}
 use Rattle.std.specs.List.{AllByRecursion}
 use Rattle.lt_ids.specs.Ticket.{Wait, value_of}
+use Rattle.lt_ids.specs.declared.request.Access.{Access}
 use Rattle.lt_plain.specs.declared.call.Call.{Call}
 use Rattle.lt_words.specs.History.{LetIn}
 use Rattle.lt_words.specs.Row.{Seer}
@@ -10,7 +12,6 @@ use Rattle.lt_shard.specs.declared.answer.StepError.TheVariants as steps
 use Rattle.lt_table.specs.declared.progress.Mode.{Mode}
 use Rattle.lt_table.specs.declared.progress.Mode.TheVariants.{Free, Awaiting, Let, Leaving}
 use Rattle.lt_table.specs.declared.progress.Progress.{Progress}
-use Rattle.lt_table.specs.declared.progress.Ended.{Ended}
 use Rattle.lt_table.specs.declared.scan.Scan.{Scan}
 use Rattle.lt_table.specs.declared.scan.Scan.TheVariants as scans
 use Rattle.lt_table.specs.declared.scan.ScanError.{ScanError}
@@ -21,25 +22,43 @@ use Rattle.lt_table.specs.Machine.{heard, mode_heard, polled, polled_in, scan_st
 use Rattle.lt_table.specs.Runs.{WalkState, Step, Ends, IsScanBegun, of_step}
 use Rattle.lt_table.specs.Reported.{GuardState, IsScan, IsPoll, PassStays, GuardStays, wait_of}
 use Rattle.lt_desk.specs.Told.{Tells}
-use Rattle.lt_desk.specs.Machine.{let_in_mode, let_from, let_read, let_gone_on, state_heard}
+use Rattle.lt_desk.specs.declared.answer.LineAnswer.{LineAnswer}
+use Rattle.lt_desk.specs.Machine.{let_in_mode, let_from, let_read, let_gone_on, state_heard, numbers_of, IsScanAnswer, IsWaitingAt}
 use Rattle.lt_desk.specs.Doing.{Polls}
 use Rattle.lt_desk.proofs.Telling.{tells_none, tells_more, tells_then, tells_steps, tells_let}
 
 -- ---- a scan that goes on is not told that it still waits
 
-ended_so : (waits more waited : Bool) (p : Progress)
-    → (cond {A = Ended} waits (record { after = p; result = Ok (scans.Waiting p.place) }) (cond more (record { after = p; result = Err refused.WaitsOut }) (record { after = record p { place = 0; waited = false }; result = Ok (cond waited scans.Rescan scans.Proceed) }))).result ≢ Err refused.StillWaiting
-ended_so true more waited p = λ e. cc
-ended_so false true waited p = λ e. cc
-ended_so false false true p = λ e. cc
-ended_so false false false p = λ e. cc
+pub by_test : (P : Type 0) (b : Bool) → (b ≡ true → P) → (b ≡ false → P) → P
+by_test P true t f = t refl
+by_test P false t f = f refl
 
-refused_so : (e : StepError) → Err {A = Scan} (of_step e) ≢ Err refused.StillWaiting
+-- how a scan ends where no visit comes next
+pub end_waits : (keys : ℕ) (p : Progress) → is_awaiting p.mode ≡ true → (scan_end keys p).result ≡ Ok (scans.Waiting p.place)
+end_waits keys p w = rw w refl
+
+pub end_out : (keys : ℕ) (p : Progress) → is_awaiting p.mode ≡ false → nat_lt p.place keys ≡ true → (scan_end keys p).result ≡ Err refused.WaitsOut
+end_out keys p w m = rw (w, m) refl
+
+pub end_done : (keys : ℕ) (p : Progress) → is_awaiting p.mode ≡ false → nat_lt p.place keys ≡ false → (scan_end keys p).result ≡ Ok (cond p.waited scans.Rescan scans.Proceed)
+end_done keys p w m = rw (w, m) refl
+
+abbrev failed : ScanError → Result Scan ScanError
+failed e = Err e
+
+ended_so : (keys : ℕ) (p : Progress) → (scan_end keys p).result ≢ Err refused.StillWaiting
+ended_so keys p = by_test ((scan_end keys p).result ≢ Err refused.StillWaiting) (is_awaiting p.mode)
+    (λ w e. absurd (let never : Ok (scans.Waiting p.place) ≡ Err refused.StillWaiting = sym (end_waits keys p w) ∙ e in cc))
+    (λ w. by_test ((scan_end keys p).result ≢ Err refused.StillWaiting) (nat_lt p.place keys)
+    (λ m e. absurd (let never : failed refused.WaitsOut ≡ failed refused.StillWaiting = sym (end_out keys p w m) ∙ e in cc))
+    (λ m e. absurd (let never : Ok (cond p.waited scans.Rescan scans.Proceed) ≡ Err refused.StillWaiting = sym (end_done keys p w m) ∙ e in cc)))
+
+refused_so : (e : StepError) → failed (of_step e) ≢ failed refused.StillWaiting
 refused_so steps.HistoryFull = λ e. cc
 refused_so steps.Memory = λ e. cc
 
 ends_so : (next : Option (List ℕ × Call)) (keys : ℕ) (last after : Progress) (result : Result Scan ScanError) → Ends next (scan_end keys last) last result after → result ≢ Err refused.StillWaiting
-ends_so None keys last after result e = λ is. ended_so (is_awaiting last.mode) (nat_lt last.place keys) last.waited last (sym e.0 ∙ is)
+ends_so None keys last after result e = λ is. ended_so keys last (sym e.0 ∙ is)
 ends_so (Some y) keys last after result e = λ is. refused_so e.0.0 (sym e.0.1 ∙ is)
 
 goes_on : (m : Mode) (p : Progress) (max_waits : ℕ) (old : WalkState) (xs : List Step) (result : Result Scan ScanError) (after : WalkState) → m ≡ Let → IsScanBegun (scan_start_in m p) max_waits old xs result after → result ≢ Err refused.StillWaiting
@@ -124,3 +143,18 @@ polls_then a b c r p q =
       answer = q.answer;
       tells = tells_then a.pass b.pass c.pass [] [] [] [] [] (let_read (Some a.walk) q.word) first second;
     }
+
+-- A scan draws no number.
+waits_draw_none : (k : Option (List ℕ × Access)) (answer : LineAnswer) → IsWaitingAt k answer → numbers_of answer ≡ []
+waits_draw_none None answer h = absurd h
+waits_draw_none (Some k) answer h = ap numbers_of h
+
+pub scans_draw_none : (keys : List (List ℕ × Access)) (result : Result Scan ScanError) (answer : LineAnswer) → IsScanAnswer keys result answer → numbers_of answer ≡ []
+scans_draw_none keys (Ok scans.Proceed) answer h = ap numbers_of h
+scans_draw_none keys (Ok scans.Rescan) answer h = ap numbers_of h
+scans_draw_none keys (Ok (scans.Waiting place)) answer h = waits_draw_none (slice_get keys place) answer h
+scans_draw_none keys (Err refused.Leaving) answer h = ap numbers_of h
+scans_draw_none keys (Err refused.StillWaiting) answer h = ap numbers_of h
+scans_draw_none keys (Err refused.WaitsOut) answer h = ap numbers_of h
+scans_draw_none keys (Err refused.HistoryFull) answer h = ap numbers_of h
+scans_draw_none keys (Err refused.Memory) answer h = absurd h

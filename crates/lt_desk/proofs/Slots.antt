@@ -7,7 +7,8 @@ use Rattle.lt_desk.specs.declared.outcome.Work.{Work}
 use Rattle.lt_desk.specs.declared.outcome.OutOfMemory.{OutOfMemory}
 use Rattle.lt_desk.specs.Machine.{Rules}
 use Rattle.lt_desk.specs.Worked.{IsWorked, IsBegun, GoesOn, lines_of}
-use Rattle.lt_desk.specs.Turns.{IsWorkedOf, AreWorked, IsTriedOf, AreTried, AreNumbered, IsSlot, AreSlots, IsReady, slot_at, TakesTurn, HaveBegun, somes}
+use Rattle.lt_desk.specs.Turns.{IsAmong, IsWorkedOf, AreWorked, IsTriedOf, AreTried, AreNumbered, IsSlot, AreSlots, IsReady, slot_at, TakesTurn, HaveBegun, somes}
+use Rattle.lt_desk.proofs.Telling.{all_more, all_weaker}
 use Rattle.lt_desk.proofs.Lines.{goes_on, worked_none, mine, other, front_more}
 
 pub set_twice : {A : Type 0} (xs : List A) (i : ℕ) (a b : A) → set (set xs i a) i b ≡ set xs i b
@@ -133,3 +134,10 @@ worked_all rules always cs (p ∷ ps) (r ∷ rs) [] t e = absurd cc
 worked_all rules always cs (p ∷ ps) (r ∷ rs) (w ∷ ws) t e =
     let head : r ≡ Ok w = cc in
     (subst (λ (x : Result Work OutOfMemory). IsTriedOf rules always cs p x) head t.0, worked_all rules always cs ps rs ws t.1 cc)
+
+-- ---- how many passes
+
+pub among_more : (all : List Command) (i : ℕ) (c : Command) (most more : ℕ) → i < length all → c ≡ get_or all i c → 1 ≤ c.pass → most ≤ more → c.pass ≤ more → AllByRecursion (IsAmong most) (take i all) → AllByRecursion (IsAmong more) (take (i + 1) all)
+among_more all i c most more lt is low le here a =
+    subst (AllByRecursion (IsAmong more)) (sym (front_more all i c lt is))
+    (all_more (IsAmong more) (take i all) c (all_weaker (IsAmong most) (IsAmong more) (take i all) (λ x h. let high : x.pass ≤ most = h.high in record { low = h.low; high = omega arith }) a) (record { low = low; high = here }))

@@ -165,7 +165,7 @@ numbers_later rules always cs shards h finals q n (p ∷ ps) (ds ∷ dss) [] r n
 numbers_later rules always cs shards h finals q n (p ∷ ps) (ds ∷ dss) (w ∷ ws) r num le i =
     let is : p.number ≡ n + 1 = num.0 in
     all_append (IsDrawnLater h q) (run_numbers ds) (flat_map run_numbers dss)
-    (all_weaker (DrewIn h p.number) (IsDrawnLater h q) (run_numbers ds) (λ m d. (p.number, (omega arith, d))) (drawn_there rules always shards h finals p (lines_of p.number cs) ds w r.0 i.0))
+    (all_weaker (DrewIn h p.number) (IsDrawnLater h q) (run_numbers ds) (λ m d. (p.number, omega arith, d)) (drawn_there rules always shards h finals p (lines_of p.number cs) ds w r.0 i.0))
     (numbers_later rules always cs shards h finals q (n + 1) ps dss ws r.1 num.1 (omega arith) i.1)
 
 pub all_stand : (rules : Rules) (always : Bool) (cs : List Command) (shards : ℕ) (h : List Event) (finals : Finals) (n : ℕ) (ps : List Seer) (dss : List (List Deed)) (ws : List Work) → 0 < shards → IsLegalHistory shards h → AreOfShards shards ps

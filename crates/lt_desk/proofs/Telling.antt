@@ -37,7 +37,7 @@ prefix_self (x ∷ xs) = let p = prefix_self xs in (p.0, ap (λ l. x ∷ l) p.1)
 
 -- what stands in a beginning stands in the whole
 pub stands_at_later : (pass : ℕ) (es fs : List Entry) (x : runs.Step) → IsPrefix es fs → StandsAt pass es x → StandsAt pass fs x
-stands_at_later pass es fs x p s = record s { stands = prefix_get es fs x.answer.at s.entry p s.stands }
+stands_at_later pass es fs x p s = record { entry = s.entry; key_is = s.key_is; pass_is = s.pass_is; call_is = s.call_is; reply_is = s.reply_is; stands = prefix_get es fs x.answer.at s.entry p s.stands }
 
 stands_later : (shards pass : ℕ) (h g : List Event) (x : runs.Step) → IsPrefix h g → StandsIn shards pass h x → StandsIn shards pass g x
 stands_later shards pass h g x p s = stands_at_later pass (part_of shards h x) (part_of shards g x) x (part_prefix (shard_of x.key shards) h g p) s
@@ -176,4 +176,4 @@ tells_entered a given txn ts max g e = record {
 
 -- a let that was found at a call
 pub tells_let : (a b : Seer) (xs : List runs.Step) (ts : List Wait) → Tells a b xs [] [] → AllByRecursion (LetIn b.seen a.number) ts → Tells a b xs [] ts
-tells_let a b xs ts t l = record t { let_in = l }
+tells_let a b xs ts t l = record { of = t.of; number = t.number; seen = t.seen; stand = t.stand; after = t.after; ascend = t.ascend; drawn = t.drawn; rise = t.rise; let_in = l }

@@ -14,10 +14,11 @@ use Rattle.lt_table.specs.declared.scan.Scan.{Scan}
 use Rattle.lt_table.specs.declared.scan.Scan.TheVariants as scans
 use Rattle.lt_table.specs.declared.scan.ScanError.{ScanError}
 use Rattle.lt_table.specs.declared.scan.ScanError.TheVariants as refused
-use Rattle.lt_table.specs.Machine.{Asked, Ended, heard, scan_start, scan_start_in, is_free, is_awaiting, may_visit, met, is_wait, visit_call, next_visit, scan_end}
-use Rattle.lt_table.specs.Runs.{WalkState, Visits, Ends, IsScanBegun}
+use Rattle.lt_table.specs.Machine.{Asked, heard, scan_start, scan_start_in, is_free, is_awaiting, may_visit, met, is_wait, visit_call, next_visit, scan_end}
+use Rattle.lt_table.specs.Runs.{WalkState, Visits, Ends, IsScanBegun, of_step}
 use Rattle.lt_desk.specs.declared.answer.LineAnswer.TheVariants as answers
 use Rattle.lt_desk.specs.Machine.{IsScanAnswer, IsWaitingAt}
+use Rattle.lt_desk.proofs.Scans.{by_test, end_waits, end_out, end_done}
 use Rattle.lt_desk.specs.Laws.{IsVisitOf, EndsInWait, WaitingHasVisit}
 
 -- what comes next comes at a key of the list
@@ -77,18 +78,24 @@ awaits Let e = cc
 awaits Leaving e = cc
 
 -- Only who waits is told so, and at its place.
-end_cases : (waits more waited : Bool) (p : Progress) (place : ℕ)
-    → Ok (scans.Waiting place) ≡ (cond {A = Ended} waits (record { after = p; result = Ok (scans.Waiting p.place) }) (cond more (record { after = p; result = Err refused.WaitsOut }) (record { after = record p { place = 0; waited = false }; result = Ok (cond waited scans.Rescan scans.Proceed) }))).result
-    → (waits ≡ true) × (place ≡ p.place)
-end_cases true more waited p place e = (refl, cc)
-end_cases false true waited p place e = cc
-end_cases false false true p place e = cc
-end_cases false false false p place e = cc
+end_cases : (keys : ℕ) (p : Progress) (place : ℕ) → Ok (scans.Waiting place) ≡ (scan_end keys p).result → (is_awaiting p.mode ≡ true) × (place ≡ p.place)
+end_cases keys p place e = by_test ((is_awaiting p.mode ≡ true) × (place ≡ p.place)) (is_awaiting p.mode)
+    (λ w. (w, let both : Ok (scans.Waiting place) ≡ Ok (scans.Waiting p.place) = e ∙ end_waits keys p w in cc))
+    (λ w. by_test ((is_awaiting p.mode ≡ true) × (place ≡ p.place)) (nat_lt p.place keys)
+    (λ m. absurd (let never : Ok (scans.Waiting place) ≡ Err refused.WaitsOut = e ∙ end_out keys p w m in cc))
+    (λ m. absurd (never_done p.waited place (e ∙ end_done keys p w m))))
+  where
+    ended : Scan → Result Scan ScanError
+    ended s = Ok s
 
-end_waits : (asked : Asked) (max_waits : ℕ) (o : Option (List ℕ × Call)) (last after : Progress) (place : ℕ) → Ends o (scan_end (length asked.keys) last) last (Ok (scans.Waiting place)) after → (last.mode ≡ Awaiting) × (place ≡ last.place)
-end_waits asked max_waits (Some y) last after place e = absurd e.0
-end_waits asked max_waits None last after place e =
-    let c : (is_awaiting last.mode ≡ true) × (place ≡ last.place) = end_cases (is_awaiting last.mode) (nat_lt last.place (length asked.keys)) last.waited last place e.0 in
+    never_done : (b : Bool) (k : ℕ) → ended (scans.Waiting k) ≡ ended (cond b scans.Rescan scans.Proceed) → ⊥
+    never_done true k e = cc
+    never_done false k e = cc
+
+ends_waiting : (asked : Asked) (max_waits : ℕ) (o : Option (List ℕ × Call)) (last after : Progress) (place : ℕ) → Ends o (scan_end (length asked.keys) last) last (Ok (scans.Waiting place)) after → (last.mode ≡ Awaiting) × (place ≡ last.place)
+ends_waiting asked max_waits (Some y) last after place e = absurd (let never : Ok (scans.Waiting place) ≡ Err (of_step e.0.0) = e.0.1 in cc)
+ends_waiting asked max_waits None last after place e =
+    let c : (is_awaiting last.mode ≡ true) × (place ≡ last.place) = end_cases (length asked.keys) last place e.0 in
     (awaits last.mode c.0, c.1)
 
 start_free : (m : Mode) (p q : Progress) → p.mode ≡ m → scan_start_in m p ≡ Ok q → q.mode ≡ Free
@@ -100,7 +107,7 @@ start_free Leaving p q a e = absurd cc
 begun_waits : (r : Result Progress ScanError) (max_waits : ℕ) (s after : WalkState) (steps : List Step) (place : ℕ) (k : List ℕ × Access) → ((q : Progress) → r ≡ Ok q → q.mode ≡ Free) → IsScanBegun r max_waits s steps (Ok (scans.Waiting place)) after → slice_get s.asked.keys place ≡ Some k → EndsInWait s.asked.number k.0 steps
 begun_waits (Err e) max_waits s after steps place k f h g = absurd (let e' = h.1 in cc e')
 begun_waits (Ok p) max_waits s after steps place k f h g =
-    let w : (h.last.mode ≡ Awaiting) × (place ≡ h.last.place) = end_waits s.asked max_waits (next_visit s.asked max_waits h.last) h.last after.progress place h.ends in
+    let w : (h.last.mode ≡ Awaiting) × (place ≡ h.last.place) = ends_waiting s.asked max_waits (next_visit s.asked max_waits h.last) h.last after.progress place h.ends in
     visits_end s.asked max_waits h.last k w.0 (subst (λ (i : ℕ). slice_get s.asked.keys i ≡ Some k) w.1 g) steps p h.visits (f p refl)
 
 answer_key : (o : Option (List ℕ × Access)) (key : List ℕ) → IsWaitingAt o (answers.WaitingAt key) → (k : List ℕ × Access) × (o ≡ Some k) × (k.0 ≡ key)

@@ -13,7 +13,7 @@ use crate::outcome::OutOfMemory;
 use lt_ids::{Access, Key, Timestamp, TxnId};
 use lt_plain::KeyTable;
 use lt_script::Action;
-use lt_table::{Answer, EnterError, Guard, Poll, Scan, ScanError, StepError, Table};
+use lt_table::{Answer, EnterError, Guard, Left, Poll, Scan, ScanError, StepError, Table};
 use lt_words::{Name, Pass};
 use std::alloc::Global;
 use std::sync::Wait;
@@ -165,11 +165,7 @@ fn poll_answer(turns: Option<u64>, found: Poll) -> LineAnswer
     }
 }
 
-fn await_of<N: Name, T: KeyTable>(
-    table: &Table<N, T>,
-    mut guard: Guard,
-    turns: Option<u64>,
-) -> Told
+fn await_of<N: Name, T: KeyTable>(table: &Table<N, T>, mut guard: Guard, turns: Option<u64>) -> Told
     requires { guard.pass.of ≡ N.of }
     ensures { Does (IsAwaited turns) let_read (Desk.Open guard) result.answer result.desk }
 {
@@ -318,10 +314,13 @@ fn leave_of<N: Name, T: KeyTable, R: Wait>(
     ensures { IfOk result (λ told. Does IsLeave no_lets (Desk.Open guard) told.answer told.desk) }
 {
     match table.leave(rt, guard) {
-        Ok(left) => Ok(Told {
-            desk: Desk::Free(left.pass),
-            answer: LineAnswer::Done,
-        }),
+        Ok(left) => {
+            let Left { pass, .. } = left;
+            Ok(Told {
+                desk: Desk::Free(pass),
+                answer: LineAnswer::Done,
+            })
+        }
         Err(stopped) => match stopped.error {
             StepError::HistoryFull => Ok(Told {
                 desk: Desk::Open(stopped.guard),

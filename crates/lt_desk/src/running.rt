@@ -11,18 +11,12 @@ use lt_script::Command;
 use lt_table::Table;
 use lt_words::{Name, Pass};
 use std::alloc::Global;
-use std::mem;
 use std::sync::Wait;
-use std::thread;
 use std::thread::Threads;
+use std::{mem, thread};
 
 /// Each pass runs its lines on a thread of its own.
-fn start_all<
-    N: Name + Sync,
-    T: KeyTable + Send,
-    G: Gate + Sync,
-    R: Threads + Wait + Sync,
->(
+fn start_all<N: Name + Send + Sync, T: KeyTable + Send, G: Gate + Sync, R: Threads + Wait + Sync>(
     rt: &R,
     alloc: Global,
     table: &Table<N, T>,
@@ -64,7 +58,7 @@ fn collect(alloc: Global, done: Vec<Result<Work, OutOfMemory>>) -> Result<Vec<Wo
 /// Each pass runs its lines on a thread of its own, and all are waited for. Where no thread can be made they run one
 /// after another.
 pub(crate) fn run_on_threads<
-    N: Name + Sync,
+    N: Name + Send + Sync,
     T: KeyTable + Send,
     G: Gate + Sync,
     R: Threads + Wait + Sync,

@@ -1,5 +1,5 @@
 //! A whole run: a table is opened, the lines are run, and the table is closed.
-ghost use Rattle.std.specs.Prelude.{◌≡◌, ◌≤◌, ◌<◌, ◌^◌, IfOk, OnOk, length, map};
+ghost use Rattle.std.specs.Prelude.{◌≡◌, ◌≤◌, ◌<◌, ◌^◌, ◌⊎◌, IfOk, OnOk, length, map};
 ghost use Rattle.std.specs.List.{All, AllByRecursion};
 ghost use Rattle.lt_table.specs.Closed.{passes_of};
 ghost use Rattle.lt_desk.specs.Desks.{pass_of};
@@ -41,11 +41,7 @@ fn join(one: Finish, other: Finish) -> Finish
 }
 
 /// Puts what the desk holds at the end of the passes, or of the guards.
-fn put(
-    desk: Desk,
-    passes: &mut Vec<Pass>,
-    guards: &mut Vec<Guard>,
-) -> Result<(), OutOfMemory>
+fn put(desk: Desk, passes: &mut Vec<Pass>, guards: &mut Vec<Guard>) -> Result<(), OutOfMemory>
     ensures { OnOk result (IsPut desk passes.old.items guards.old.items passes.new.items guards.new.items) }
 {
     let pushed = match desk {
@@ -88,12 +84,7 @@ fn hand_over<N: Name>(alloc: Global, works: Vec<Work>) -> Result<Handed, OutOfMe
 }
 
 /// Runs the lines: with turns each pass on a thread of its own, else in their order on one thread.
-fn run_lines<
-    N: Name + Sync,
-    T: KeyTable + Send,
-    G: Gate + Sync,
-    R: Threads + Wait + Sync,
->(
+fn run_lines<N: Name + Send + Sync, T: KeyTable + Send, G: Gate + Sync, R: Threads + Wait + Sync>(
     rt: &R,
     alloc: Global,
     table: &Table<N, T>,
@@ -113,7 +104,7 @@ fn run_lines<
     }
 }
 
-fn run_named<N: Name + Sync, G: Gate + Sync, R: Threads + Wait + Sync>(
+fn run_named<N: Name + Send + Sync, G: Gate + Sync, R: Threads + Wait + Sync>(
     rt: &R,
     alloc: Global,
     ready: Ready,
@@ -151,6 +142,14 @@ fn run_named<N: Name + Sync, G: Gate + Sync, R: Threads + Wait + Sync>(
     }
 }
 
+fn greater(one: usize, other: usize) -> usize
+    ensures first { one ≤ result }
+    ensures second { other ≤ result }
+    ensures either { (result ≡ one) ⊎ (result ≡ other) }
+{
+    if one < other { other } else { one }
+}
+
 /// The greatest number of a pass, at least 1.
 fn most_passes(commands: &[Command]) -> usize
     ensures low { 1 ≤ result }
@@ -159,10 +158,7 @@ fn most_passes(commands: &[Command]) -> usize
 {
     let mut most = 1;
     for command in commands {
-        let pass = command.pass.number() as usize;
-        if most < pass {
-            most = pass;
-        }
+        most = greater(most, command.pass.number() as usize);
     }
     most
 }

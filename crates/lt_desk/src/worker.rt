@@ -76,16 +76,7 @@ fn live_line<N: Name, T: KeyTable, G: Gate, R: Wait>(
             finish: Finish::TurnsOut,
         });
     }
-    let (after, out) = take_line(
-        rt,
-        alloc,
-        table,
-        turns,
-        desk,
-        number,
-        command,
-        &mut answers,
-    )?;
+    let (after, out) = take_line(rt, alloc, table, turns, desk, number, command, &mut answers)?;
     gate.after(number, command.line);
     Ok(Work {
         desk: after,

@@ -10,4 +10,4 @@ returns-in-Ok g c =
     tried_each rules (g.G.Gate.always c.args.gate.now) c.args.commands.now c.args.passes.items c.in-Ok.works.items many
     (λ i d lt.
     let one = (c.in-Ok.ensures.each i d lt).1 in
-    (one.pass, one.pass_is, one.call.met))
+    (one.job, one.job_is, one.call.met))

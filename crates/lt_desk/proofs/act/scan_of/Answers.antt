@@ -1,0 +1,28 @@
+use Rattle.std.proofs.Common.{ℕ, List, Some, refl, ap, sym, subst, ◌∙◌}
+use Rattle.lt_ids.specs.declared.request.Access.{Access}
+use Rattle.lt_table.specs.Machine.{Asked}
+use Rattle.lt_table.specs.Reported.{IsScan, GuardState}
+use Rattle.lt_desk.specs.Machine.{IsScanAnswer, let_gone_on}
+use Rattle.lt_desk.specs.Told.{Tells}
+use Rattle.lt_desk.proofs.Scans.{tells_scan, scans_draw_none}
+use Rattle.lt_desk.proofs.act.scan_of.Goals as goal
+
+pub returns : goal.returns
+returns g c =
+    let old : GuardState = c.args.guard in
+    let new : GuardState = c.scan-ended.new.guard in
+    let s : IsScan c.args.table.now.max_waits old new c.scan-ended.result = c.scan-ended.ensures.scan in
+    let told : IsScanAnswer old.walk.asked.keys c.scan-ended.result c.in_ok-answer.answer = subst (λ (ks : List (List ℕ × Access)). IsScanAnswer ks c.scan-ended.result c.in_ok-answer.answer) (c.keys.ensures ∙ ap (λ (a : Asked). a.keys) c.scan-ended.ensures.stays.asked) c.in_ok-answer.ensures in
+    record {
+      word = s.word;
+      steps = s.steps;
+      done = record {
+        result = c.scan-ended.result;
+        state = new.walk;
+        scan = s.scan;
+        told = told;
+        goes_on = refl;
+      };
+      tells = subst (λ (ns : List ℕ). Tells old.pass new.pass s.steps ns (let_gone_on (Some old.walk) s.word)) (sym (scans_draw_none old.walk.asked.keys c.scan-ended.result c.in_ok-answer.answer told))
+          (tells_scan c.args.table.now.max_waits old new c.scan-ended.result s c.scan-ended.ensures.stays.pass.number c.scan-ended.ensures.went_on);
+    }
