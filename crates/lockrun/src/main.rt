@@ -7,6 +7,8 @@ use std::alloc::AllocError;
 use std::env;
 use std::io::ErrorKind;
 use std::process::ExitCode;
+use std::sync::Wait;
+use std::thread::Threads;
 
 /// The words behind the program's name.
 fn words(rt: &HostRuntime) -> Result<Vec<String>, Failure> {
@@ -24,12 +26,14 @@ fn texts<'a>(rt: &HostRuntime, words: &'a [String]) -> Result<Vec<&'a str>, Allo
     words.iter().map(|word| word.as_str()).collect(rt.alloc())
 }
 
-fn run(rt: &HostRuntime) -> Result<Finish, Failure> {
+/// Does what the words ask for. Only `main` may name its runtime as one that has threads, so it hands it over as both.
+fn run<H: Threads + Wait + Sync>(threads: &H, rt: &HostRuntime) -> Result<Finish, Failure> {
     let words = words(rt)?;
     let Ok(texts) = texts(rt, &words) else {
         return Err(Failure::Memory);
     };
     perform(
+        threads,
         rt.alloc(),
         rt,
         texts.as_slice(),
@@ -39,9 +43,7 @@ fn run(rt: &HostRuntime) -> Result<Finish, Failure> {
 }
 
 fn main(rt: HostRuntime) -> ExitCode {
-    let ending = run(&rt);
-    if let Err(failure) = &ending {
-        let _told = complain(&mut rt.stderr(), failure);
-    }
+    let ending = run(&rt, &rt);
+    let _told = complain(&mut rt.stderr(), &ending);
     ExitCode::from(status(&ending))
 }

@@ -1,11 +1,7 @@
-pub mod Recorded
 pub mod Pieces
-pub mod Deeds
-pub mod Texts
-pub mod Steps
 pub mod Appended
-pub mod Swaps
 pub mod Commands
+pub mod Ranges
 pub mod Literals
 pub mod Told
 pub mod Checks

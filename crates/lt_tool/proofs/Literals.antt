@@ -1,11 +1,14 @@
 -- What clap makes of words that are written out.
-use Rattle.std.proofs.Common.{◌≡◌, ◌≢◌, List, [], ◌∷◌, Bool, true, false, Some, None, inl, inr, refl, sym, codes}
+use Rattle.std.proofs.Common.{◌≡◌, ◌≢◌, ◌≤◌, ◌^◌, ℕ, List, [], ◌∷◌, Bool, true, false, Option, Some, None, inl, inr, refl, sym, subst, ap, ◌∙◌, codes, option_map, arith}
+use Rattle.std.specs.Fmt.{decimal}
 use Rattle.std.specs.Str.{bytes_eq}
 use Rattle.std.proofs.lemmas.Slice.Eq.{bytes_eq-Decides}
 use Rattle.clap.specs.Words.{Text, IsAmong, is_simple_and_free, is_simple}
 use Rattle.clap.specs.declared.error.kind.ErrorKind.TheVariants as kind
 use Rattle.clap.proofs.OnLiterals.{clap_on_literals}
-use Rattle.lt_tool.specs.Words.{run, check, default_options, lockrun, named, faults, is_option, IsCommand, IsStray}
+use Rattle.lt_tool.specs.Options.{default_options, joined, number_or, options_of}
+use Rattle.lt_tool.specs.Words.{run, check, lockrun, named, faults, is_option, HasMost, IsCommand, IsOutOfRange, IsStray}
+use Rattle.lt_tool.proofs.Ranges.{digit_in_range, in_range, out_of_range, plain_decimal}
 
 pub is_plain : is_simple_and_free lockrun ≡ true
 unfolding clap_on_literals
@@ -40,6 +43,101 @@ pub script_named : (file : Text) → is_option file ≡ false → named (codes "
 unfolding clap_on_literals
 script_named [] e = refl
 script_named (b ∷ rest) e = rw (e, e) refl
+
+-- ---- the options of `run`
+
+pub flag_faults : faults (codes "run" ∷ codes "--threads" ∷ []) ≡ []
+unfolding clap_on_literals
+flag_faults = refl
+
+pub flag_named : named (codes "run" ∷ codes "--threads" ∷ []) ≡ Some (run None (record default_options { threads = true }))
+unfolding clap_on_literals
+flag_named = refl
+
+pub shards_faults : (word : Text) → is_option word ≡ false → faults (codes "run" ∷ codes "--shards" ∷ word ∷ []) ≡ []
+unfolding clap_on_literals
+shards_faults [] e = refl
+shards_faults (b ∷ rest) e = rw (e, e) refl
+
+shards_named : (word : Text) → is_option word ≡ false → named (codes "run" ∷ codes "--shards" ∷ word ∷ []) ≡ option_map (run None) (options_of (Some word) None None None)
+unfolding clap_on_literals
+shards_named [] e = refl
+shards_named (b ∷ rest) e = rw (e, e) refl
+
+pub steps_faults : (word : Text) → is_option word ≡ false → faults (codes "run" ∷ codes "--steps" ∷ word ∷ []) ≡ []
+unfolding clap_on_literals
+steps_faults [] e = refl
+steps_faults (b ∷ rest) e = rw (e, e) refl
+
+steps_named : (word : Text) → is_option word ≡ false → named (codes "run" ∷ codes "--steps" ∷ word ∷ []) ≡ option_map (run None) (options_of None (Some word) None None)
+unfolding clap_on_literals
+steps_named [] e = refl
+steps_named (b ∷ rest) e = rw (e, e) refl
+
+pub turns_faults : (word : Text) → is_option word ≡ false → faults (codes "run" ∷ codes "--turns" ∷ word ∷ []) ≡ []
+unfolding clap_on_literals
+turns_faults [] e = refl
+turns_faults (b ∷ rest) e = rw (e, e) refl
+
+turns_named : (word : Text) → is_option word ≡ false → named (codes "run" ∷ codes "--turns" ∷ word ∷ []) ≡ option_map (run None) (options_of None None None (Some word))
+unfolding clap_on_literals
+turns_named [] e = refl
+turns_named (b ∷ rest) e = rw (e, e) refl
+
+pub shards_given : (n : ℕ) → 1 ≤ n → n ≤ 64 → named (codes "run" ∷ codes "--shards" ∷ decimal n ∷ []) ≡ Some (run None (record default_options { shards = n }))
+shards_given n some few =
+    shards_named (decimal n) (plain_decimal n 64 some few (omega arith))
+    ∙ ap (λ (o : Option ℕ). option_map (run None) (joined o (Some 1000000) false (Some 1000000))) (in_range 4 64 n some few (omega arith))
+
+pub steps_given : (n : ℕ) → 1 ≤ n → n ≤ 2 ^ 32 → named (codes "run" ∷ codes "--steps" ∷ decimal n ∷ []) ≡ Some (run None (record default_options { steps = n }))
+steps_given n some few =
+    steps_named (decimal n) (plain_decimal n (2 ^ 32) some few (omega arith))
+    ∙ ap (λ (o : Option ℕ). option_map (run None) (joined (Some 4) o false (Some 1000000))) (in_range 1000000 (2 ^ 32) n some few (omega arith))
+
+pub turns_given : (n : ℕ) → 1 ≤ n → n ≤ 1000000000 → named (codes "run" ∷ codes "--turns" ∷ decimal n ∷ []) ≡ Some (run None (record default_options { turns = n }))
+turns_given n some few =
+    turns_named (decimal n) (plain_decimal n 1000000000 some few (omega arith))
+    ∙ ap (λ (o : Option ℕ). option_map (run None) (joined (Some 4) (Some 1000000) false o)) (in_range 1000000 1000000000 n some few (omega arith))
+
+pub number_faults : (name word : Text) (most : ℕ) → HasMost name most → is_option word ≡ false → faults (codes "run" ∷ name ∷ word ∷ []) ≡ []
+number_faults name word most (inl h) e = ap (λ (t : Text). faults (codes "run" ∷ t ∷ word ∷ [])) h.0 ∙ shards_faults word e
+number_faults name word most (inr (inl h)) e = ap (λ (t : Text). faults (codes "run" ∷ t ∷ word ∷ [])) h.0 ∙ steps_faults word e
+number_faults name word most (inr (inr h)) e = ap (λ (t : Text). faults (codes "run" ∷ t ∷ word ∷ [])) h.0 ∙ turns_faults word e
+
+pub none_named_beyond : (name word : Text) (most : ℕ) → HasMost name most → is_option word ≡ false → IsOutOfRange word most → named (codes "run" ∷ name ∷ word ∷ []) ≡ None
+none_named_beyond name word most (inl h) e beside =
+    ap (λ (t : Text). named (codes "run" ∷ t ∷ word ∷ [])) h.0 ∙ (shards_named word e
+    ∙ ap (λ (o : Option ℕ). option_map (run None) (joined o (Some 1000000) false (Some 1000000))) (out_of_range 4 64 word (subst (IsOutOfRange word) h.1 beside)))
+none_named_beyond name word most (inr (inl h)) e beside =
+    ap (λ (t : Text). named (codes "run" ∷ t ∷ word ∷ [])) h.0 ∙ (steps_named word e
+    ∙ ap (λ (o : Option ℕ). option_map (run None) (joined (Some 4) o false (Some 1000000))) (out_of_range 1000000 (2 ^ 32) word (subst (IsOutOfRange word) h.1 beside)))
+none_named_beyond name word most (inr (inr h)) e beside =
+    ap (λ (t : Text). named (codes "run" ∷ t ∷ word ∷ [])) h.0 ∙ (turns_named word e
+    ∙ ap (λ (o : Option ℕ). option_map (run None) (joined (Some 4) (Some 1000000) false o)) (out_of_range 1000000 1000000000 word (subst (IsOutOfRange word) h.1 beside)))
+
+pub together_faults : (file : Text) → is_option file ≡ false → faults (codes "run" ∷ file ∷ codes "--shards" ∷ codes "1" ∷ codes "--steps" ∷ codes "2" ∷ []) ≡ []
+unfolding clap_on_literals
+together_faults [] e = refl
+together_faults (b ∷ rest) e = rw (e, e) refl
+
+together_named_of : (file : Text) → is_option file ≡ false
+    → named (codes "run" ∷ file ∷ codes "--shards" ∷ codes "1" ∷ codes "--steps" ∷ codes "2" ∷ []) ≡ option_map (run (Some file)) (options_of (Some (codes "1")) (Some (codes "2")) None None)
+unfolding clap_on_literals
+together_named_of [] e = refl
+together_named_of (b ∷ rest) e = rw (e, e) refl
+
+pub together_named : (file : Text) → is_option file ≡ false
+    → named (codes "run" ∷ file ∷ codes "--shards" ∷ codes "1" ∷ codes "--steps" ∷ codes "2" ∷ []) ≡ Some (run (Some file) (record default_options { shards = 1; steps = 2 }))
+together_named file e =
+    together_named_of file e
+    ∙ (ap (λ (o : Option ℕ). option_map (run (Some file)) (joined o (number_or 1000000 (2 ^ 32) (Some (codes "2"))) false (Some 1000000))) (digit_in_range 4 64 1 (omega arith) (omega arith) (omega arith) (omega arith))
+    ∙ ap (λ (o : Option ℕ). option_map (run (Some file)) (joined (Some 1) o false (Some 1000000))) (digit_in_range 1000000 (2 ^ 32) 2 (omega arith) (omega arith) (omega arith) (omega arith)))
+
+pub check_option_faults : (name word : Text) (most : ℕ) → HasMost name most → faults (codes "check" ∷ name ∷ word ∷ []) ≡ kind.UnknownArgument ∷ []
+unfolding clap_on_literals
+check_option_faults name word most (inl h) = rw h.0 refl
+check_option_faults name word most (inr (inl h)) = rw h.0 refl
+check_option_faults name word most (inr (inr h)) = rw h.0 refl
 
 pub check_faults : faults (codes "check" ∷ []) ≡ []
 unfolding clap_on_literals

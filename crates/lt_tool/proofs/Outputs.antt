@@ -1,21 +1,28 @@
 -- The output of a script ends with a text that a check takes.
-use Rattle.std.proofs.Common.{◌≡◌, ℕ, List, ◌++◌, length, refl}
-use Rattle.std.specs.List.{AllByRecursion}
-use Rattle.lt_history.specs.declared.entry.Entry.{Entry}
-use Rattle.lt_history.specs.Histories.{AreLegalKeys, IsInRange, IsTextOf}
+use Rattle.std.proofs.Common.{◌≡◌, ℕ, List, Bool, Option, length, refl, subst}
 use Rattle.lt_script.specs.declared.command.Command.{Command}
-use Rattle.lt_tool.specs.declared.answer.AnswerLine.{AnswerLine}
-use Rattle.lt_tool.specs.Answers.{answers_text}
-use Rattle.lt_tool.specs.Deeds.{AreDeeds}
-use Rattle.lt_tool.specs.Output.{IsOutput}
+use Rattle.lt_desk.specs.declared.outcome.Finish.{Finish}
+use Rattle.lt_desk.specs.declared.outcome.Ran.{Ran}
+use Rattle.lt_desk.specs.Ran.{IsRan, joined}
+use Rattle.lt_tool.specs.declared.run.Options.{Options}
+use Rattle.lt_tool.specs.Output.{IsComposed, IsOutput, rules_of, turns_of}
 
-pub is_output : (text histories : List ℕ) (commands : List Command) (answers : List AnswerLine) (entries : List Entry) → AreDeeds commands answers entries → AreLegalKeys entries → AllByRecursion IsInRange entries → IsTextOf histories entries
-    → text ≡ answers_text answers ++ histories → IsOutput text commands
-is_output text histories commands answers entries deeds legal range is joined = record {
-  answers = answers;
-  histories = histories;
-  report = record { keys = length is.keys; steps = length entries };
-  legal = record { entries = entries; in_range = range; legal = legal; is_text = is; keys = refl; steps = refl };
-  deeds = deeds;
-  joined = joined;
+written : (options : Options) (always : Bool) (commands : List Command) (ran : Ran) (text : List ℕ) (finish : Finish) → IsRan (rules_of options) always options.shards commands ran → IsComposed ran text finish
+    → IsOutput options always commands text finish
+written options always commands ran text finish is_ran composed = record {
+  ran = ran;
+  is_ran = is_ran;
+  finish_is = composed.finish_is;
+  histories = composed.histories;
+  report = record { keys = length composed.is_text.keys; steps = length (joined ran.histories.items) };
+  legal = record { entries = joined ran.histories.items; in_range = is_ran.in_range; legal = is_ran.legal; is_text = composed.is_text; keys = refl; steps = refl };
+  entries_are = refl;
+  whole = composed.whole;
 }
+
+pub is_output : (options : Options) (always : Bool) (commands given : List Command) (turns : Option ℕ) (ran : Ran) (text : List ℕ) (finish : Finish) → turns ≡ turns_of options → given ≡ commands
+    → IsRan (record { max_waits = 16777215; turns = turns }) always options.shards given ran → IsComposed ran text finish → IsOutput options always commands text finish
+is_output options always commands given turns ran text finish said same is_ran composed =
+    written options always commands ran text finish
+    (subst (λ (cs : List Command). IsRan (rules_of options) always options.shards cs ran) same
+    (subst (λ (t : Option ℕ). IsRan (record { max_waits = 16777215; turns = t }) always options.shards given ran) said is_ran)) composed

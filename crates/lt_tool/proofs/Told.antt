@@ -54,3 +54,10 @@ refuses words (Ok job) k kinds f other read = let bad : k ∷ kinds ≡ [] = sym
 refuses words (Err (errors.Help text)) k kinds f other read = absurd (other (subst (λ (ks : Kinds). IsAmong kind.DisplayHelp ks) f read))
 refuses words (Err errors.Refused) k kinds f other read = tt
 refuses words (Err errors.Memory) k kinds f other read = tt
+
+-- Words without a fault that name no job are refused.
+pub unnamed : (words : List Text) (r : Result Job WordsError) → faults words ≡ [] → named words ≡ None → IsReadOf words r → Refuses r
+unnamed words (Ok job) f n read = let bad : None ≡ Some (order job) = sym n ∙ read.1 in cc
+unnamed words (Err (errors.Help text)) f n read = subst (λ (kinds : Kinds). IsAmong kind.DisplayHelp kinds) f read
+unnamed words (Err errors.Refused) f n read = tt
+unnamed words (Err errors.Memory) f n read = tt

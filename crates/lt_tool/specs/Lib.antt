@@ -1,11 +1,8 @@
 pub mod Answers
-pub mod Guards
-pub mod Slots
 pub mod Input
-pub mod Recorded
-pub mod Deeds
 pub mod Output
 pub mod Check
 pub mod Program
+pub mod Options
 pub mod Words
 pub mod Work

@@ -1,30 +1,53 @@
 -- What a run writes, and what it says.
-use Rattle.std.specs.Prelude.{ℕ, ◌≡◌, ◌<◌, ◌≤◌, ◌^◌, List, ◌++◌, length, Option, IfSome, Ok, Err}
+use Rattle.std.specs.Prelude.{ℕ, ◌≡◌, ◌<◌, ◌≤◌, ◌^◌, Bool, List, ◌++◌, length, Option, Some, None, IfSome, Ok, Err, if◌then◌else◌}
 use Rattle.std.specs.Io.KnownBytes.{Appends}
 use Rattle.lt_history.specs.declared.checker.Report.{Report}
+use Rattle.lt_history.specs.Histories.{IsTextOf}
 use Rattle.lt_history.specs.Print.{AppendsFront}
 use Rattle.lt_history.specs.Verdict.{IsLegalText}
 use Rattle.lt_script.specs.declared.command.Command.{Command}
 use Rattle.lt_script.specs.declared.error.ScriptError.{ScriptError}
 use Rattle.lt_script.specs.declared.error.ScriptError.TheVariants.{Fault, Memory}
 use Rattle.lt_script.specs.Script.{commands_of}
-use Rattle.lt_tool.specs.declared.answer.AnswerLine.{AnswerLine}
+use Rattle.lt_desk.specs.declared.outcome.Finish.{Finish}
+use Rattle.lt_desk.specs.declared.outcome.Ran.{Ran}
+use Rattle.lt_desk.specs.declared.outcome.RunFault.{RunFault}
+use Rattle.lt_desk.specs.declared.outcome.RunFault.TheVariants as faults
+use Rattle.lt_desk.specs.Machine.{Rules}
+use Rattle.lt_desk.specs.Ran.{IsRan, joined}
 use Rattle.lt_tool.specs.declared.input.Unread.{Unread}
 use Rattle.lt_tool.specs.declared.input.Unread.TheVariants as inputs
+use Rattle.lt_tool.specs.declared.run.Options.{Options}
 use Rattle.lt_tool.specs.declared.run.RunError.{RunError}
 use Rattle.lt_tool.specs.declared.run.RunError.TheVariants as errors
 use Rattle.lt_tool.specs.Answers.{answers_text}
-use Rattle.lt_tool.specs.Deeds.{AreDeeds}
 
--- The text answers each of these commands, and ends with a text of legal histories, just as a check takes it, whose
--- entries are the steps of the commands.
-pub record IsOutput (text : List ℕ) (commands : List Command) : Type 0 where
-  pub answers : List AnswerLine
+-- with threads, how often a line `await` may poll
+abbrev pub turns_of : Options → Option ℕ
+turns_of options = if options.threads then Some options.turns else None
+
+-- what the options fix for a run
+abbrev pub rules_of : Options → Rules
+rules_of options = record { max_waits = 16777215; turns = turns_of options }
+
+-- The text is that of what came of a run: its answers, and then its histories.
+pub record IsComposed (ran : Ran) (text : List ℕ) (finish : Finish) : Type 0 where
+  pub histories : List ℕ
+  pub is_text : IsTextOf histories (joined ran.histories.items)
+  pub whole : text ≡ answers_text ran.answers.items ++ histories
+  pub finish_is : finish ≡ ran.finish
+
+-- The commands were run so, and the text answers each that was run and ends with a text of legal histories, just as a
+-- check takes it, whose entries are those that the run left: all that the answers tell stands in them.
+pub record IsOutput (options : Options) (always : Bool) (commands : List Command) (text : List ℕ) (finish : Finish) : Type 0 where
+  pub ran : Ran
+  pub is_ran : IsRan (rules_of options) always options.shards commands ran
+  pub finish_is : finish ≡ ran.finish
   pub histories : List ℕ
   pub report : Report
   pub legal : IsLegalText histories report
-  pub deeds : AreDeeds commands answers legal.entries
-  pub joined : text ≡ answers_text answers ++ histories
+  pub entries_are : legal.entries ≡ joined ran.histories.items
+  pub whole : text ≡ answers_text ran.answers.items ++ histories
 
 -- A text is short enough to be read.
 abbrev pub IsShort : List ℕ → Type 0
@@ -34,20 +57,21 @@ IsShort text = length text ≤ 2 ^ 24
 abbrev pub AreOf : List Command → Option (List ℕ) → Type 0
 AreOf commands script = IfSome script (λ text. IsShort text × (commands_of text ≡ Ok commands))
 
--- The writer holds the output of the script more, and nothing else.
-pub record Ran (script old new : Option (List ℕ)) : Type 0 where
+-- The writer holds the output of the script more, and nothing else; the run ended so.
+pub record Writes (options : Options) (always : Bool) (finish : Finish) (script old new : Option (List ℕ)) : Type 0 where
   pub commands : List Command
   pub text : List ℕ
   pub are_of : AreOf commands script
-  pub output : IsOutput text commands
+  pub output : IsOutput options always commands text finish
   pub written : Appends old new text
 
 -- The writer holds a front of the output of the script more.
-pub record RanInPart (script old new : Option (List ℕ)) : Type 0 where
+pub record WritesInPart (options : Options) (always : Bool) (script old new : Option (List ℕ)) : Type 0 where
   pub commands : List Command
   pub text : List ℕ
+  pub finish : Finish
   pub are_of : AreOf commands script
-  pub output : IsOutput text commands
+  pub output : IsOutput options always commands text finish
   pub written : AppendsFront old new text
 
 -- why a script was not run, where its bytes are known
@@ -64,3 +88,7 @@ unread inputs.Memory = errors.Memory
 abbrev pub unscripted : ScriptError → RunError
 unscripted (Fault line fault) = errors.Script line fault
 unscripted Memory = errors.Memory
+
+abbrev pub unfinished : RunFault → RunError
+unfinished faults.Memory = errors.Memory
+unfinished faults.Counts = errors.Counts

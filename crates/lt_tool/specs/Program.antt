@@ -1,14 +1,14 @@
 -- How the program ends, and what it says where it fails.
-use Rattle.std.specs.Prelude.{ℕ, List, ◌++◌, decimal, codes, Result, Ok, Err}
+use Rattle.std.specs.Prelude.{ℕ, List, [], ◌++◌, decimal, codes, Result, Ok, Err}
 use Rattle.lt_history.specs.declared.checker.CheckError.TheVariants as checks
 use Rattle.lt_history.specs.declared.error.Fault.{Fault as HistoryFault}
 use Rattle.lt_history.specs.declared.error.Fault.TheVariants as histories
 use Rattle.lt_script.specs.declared.error.Fault.{Fault}
 use Rattle.lt_script.specs.declared.error.Fault.TheVariants.{BadPass, BadCall, BadWords, BadTxn, BadTime, BadKey, BadAccess}
-use Rattle.lt_tool.specs.declared.run.Finish.{Finish}
-use Rattle.lt_tool.specs.declared.run.Finish.TheVariants.{Done, TurnsOut}
+use Rattle.lt_desk.specs.declared.outcome.Finish.{Finish}
+use Rattle.lt_desk.specs.declared.outcome.Finish.TheVariants.{Done, TurnsOut}
 use Rattle.lt_tool.specs.declared.run.RunError.{RunError}
-use Rattle.lt_tool.specs.declared.run.RunError.TheVariants.{Read, TooLong, Script, Memory, Write}
+use Rattle.lt_tool.specs.declared.run.RunError.TheVariants.{Read, TooLong, Script, Memory, Counts, Write}
 use Rattle.lt_tool.specs.declared.program.Failure.{Failure}
 use Rattle.lt_tool.specs.declared.program.Failure.TheVariants as failures
 use Rattle.lt_tool.specs.declared.check.CheckTextError.{CheckTextError}
@@ -18,6 +18,7 @@ abbrev pub error_status : RunError → ℕ
 error_status (Script line fault) = 1
 error_status TooLong = 1
 error_status Memory = 4
+error_status Counts = 4
 error_status Read = 5
 error_status Write = 5
 
@@ -65,6 +66,7 @@ abbrev pub error_message : RunError → List ℕ
 error_message (Script line fault) = line_message line (fault_end fault)
 error_message TooLong = codes "lockrun: text too long\n"
 error_message Memory = codes "lockrun: memory\n"
+error_message Counts = codes "lockrun: counts\n"
 error_message Read = codes "lockrun: read\n"
 error_message Write = codes "lockrun: write\n"
 
@@ -75,10 +77,15 @@ check_message texts.TooLong = codes "lockrun: text too long\n"
 check_message texts.Read = codes "lockrun: read\n"
 check_message texts.Write = codes "lockrun: write\n"
 
--- the line on standard error
-abbrev pub message_of : Failure → List ℕ
-message_of failures.CommandLine = codes "lockrun: command line\n"
-message_of failures.Memory = codes "lockrun: memory\n"
-message_of failures.Help = codes "lockrun: write\n"
-message_of (failures.Run e) = error_message e
-message_of (failures.Check e) = check_message e
+abbrev pub failure_message : Failure → List ℕ
+failure_message failures.CommandLine = codes "lockrun: command line\n"
+failure_message failures.Memory = codes "lockrun: memory\n"
+failure_message failures.Help = codes "lockrun: write\n"
+failure_message (failures.Run e) = error_message e
+failure_message (failures.Check e) = check_message e
+
+-- the line on standard error, which is left out where all was done
+abbrev pub message_of : Result Finish Failure → List ℕ
+message_of (Ok Done) = []
+message_of (Ok TurnsOut) = codes "lockrun: turns\n"
+message_of (Err e) = failure_message e

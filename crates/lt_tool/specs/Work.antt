@@ -1,5 +1,5 @@
 -- What the program did for its words.
-use Rattle.std.specs.Prelude.{ℕ, ◌≡◌, List, Option, Some, None, Result, Ok, Err}
+use Rattle.std.specs.Prelude.{ℕ, ◌≡◌, true, List, Option, Some, None, Result, Ok, Err}
 use Rattle.std.specs.Io.KnownBytes.{Appends}
 use Rattle.std.specs.String.{string_bytes}
 use Rattle.lt_tool.specs.declared.check.CheckTextError.TheVariants as checks
@@ -7,13 +7,16 @@ use Rattle.lt_tool.specs.declared.program.Failure.{Failure}
 use Rattle.lt_tool.specs.declared.program.Failure.TheVariants as failures
 use Rattle.lt_tool.specs.declared.run.RunError.TheVariants as runs
 use Rattle.lt_history.specs.declared.checker.Report.{Report}
+use Rattle.lt_desk.specs.declared.outcome.Finish.{Finish}
+use Rattle.lt_desk.specs.declared.outcome.Finish.TheVariants.{Done}
+use Rattle.lt_tool.specs.declared.run.Options.{Options}
 use Rattle.lt_tool.specs.Check.{IsChecked, IsUnchecked, ToldInPart, report_line}
 use Rattle.lt_tool.specs.declared.words.Job.{Job}
 use Rattle.lt_tool.specs.declared.words.Job.TheVariants as jobs
 use Rattle.lt_tool.specs.declared.words.WordsError.{WordsError}
 use Rattle.lt_tool.specs.declared.words.WordsError.TheVariants as errors
 use Rattle.lt_history.specs.Print.{AppendsFront}
-use Rattle.lt_tool.specs.Output.{IsRefused, Ran, RanInPart}
+use Rattle.lt_tool.specs.Output.{IsRefused, Writes, WritesInPart}
 use Rattle.lt_tool.specs.Words.{IsReadOf}
 
 -- The text is legal, and the writer holds its line more, and nothing else.
@@ -23,10 +26,10 @@ pub record Told (source old new : Option (List ℕ)) : Type 0 where
   pub written : Appends old new (report_line report)
 
 -- why a script was not run, and what is written then
-abbrev pub IsFailedRun : Failure → Option (List ℕ) → Option (List ℕ) → Option (List ℕ) → Type 0
-IsFailedRun (failures.Run runs.Write) source old new = RanInPart source old new
-IsFailedRun (failures.Run e) source old new = IsRefused e source
-IsFailedRun _ source old new = ⊥
+abbrev pub IsFailedRun : Options → Failure → Option (List ℕ) → Option (List ℕ) → Option (List ℕ) → Type 0
+IsFailedRun options (failures.Run runs.Write) source old new = WritesInPart options true source old new
+IsFailedRun options (failures.Run e) source old new = IsRefused e source
+IsFailedRun options _ source old new = ⊥
 
 -- why a text was not answered with its numbers, and what is written then
 abbrev pub IsFailedCheck : Failure → Option (List ℕ) → Option (List ℕ) → Option (List ℕ) → Type 0
@@ -48,12 +51,13 @@ abbrev pub source_of : {A : Type 0} → Option A → Option (List ℕ) → Optio
 source_of None input = input
 source_of (Some file) input = None
 
-abbrev pub IsDone : Job → Option (List ℕ) → Option (List ℕ) → Option (List ℕ) → Type 0
-IsDone (jobs.Run file options) input old new = Ran (source_of file input) old new
-IsDone (jobs.Check file) input old new = Told (source_of file input) old new
+-- The job is done, and ended so.
+abbrev pub IsDone : Job → Finish → Option (List ℕ) → Option (List ℕ) → Option (List ℕ) → Type 0
+IsDone (jobs.Run file options) finish input old new = Writes options true finish (source_of file input) old new
+IsDone (jobs.Check file) finish input old new = (finish ≡ Done) × Told (source_of file input) old new
 
 abbrev pub IsFailed : Job → Failure → Option (List ℕ) → Option (List ℕ) → Option (List ℕ) → Type 0
-IsFailed (jobs.Run file options) e input old new = IsFailedRun e (source_of file input) old new
+IsFailed (jobs.Run file options) e input old new = IsFailedRun options e (source_of file input) old new
 IsFailed (jobs.Check file) e input old new = IsFailedCheck e (source_of file input) old new
 
 -- The job has no file, so it reads the input.
@@ -71,10 +75,10 @@ pub record AskForInput (words : List (List ℕ)) : Type 0 where
   pub reads : ReadsInput job
 
 -- What was read of the words is done: their job, or their help told.
-abbrev pub IsDoneFor : Result Job WordsError → Option (List ℕ) → Option (List ℕ) → Option (List ℕ) → Type 0
-IsDoneFor (Ok job) input old new = IsDone job input old new
-IsDoneFor (Err (errors.Help text)) input old new = Appends old new (string_bytes text)
-IsDoneFor (Err _) input old new = ⊥
+abbrev pub IsDoneFor : Result Job WordsError → Finish → Option (List ℕ) → Option (List ℕ) → Option (List ℕ) → Type 0
+IsDoneFor (Ok job) finish input old new = IsDone job finish input old new
+IsDoneFor (Err (errors.Help text)) finish input old new = (finish ≡ Done) × Appends old new (string_bytes text)
+IsDoneFor (Err _) finish input old new = ⊥
 
 -- Why that is not done.
 abbrev pub IsFailedFor : Result Job WordsError → Failure → Option (List ℕ) → Option (List ℕ) → Option (List ℕ) → Type 0
@@ -83,10 +87,10 @@ IsFailedFor (Err (errors.Help text)) e input old new = (e ≡ failures.Help) × 
 IsFailedFor (Err errors.Refused) e input old new = e ≡ failures.CommandLine
 IsFailedFor (Err errors.Memory) e input old new = e ≡ failures.Memory
 
-pub record Performs (words : List (List ℕ)) (input old new : Option (List ℕ)) : Type 0 where
+pub record Performs (words : List (List ℕ)) (finish : Finish) (input old new : Option (List ℕ)) : Type 0 where
   pub said : Result Job WordsError
   pub read : IsReadOf words said
-  pub done : IsDoneFor said input old new
+  pub done : IsDoneFor said finish input old new
 
 pub record Fails (words : List (List ℕ)) (e : Failure) (input old new : Option (List ℕ)) : Type 0 where
   pub said : Result Job WordsError

@@ -1,47 +1,73 @@
-ghost use Rattle.std.specs.Prelude.{◌≡◌, [], IfOk};
-ghost use Rattle.lt_tool.specs.Output.{IsOutput};
-ghost use Rattle.lt_tool.specs.Deeds.{AreDeeds};
+ghost use Rattle.std.specs.Prelude.{◌≡◌, IfOk};
+ghost use Rattle.lt_tool.specs.Options.{AreInRange};
+ghost use Rattle.lt_tool.specs.Output.{IsComposed, IsOutput, turns_of};
 
-use crate::answer::{AnswerLine, put_answers};
-use crate::desk::act;
-use crate::guard::{Guards, Numbers};
-use crate::recorder::Recorder;
-use lt_history::compose;
-use lt_script::Command;
+use crate::Options;
+use crate::answer::put_answers;
+use lt_desk::{Finish, Gate, Ran, RunFault, run};
+use lt_history::put_histories;
+use lt_script::Script;
 use std::alloc::{AllocError, Global};
+use std::sync::Wait;
+use std::thread::Threads;
 
-/// Runs the commands in their order, and gives their answers.
-fn answers(
-    alloc: Global,
-    recorder: &mut Recorder,
-    commands: &[Command],
-) -> Result<Vec<AnswerLine>, AllocError>
-    requires { recorder.old ≡ [] }
-    ensures { IfOk result (λ answers. AreDeeds commands.now answers.items recorder.new) }
-{
-    let mut guards = Guards::new(alloc)?;
-    let mut numbers = Numbers::new();
-    let mut lines = Vec::new(alloc);
-    for command in commands {
-        let answer = act(recorder, &mut guards, &mut numbers, command)?;
-        lines.push(AnswerLine {
-            pass: command.pass.number(),
-            line: command.line,
-            answer,
-        })?;
-    }
-    Ok(lines)
+/// What a run writes, and how it ended.
+#[derive(Drop)]
+pub(crate) struct Outcome {
+    pub text: Vec<u8>,
+    pub finish: Finish,
 }
 
-/// Runs the commands over an empty table: the text of their answers and of the histories.
-pub(crate) fn output(alloc: Global, commands: &[Command]) -> Result<Vec<u8>, AllocError>
-    ensures { IfOk result (λ text. IsOutput text.items commands.now) }
+/// How often a line `await` polls, where there are threads.
+fn turns_of(options: &Options) -> Option<u64>
+    ensures { result ≡ turns_of options.now }
 {
-    let mut recorder = Recorder::new(alloc);
-    let lines = answers(alloc, &mut recorder, commands)?;
+    if options.threads {
+        Some(options.turns)
+    } else {
+        None
+    }
+}
+
+/// The text of what came of a run. The answers are dropped before the histories are put.
+fn composed(alloc: Global, ran: Ran) -> Result<Outcome, AllocError>
+    ensures { IfOk result (λ outcome. IsComposed ran outcome.text.items outcome.finish) }
+{
+    let Ran {
+        answers,
+        finish,
+        histories,
+    } = ran;
     let mut text = Vec::new(alloc);
-    put_answers(&mut text, &lines)?;
-    let histories = compose(alloc, &[recorder.into_history()])?;
-    text.extend_from_slice(&histories)?;
-    Ok(text)
+    put_answers(&mut text, &answers)?;
+    drop(answers);
+    put_histories(&mut text, &histories)?;
+    Ok(Outcome { text, finish })
+}
+
+/// Runs the commands: the text of their answers and of the histories. The script is dropped before the text is composed.
+pub(crate) fn run_commands<G: Gate + Sync, H: Threads + Wait + Sync>(
+    rt: &H,
+    alloc: Global,
+    options: &Options,
+    gate: &G,
+    script: Script,
+) -> Result<Outcome, RunFault>
+    requires { AreInRange options.now }
+    ensures { IfOk result (λ outcome. IsOutput options.now (G.always gate.now) script outcome.text.items outcome.finish) }
+{
+    let ran = run(
+        rt,
+        alloc,
+        options.shards,
+        options.steps,
+        turns_of(options),
+        gate,
+        script.as_slice(),
+    )?;
+    drop(script);
+    match composed(alloc, ran) {
+        Ok(outcome) => Ok(outcome),
+        Err(_) => Err(RunFault::Memory),
+    }
 }

@@ -1,6 +1,6 @@
 ghost use Rattle.std.specs.Prelude.{◌≡◌, OnOk, decimal};
 ghost use Rattle.std.specs.Io.KnownBytes.{Appends};
-ghost use Rattle.lt_tool.specs.Program.{check_message, check_status, error_message, error_status, status_of, message_of, fault_end, history_end, line_message};
+ghost use Rattle.lt_tool.specs.Program.{check_message, check_status, error_message, error_status, status_of, failure_message, message_of, fault_end, history_end, line_message};
 
 use crate::{CheckTextError, Finish, RunError};
 use itoa::Buffer;
@@ -31,6 +31,7 @@ fn error_status(error: RunError) -> u8
         RunError::Script { .. } => 1,
         RunError::TooLong => 1,
         RunError::Memory => 4,
+        RunError::Counts => 4,
         RunError::Read => 5,
         RunError::Write => 5,
     }
@@ -49,7 +50,8 @@ fn check_status(error: CheckTextError) -> u8
 }
 
 /// The status with which the program ends: 0 done, also where help is told; 1 a script or a text of histories that is
-/// refused or too long; 2 the command line; 3 turns used up; 4 memory; 5 a read or write that failed.
+/// refused or too long; 2 the command line; 3 turns used up; 4 memory, or a table that could not be closed; 5 a read or write
+/// that failed.
 pub fn status(ending: &Result<Finish, Failure>) -> u8
     ensures { result ≡ status_of ending.now }
 {
@@ -116,6 +118,7 @@ fn complain_of_script<W: Write>(writer: &mut W, error: RunError) -> Result<(), P
         RunError::Script { line, fault } => complain_of_line(writer, line, fault_end(fault)),
         RunError::TooLong => write_out(writer, b"lockrun: text too long\n"),
         RunError::Memory => write_out(writer, b"lockrun: memory\n"),
+        RunError::Counts => write_out(writer, b"lockrun: counts\n"),
         RunError::Read => write_out(writer, b"lockrun: read\n"),
         RunError::Write => write_out(writer, b"lockrun: write\n"),
     }
@@ -135,9 +138,8 @@ fn complain_of_check<W: Write>(writer: &mut W, error: CheckTextError) -> Result<
     }
 }
 
-/// Writes the one line that says what went wrong. It takes no memory.
-pub fn complain<W: Write>(writer: &mut W, failure: &Failure) -> Result<(), PrintError>
-    ensures { OnOk result (Appends (W.contents writer.old) (W.contents writer.new) (message_of failure.now)) }
+fn complain_of_failure<W: Write>(writer: &mut W, failure: &Failure) -> Result<(), PrintError>
+    ensures { OnOk result (Appends (W.contents writer.old) (W.contents writer.new) (failure_message failure.now)) }
 {
     match failure {
         Failure::CommandLine => write_out(writer, b"lockrun: command line\n"),
@@ -145,5 +147,20 @@ pub fn complain<W: Write>(writer: &mut W, failure: &Failure) -> Result<(), Print
         Failure::Help => write_out(writer, b"lockrun: write\n"),
         Failure::Run(error) => complain_of_script(writer, *error),
         Failure::Check(error) => complain_of_check(writer, *error),
+    }
+}
+
+/// Writes the one line that says what went wrong, or that turns were used up, and nothing where all was done. It takes no
+/// memory.
+pub fn complain<W: Write>(
+    writer: &mut W,
+    ending: &Result<Finish, Failure>,
+) -> Result<(), PrintError>
+    ensures { OnOk result (Appends (W.contents writer.old) (W.contents writer.new) (message_of ending.now)) }
+{
+    match ending {
+        Ok(Finish::Done) => write_out(writer, b""),
+        Ok(Finish::TurnsOut) => write_out(writer, b"lockrun: turns\n"),
+        Err(failure) => complain_of_failure(writer, failure),
     }
 }

@@ -1,28 +1,35 @@
-ghost use Rattle.std.specs.Prelude.{◌≡◌, ◌≢◌, false, IfOk, IfErr};
-ghost use Rattle.lt_tool.specs.Output.{Ran, RanInPart, IsRefused, AreOf, unread, unscripted};
+ghost use Rattle.std.specs.Prelude.{◌≡◌, ◌≢◌, true, false, IfOk, IfErr};
+ghost use Rattle.lt_tool.specs.Options.{AreInRange};
+ghost use Rattle.lt_tool.specs.Output.{Writes, WritesInPart, IsRefused, AreOf, unread, unscripted, unfinished};
 
 use crate::input::{Unread, read_text};
-use crate::output::output;
+use crate::output::run_commands;
+use lt_desk::{Finish, Gate, OpenGate, RunFault};
 use lt_history::write_out;
 use lt_script::{Fault, Script, ScriptError, read_script};
 use std::alloc::Global;
 use std::io::{Read, Write};
+use std::sync::Wait;
+use std::thread::Threads;
 use thiserror::Error;
 
-/// How a script is run. Each script is run on one thread over a plain table today: `threads` has to be false, and nothing
-/// else is looked at.
+/// How a script is run. Shards are from 1 to 64, steps from 1 to 2^32, turns from 1 to 1,000,000,000.
 #[derive(Clone, Copy, Debug, PartialEq, Eq)]
 pub struct Options {
+    /// Shards of the table.
     pub shards: usize,
+    /// Key steps that each shard can hold.
     pub steps: u64,
+    /// Whether each pass runs on a thread of its own.
     pub threads: bool,
+    /// Polls of one `await` with threads.
     pub turns: u64,
 }
 
 impl Default for Options {
     ghost is_default = { λ o. o ≡ record { shards = 4; steps = 1000000; threads = false; turns = 1000000 } };
 
-    /// 4 shards, 1,000,000 steps, no threads, 1,000,000 turns.
+    /// 4 shards, 1,000,000 steps for each, no threads, 1,000,000 turns.
     fn default() -> Options {
         Options {
             shards: 4,
@@ -31,15 +38,6 @@ impl Default for Options {
             turns: 1_000_000,
         }
     }
-}
-
-/// How a run ended.
-#[derive(Clone, Copy, Debug, PartialEq, Eq)]
-pub enum Finish {
-    /// Each line was run.
-    Done,
-    /// Some lines were not run, since a pass used its turns up.
-    TurnsOut,
 }
 
 /// Why a script was not run, or its output not written.
@@ -57,6 +55,9 @@ pub enum RunError {
     /// Nothing is written.
     #[error("out of memory")]
     Memory,
+    /// The table could not be closed, since its steps are not those of its passes. No table makes it. Nothing is written.
+    #[error("the table could not be closed")]
+    Counts,
     /// A write failed, was interrupted, or took no byte. A front of the output is written.
     #[error("the output could not be written to its end")]
     Write,
@@ -81,6 +82,15 @@ fn unscripted(why: ScriptError) -> RunError
     }
 }
 
+fn unfinished(why: RunFault) -> RunError
+    ensures { result ≡ unfinished why }
+{
+    match why {
+        RunFault::Memory => RunError::Memory,
+        RunFault::Counts => RunError::Counts,
+    }
+}
+
 /// The script that the reader has.
 fn script_of<R: Read>(alloc: Global, reader: &mut R) -> Result<Script, RunError>
     ensures ok { IfOk result (λ script. AreOf script (R.remaining reader.old)) }
@@ -97,33 +107,56 @@ fn script_of<R: Read>(alloc: Global, reader: &mut R) -> Result<Script, RunError>
     }
 }
 
-/// Reads a script, runs it over an empty lock table, and writes the answers of its lines and then the histories of
-/// its keys. The whole script is read and checked before the first line is run, and the whole output is composed
-/// before the first write.
-pub fn run_script<R: Read, W: Write>(
+/// Reads a script, runs it over the public calls of a lock table that is opened for it, and writes the answers of its lines
+/// and then the histories of its keys. With threads each pass runs its lines on a thread of its own, and a line `await` polls up
+/// to the turns; else the lines run in their order on one thread, and `await` polls once. The gate is asked before each line.
+/// The whole script is read and checked before the first line is run, and the whole output is composed before the first
+/// write.
+pub fn run_script_with<H: Threads + Wait + Sync, R: Read, W: Write, G: Gate + Sync>(
+    rt: &H,
     alloc: Global,
     reader: &mut R,
     writer: &mut W,
     options: &Options,
+    gate: &G,
 ) -> Result<Finish, RunError>
-    requires { options.now.threads ≡ false }
+    requires { AreInRange options.now }
 
-    // Each line is answered, then comes a text of legal histories, which a check takes; nothing else is written.
-    ensures done { IfOk result (λ finish. (finish ≡ Finish.Done) × Ran (R.remaining reader.old) (W.contents writer.old) (W.contents writer.new)) }
+    // Each line that was run is answered, then comes a text of legal histories, which a check takes, and in which all stands
+    // that the answers tell; nothing else is written.
+    ensures done { IfOk result (λ finish. Writes options.now (G.always gate.now) finish (R.remaining reader.old) (W.contents writer.old) (W.contents writer.new)) }
 
     // A text that is refused has this fault, and that on this line, first.
     ensures refused { IfErr result (λ e. IsRefused e (R.remaining reader.old)) }
     ensures unwritten { IfErr result (λ e. e ≢ RunError.Write → writer.new ≡ writer.old) }
 
     // After a write that failed the writer holds a front of the output.
-    ensures write { IfErr result (λ e. e ≡ RunError.Write → RanInPart (R.remaining reader.old) (W.contents writer.old) (W.contents writer.new)) }
+    ensures write { IfErr result (λ e. e ≡ RunError.Write → WritesInPart options.now (G.always gate.now) (R.remaining reader.old) (W.contents writer.old) (W.contents writer.new)) }
 {
     let script = script_of(alloc, reader)?;
-    let Ok(text) = output(alloc, script.as_slice()) else {
-        return Err(RunError::Memory);
+    let outcome = match run_commands(rt, alloc, options, gate, script) {
+        Ok(outcome) => outcome,
+        Err(why) => return Err(unfinished(why)),
     };
-    match write_out(writer, &text) {
-        Ok(()) => Ok(Finish::Done),
+    match write_out(writer, &outcome.text) {
+        Ok(()) => Ok(outcome.finish),
         Err(_) => Err(RunError::Write),
     }
+}
+
+/// Runs a script as [`run_script_with`] does, with the gate that lets every line be run.
+pub fn run_script<H: Threads + Wait + Sync, R: Read, W: Write>(
+    rt: &H,
+    alloc: Global,
+    reader: &mut R,
+    writer: &mut W,
+    options: &Options,
+) -> Result<Finish, RunError>
+    requires { AreInRange options.now }
+    ensures done { IfOk result (λ finish. Writes options.now true finish (R.remaining reader.old) (W.contents writer.old) (W.contents writer.new)) }
+    ensures refused { IfErr result (λ e. IsRefused e (R.remaining reader.old)) }
+    ensures unwritten { IfErr result (λ e. e ≢ RunError.Write → writer.new ≡ writer.old) }
+    ensures write { IfErr result (λ e. e ≡ RunError.Write → WritesInPart options.now true (R.remaining reader.old) (W.contents writer.old) (W.contents writer.new)) }
+{
+    run_script_with(rt, alloc, reader, writer, options, &OpenGate)
 }

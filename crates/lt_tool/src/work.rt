@@ -1,8 +1,9 @@
-ghost use Rattle.std.specs.Prelude.{◌≡◌, None, false, IfOk, IfErr};
+ghost use Rattle.std.specs.Prelude.{◌≡◌, None, true, IfOk, IfErr};
 ghost use Rattle.std.specs.Io.KnownBytes.{Appends};
 ghost use Rattle.lt_history.specs.Print.{AppendsFront};
-ghost use Rattle.lt_tool.specs.Output.{Ran};
-ghost use Rattle.lt_tool.specs.Words.{HasDefaultOptions, texts};
+ghost use Rattle.lt_tool.specs.Options.{AreInRange};
+ghost use Rattle.lt_tool.specs.Output.{Writes};
+ghost use Rattle.lt_tool.specs.Words.{HasOptionsInRange, texts};
 ghost use Rattle.lt_tool.specs.Work.{IsFailedRun, IsFailedCheck, Told, LeavesOutput, IsDone, IsFailed, ReadsInput, AskForInput, Performs, Fails};
 
 use crate::{
@@ -13,19 +14,22 @@ use lt_history::write_out;
 use std::alloc::Global;
 use std::fs::{File, Files};
 use std::io::{Read, Write};
+use std::sync::Wait;
+use std::thread::Threads;
 
-fn run_from<R: Read, W: Write>(
+fn run_from<H: Threads + Wait + Sync, R: Read, W: Write>(
+    rt: &H,
     alloc: Global,
     input: &mut R,
     output: &mut W,
     options: &Options,
 ) -> Result<Finish, Failure>
-    requires { options.now.threads ≡ false }
-    ensures ok { IfOk result (λ finish. (finish ≡ Finish.Done) × Ran (R.remaining input.old) (W.contents output.old) (W.contents output.new)) }
-    ensures err { IfErr result (λ e. IsFailedRun e (R.remaining input.old) (W.contents output.old) (W.contents output.new)) }
+    requires { AreInRange options.now }
+    ensures ok { IfOk result (λ finish. Writes options.now true finish (R.remaining input.old) (W.contents output.old) (W.contents output.new)) }
+    ensures err { IfErr result (λ e. IsFailedRun options.now e (R.remaining input.old) (W.contents output.old) (W.contents output.new)) }
     ensures unwritten { IfErr result (λ e. LeavesOutput e → output.new ≡ output.old) }
 {
-    match run_script(alloc, input, output, options) {
+    match run_script(rt, alloc, input, output, options) {
         Ok(finish) => Ok(finish),
         Err(error) => Err(Failure::Run(error)),
     }
@@ -46,20 +50,21 @@ fn check_from<R: Read, W: Write>(
     }
 }
 
-fn run_file<F: Files, W: Write>(
+fn run_file<H: Threads + Wait + Sync, F: Files, W: Write>(
+    rt: &H,
     alloc: Global,
     files: &F,
     name: &str,
     output: &mut W,
     options: &Options,
 ) -> Result<Finish, Failure>
-    requires { options.now.threads ≡ false }
-    ensures ok { IfOk result (λ finish. (finish ≡ Finish.Done) × Ran None (W.contents output.old) (W.contents output.new)) }
-    ensures err { IfErr result (λ e. IsFailedRun e None (W.contents output.old) (W.contents output.new)) }
+    requires { AreInRange options.now }
+    ensures ok { IfOk result (λ finish. Writes options.now true finish None (W.contents output.old) (W.contents output.new)) }
+    ensures err { IfErr result (λ e. IsFailedRun options.now e None (W.contents output.old) (W.contents output.new)) }
     ensures unwritten { IfErr result (λ e. LeavesOutput e → output.new ≡ output.old) }
 {
     match File::open(files, name) {
-        Ok(mut file) => run_from(alloc, &mut file, output, options),
+        Ok(mut file) => run_from(rt, alloc, &mut file, output, options),
         Err(_) => Err(Failure::Run(RunError::Read)),
     }
 }
@@ -81,22 +86,23 @@ fn check_file<F: Files, W: Write>(
 }
 
 /// Does the job: a job with a file reads that, and one without reads the input.
-fn work<F: Files, R: Read, W: Write>(
+fn work<H: Threads + Wait + Sync, F: Files, R: Read, W: Write>(
+    rt: &H,
     alloc: Global,
     files: &F,
     job: Job<'_>,
     input: &mut R,
     output: &mut W,
 ) -> Result<Finish, Failure>
-    requires { HasDefaultOptions job }
-    ensures ok { IfOk result (λ finish. (finish ≡ Finish.Done) × IsDone job.entry (R.remaining input.old) (W.contents output.old) (W.contents output.new)) }
+    requires { HasOptionsInRange job }
+    ensures ok { IfOk result (λ finish. IsDone job.entry finish (R.remaining input.old) (W.contents output.old) (W.contents output.new)) }
     ensures err { IfErr result (λ e. IsFailed job.entry e (R.remaining input.old) (W.contents output.old) (W.contents output.new)) }
     ensures unwritten { IfErr result (λ e. LeavesOutput e → output.new ≡ output.old) }
     ensures unread { (ReadsInput job.entry → ⊥) → input.new ≡ input.old }
 {
     match job {
-        Job::Run(None, options) => run_from(alloc, input, output, &options),
-        Job::Run(Some(name), options) => run_file(alloc, files, name, output, &options),
+        Job::Run(None, options) => run_from(rt, alloc, input, output, &options),
+        Job::Run(Some(name), options) => run_file(rt, alloc, files, name, output, &options),
         Job::Check(None) => check_from(alloc, input, output),
         Job::Check(Some(name)) => check_file(alloc, files, name, output),
     }
@@ -115,14 +121,15 @@ fn tell_help<W: Write>(output: &mut W, text: &str) -> Result<Finish, Failure>
 /// Reads the words behind the program's name, and does what they ask for: the program, but for its streams. Help is
 /// written to the output, and nothing went wrong then. The input is read only for a job without a file. Where the words are
 /// refused, nothing is read, written or opened.
-pub fn perform<'a, F: Files, R: Read, W: Write>(
+pub fn perform<'a, H: Threads + Wait + Sync, F: Files, R: Read, W: Write>(
+    rt: &H,
     alloc: Global,
     files: &F,
     words: &'a [&'a str],
     input: &mut R,
     output: &mut W,
 ) -> Result<Finish, Failure>
-    ensures done { IfOk result (λ finish. (finish ≡ Finish.Done) × Performs (texts words.now) (R.remaining input.old) (W.contents output.old) (W.contents output.new)) }
+    ensures done { IfOk result (λ finish. Performs (texts words.now) finish (R.remaining input.old) (W.contents output.old) (W.contents output.new)) }
     ensures failed { IfErr result (λ e. Fails (texts words.now) e (R.remaining input.old) (W.contents output.old) (W.contents output.new)) }
     ensures unwritten { IfErr result (λ e. LeavesOutput e → output.new ≡ output.old) }
 
@@ -130,7 +137,7 @@ pub fn perform<'a, F: Files, R: Read, W: Write>(
     ensures unread { (AskForInput (texts words.now) → ⊥) → input.new ≡ input.old }
 {
     match read_words(alloc, words) {
-        Ok(job) => work(alloc, files, job, input, output),
+        Ok(job) => work(rt, alloc, files, job, input, output),
         Err(WordsError::Help(text)) => tell_help(output, &text),
         Err(WordsError::Refused) => Err(Failure::CommandLine),
         Err(WordsError::Memory) => Err(Failure::Memory),

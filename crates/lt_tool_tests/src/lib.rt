@@ -4,6 +4,10 @@
 #[cfg(test)]
 mod checks;
 #[cfg(test)]
+mod gates;
+#[cfg(test)]
+mod options;
+#[cfg(test)]
 mod scripts;
 #[cfg(test)]
 mod streams;

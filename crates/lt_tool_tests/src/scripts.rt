@@ -1,11 +1,18 @@
+ghost use Rattle.lt_tool.specs.Options.{AreInRange};
+
+use crate::gates::{Crossed, Until};
+use crate::options::options;
 use crate::streams::{LineEnds, Paper, Torn, blank};
 use lt_script::Fault;
-use lt_tool::{Finish, Options, RunError, run_script};
+use lt_tool::{Finish, Gate, Options, RunError, run_script, run_script_with};
+use std::alloc::{AllocError, Global};
 use std::io::Read;
+use std::sync::Wait;
 use std::test::*;
+use std::thread::Threads;
 
-/// What each run shows, its script, and what it writes. Five runs are the scripts of `examples/`, whose files say the same.
-const RUNS: [(&str, &str, &str); 20] = [
+/// What each run shows, its script, and what it writes. Six runs are the scripts of `examples/`, whose files say the same.
+const RUNS: [(&str, &str, &str); 24] = [
     ("an empty script", "", "locks 1\n"),
     (
         "a reader at the time of the holder waits",
@@ -102,14 +109,91 @@ const RUNS: [(&str, &str, &str); 20] = [
         "2 acquire 9 1.0 a\n2 acquire 9 1.0 b\n1 open 1 1.0 a:w\n1 scan\n2 finish 9 a\n1 leave\n1 open 1 1.0 b:w\n1 scan\n1 await\n2 finish 9 b\n1 await\n",
         "1 3 request 1\n1 4 waiting a\n1 6 done\n1 7 request 2\n1 8 waiting b\n1 9 waiting\n1 11 let\n2 1 taken\n2 2 taken\n2 5 freed\n2 10 freed\nlocks 1\na 1 2 acquire 9 1.0 = taken\na 2 1 visit 1.1 1 1.0 w = wait\na 3 2 finish 9 = freed let 1.1\na 4 1 leave 1 = left\nb 1 2 acquire 9 1.0 = taken\nb 2 1 visit 2.1 1 1.0 w = wait\nb 3 2 finish 9 = freed let 2.1\n",
     ),
+    (
+        "examples/a-scan-over-three-keys",
+        "2 acquire 9 10.0 b\n1 open 1 20.0 c:r a:w b:w\n1 scan\n1 await\n2 finish 9 b\n1 await\n1 scan\n1 scan\n1 await\n",
+        "1 2 request 1\n1 3 waiting b\n1 4 waiting\n1 6 let\n1 7 rescan\n1 8 proceed\n1 9 idle\n2 1 taken\n2 5 freed\nlocks 1\na 1 1 visit 1.1 1 20.0 w = pass\na 2 1 visit 1.2 1 20.0 w = pass\nb 1 2 acquire 9 10.0 = taken\nb 2 1 visit 1.1 1 20.0 w = wait\nb 3 2 finish 9 = freed let 1.1\nb 4 1 visit 1.2 1 20.0 w = pass\nc 1 1 visit 1.2 1 20.0 r = pass\nc 2 1 visit 1.2 1 20.0 r = pass\n",
+    ),
+    (
+        "a request without a key",
+        "1 open 1 1.0\n1 scan\n",
+        "1 1 refused NoKeys\n1 2 none\nlocks 1\n",
+    ),
+    (
+        "a key that is named twice is visited once, as a write",
+        "1 open 1 1.0 a:r a:w\n1 scan\n",
+        "1 1 request 1\n1 2 proceed\nlocks 1\na 1 1 visit 1.1 1 1.0 w = pass\n",
+    ),
+    (
+        "a pass with a request opens no other one",
+        "1 open 1 1.0 a:r\n1 open 2 1.0 b:r\n1 leave\n1 open 2 1.0 b:r\n",
+        "1 1 request 1\n1 2 busy\n1 3 done\n1 4 request 2\nlocks 1\na 1 1 leave 1 = absent\n",
+    ),
 ];
+
+/// What each run shows, its script, its shards, steps, threads and turns, how it ends, and what it writes.
+const OTHERWISE: [(&str, &str, (usize, u64, bool, u64), Finish, &str); 5] = [
+    (
+        "a full history refuses steps, and a refused leave stays on its way",
+        "1 acquire 7 20.0 a\n1 update 7 21.0 a\n1 finish 7 a\n2 open 8 1.0 a:w\n2 leave\n2 scan\n2 open 8 1.0 a:w\n",
+        (1, 2, false, 1000000),
+        Finish::Done,
+        "1 1 taken\n1 2 raised\n1 3 refused HistoryFull\n2 4 request 1\n2 5 refused HistoryFull\n2 6 refused Leaving\n2 7 busy\nlocks 1\na 1 1 acquire 7 20.0 = taken\na 2 1 update 7 21.0 = raised\n",
+    ),
+    (
+        "a history that fills in the middle of a scan",
+        "1 open 5 1.0 a:w b:w c:w d:w\n1 scan\n1 scan\n1 await\n1 leave\n",
+        (1, 3, false, 1000000),
+        Finish::Done,
+        "1 1 request 1\n1 2 refused HistoryFull\n1 3 refused HistoryFull\n1 4 idle\n1 5 refused HistoryFull\nlocks 1\na 1 1 visit 1.1 5 1.0 w = pass\nb 1 1 visit 1.1 5 1.0 w = pass\nc 1 1 visit 1.1 5 1.0 w = pass\n",
+    ),
+    (
+        "each shard has room of its own",
+        "1 acquire 7 1.0 a\n1 acquire 7 1.0 b\n1 finish 7 a\n1 finish 7 c\n",
+        (2, 1, false, 1000000),
+        Finish::Done,
+        "1 1 taken\n1 2 taken\n1 3 refused HistoryFull\n1 4 refused HistoryFull\nlocks 1\na 1 1 acquire 7 1.0 = taken\nb 1 1 acquire 7 1.0 = taken\n",
+    ),
+    (
+        "threads at keys of their own",
+        TWO_KEYS,
+        (4, 1000000, true, 1000000),
+        Finish::Done,
+        TWO_KEYS_ANSWERED,
+    ),
+    (
+        "turns that are used up end a pass",
+        "1 acquire 7 1.0 a\n1 open 8 1.0 a:w\n1 scan\n1 await\n1 leave\n",
+        (4, 1000000, true, 10),
+        Finish::TurnsOut,
+        "1 1 taken\n1 2 request 1\n1 3 waiting a\n1 4 turns\nlocks 1\na 1 1 acquire 7 1.0 = taken\na 2 1 visit 1.1 8 1.0 w = wait\n",
+    ),
+];
+
+/// Two passes, each with a key of its own.
+const TWO_KEYS: &str = "1 acquire 7 20.0 a\n2 acquire 8 20.0 b\n1 finish 7 a\n2 finish 8 b\n";
+
+const TWO_KEYS_ANSWERED: &str =
+    "1 1 taken\n1 3 freed\n2 2 taken\n2 4 freed\nlocks 1\na 1 1 acquire 7 20.0 = taken\na 2 1 finish 7 = freed\nb 1 2 acquire 8 20.0 = taken\nb 2 2 finish 8 = freed\n";
+
+/// The same without the last line.
+const TWO_KEYS_BUT_ONE_LINE: &str =
+    "1 1 taken\n1 3 freed\n2 2 taken\nlocks 1\na 1 1 acquire 7 20.0 = taken\na 2 1 finish 7 = freed\nb 1 2 acquire 8 20.0 = taken\n";
 
 type Ending = Result<Finish, RunError>;
 
 /// One run, and a second one where the first was refused memory: then nothing was written.
-fn run_of<R: Read + Drop>(rt: &HostRuntime, mut readers: [R; 2], writer: &mut Paper) -> Ending {
+fn run_by<H: Threads + Wait + Sync, R: Read + Drop>(
+    rt: &H,
+    alloc: Global,
+    mut readers: [R; 2],
+    writer: &mut Paper,
+    options: &Options,
+) -> Ending
+    requires { AreInRange options.now }
+{
     for reader in &mut readers {
-        let ended = run_script(rt.alloc(), reader, writer, &Options::default());
+        let ended = run_script(rt, alloc, reader, writer, options);
         if ended != Err(RunError::Memory) || !writer.written().is_empty() {
             return ended;
         }
@@ -117,21 +201,112 @@ fn run_of<R: Read + Drop>(rt: &HostRuntime, mut readers: [R; 2], writer: &mut Pa
     Err(RunError::Memory)
 }
 
-/// The answers and the histories of each script, also where a writer takes three bytes at once.
+/// The same by the options that are the default.
+fn run_of<H: Threads + Wait + Sync, R: Read + Drop>(
+    rt: &H,
+    alloc: Global,
+    readers: [R; 2],
+    writer: &mut Paper,
+) -> Ending {
+    run_by(rt, alloc, readers, writer, &Options::default())
+}
+
+/// The answers and the histories of each script, with few shards and many, and where a writer takes three bytes at once.
 #[test]
 fn scripts_are_answered_and_their_steps_told(rt: HostRuntime) {
     for (what, script, output) in RUNS {
-        for at_once in [3, 1024] {
+        for (shards, at_once) in [(1, 1024), (4, 3), (64, 1024)] {
             let mut writer = blank(at_once, 1024);
             let readers = [script.as_bytes(), script.as_bytes()];
+            let options = options(shards, 1000000, false, 1000000);
             assert_eq!(rt;
-                run_of(&rt, readers, &mut writer),
+                run_by(&rt, rt.alloc(), readers, &mut writer, &options),
                 Ok(Finish::Done),
                 "{what}"
             );
             assert_eq!(rt; writer.written(), output.as_bytes(), "{what}");
         }
     }
+}
+
+/// The same under other options.
+#[test]
+fn options_are_kept(rt: HostRuntime) {
+    for (what, script, (shards, steps, threads, turns), finish, output) in OTHERWISE {
+        let mut writer = blank(1024, 1024);
+        let readers = [script.as_bytes(), script.as_bytes()];
+        let options = options(shards, steps, threads, turns);
+        assert_eq!(rt;
+            run_by(&rt, rt.alloc(), readers, &mut writer, &options),
+            Ok(finish),
+            "{what}"
+        );
+        assert_eq!(rt; writer.written(), output.as_bytes(), "{what}");
+    }
+}
+
+/// A script of one line that opens a request with so many accesses of one key.
+fn many_accesses(alloc: Global, count: usize) -> Result<Vec<u8>, AllocError> {
+    let mut script = Vec::from_slice(alloc, b"1 open 1 1.0")?;
+    for _ in 0..count {
+        script.extend_from_slice(b" a:r")?;
+    }
+    Ok(script)
+}
+
+/// A request has up to 256 accesses, also where they name fewer keys.
+#[test]
+fn a_request_has_up_to_256_accesses(rt: HostRuntime) {
+    for (count, answer) in [
+        (256, "1 1 request 1\nlocks 1\n"),
+        (257, "1 1 refused TooManyKeys\nlocks 1\n"),
+    ] {
+        let mut script = many_accesses(rt.alloc(), count).unwrap_or(Vec::new(rt.alloc()));
+        if script.is_empty() {
+            script = many_accesses(rt.alloc(), count).unwrap_or(Vec::new(rt.alloc()));
+        }
+        let mut writer = blank(1024, 1024);
+        let readers = [script.as_slice(), script.as_slice()];
+        let ended = run_of(&rt, rt.alloc(), readers, &mut writer);
+        assert_eq!(rt; ended, Ok(Finish::Done));
+        assert_eq!(rt; writer.written(), answer.as_bytes());
+    }
+}
+
+/// One run of the two passes on threads of their own, by this gate.
+fn run_gated<H: Threads + Wait + Sync, G: Gate + Sync>(
+    rt: &H,
+    alloc: Global,
+    gate: &G,
+    writer: &mut Paper,
+) -> Ending {
+    let options = options(4, 1000000, true, 1000000);
+    run_script_with(rt, alloc, &mut TWO_KEYS.as_bytes(), writer, &options, gate)
+}
+
+/// A gate that answers no before a line ends that line's pass, and no other one.
+#[test]
+fn a_gate_ends_a_pass(rt: HostRuntime) {
+    let mut writer = blank(1024, 1024);
+    let mut ended = run_gated(&rt, rt.alloc(), &Until { line: 4 }, &mut writer);
+    if ended == Err(RunError::Memory) {
+        ended = run_gated(&rt, rt.alloc(), &Until { line: 4 }, &mut writer);
+    }
+    assert_eq!(rt; ended, Ok(Finish::TurnsOut));
+    assert_eq!(rt; writer.written(), TWO_KEYS_BUT_ONE_LINE.as_bytes());
+}
+
+/// The gate holds the first line of pass 1 until the last line of pass 2 is answered, and that one until the gate was asked
+/// for the first: so the passes work at once.
+#[test]
+fn passes_work_at_once(rt: HostRuntime) {
+    let mut writer = blank(1024, 1024);
+    let mut ended = run_gated(&rt, rt.alloc(), &Crossed::new(), &mut writer);
+    if ended == Err(RunError::Memory) {
+        ended = run_gated(&rt, rt.alloc(), &Crossed::new(), &mut writer);
+    }
+    assert_eq!(rt; ended, Ok(Finish::Done));
+    assert_eq!(rt; writer.written(), TWO_KEYS_ANSWERED.as_bytes());
 }
 
 /// A lock that is taken, and a request for it.
@@ -161,7 +336,12 @@ fn reads_that_fail(rt: HostRuntime) {
     assert_eq!(rt; TWO_LINES.len(), 37);
     for fails_at in 0..6 {
         let mut writer = blank(1024, 1024);
-        let ended = run_of(&rt, [torn(fails_at), torn(fails_at)], &mut writer);
+        let ended = run_of(
+            &rt,
+            rt.alloc(),
+            [torn(fails_at), torn(fails_at)],
+            &mut writer,
+        );
         let (ending, written) = if fails_at < 5 {
             (Err(RunError::Read), "")
         } else {
@@ -178,7 +358,7 @@ fn writes_that_fail(rt: HostRuntime) {
     assert_eq!(rt; ANSWERED.len(), 61);
     for stops_at in 0..62 {
         let mut writer = blank(1, stops_at);
-        let ended = run_of(&rt, [torn(99), torn(99)], &mut writer);
+        let ended = run_of(&rt, rt.alloc(), [torn(99), torn(99)], &mut writer);
         assert_eq!(rt;
             ended,
             if stops_at == 61 {
@@ -200,7 +380,12 @@ fn long_scripts(rt: HostRuntime) {
         (usize::MAX, Err(RunError::TooLong), ""),
     ] {
         let mut writer = blank(1024, 1024);
-        let ended = run_of(&rt, [line_ends(left), line_ends(left)], &mut writer);
+        let ended = run_of(
+            &rt,
+            rt.alloc(),
+            [line_ends(left), line_ends(left)],
+            &mut writer,
+        );
         assert_eq!(rt; ended, ending);
         assert_eq!(rt; writer.written(), written.as_bytes());
     }
@@ -239,7 +424,7 @@ fn cut_scripts(rt: HostRuntime) {
             let mut writer = blank(1024, 1024);
             let front = TWO_LINES.get(..len).unwrap_or("?");
             let readers = [front.as_bytes(), front.as_bytes()];
-            let ended = run_of(&rt, readers, &mut writer);
+            let ended = run_of(&rt, rt.alloc(), readers, &mut writer);
             assert_eq!(rt; ended, ending_of(fault));
             assert_eq!(rt; writer.written(), written.as_bytes());
         }

@@ -1,6 +1,6 @@
-use Rattle.std.proofs.Common.{◌≡◌, ◌++◌}
-use Rattle.lt_tool.specs.Answers.{text_up_to}
+use Rattle.std.proofs.Common.{◌≡◌, ◌++◌, take}
+use Rattle.lt_tool.specs.Answers.{answers_text}
 use Rattle.lt_tool.proofs.answer.put_answers.Given as goal
 
-abbrev pub invariant-loop-before : goal.invariant-loop-before
-invariant-loop-before l = l.out.items ≡ l.initial.out.items ++ text_up_to l.before l.lines
+abbrev pub invariant-loop-lines : goal.invariant-loop-lines
+invariant-loop-lines l = l.out.items ≡ l.initial.out.items ++ answers_text (take l.lines-index l.passes)

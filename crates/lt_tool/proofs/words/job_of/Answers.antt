@@ -4,7 +4,7 @@ use Rattle.lt_tool.proofs.Commands.{runs, checks}
 use Rattle.lt_tool.proofs.words.job_of.Goals as goal
 
 pub returns-then-eq-clause-named : goal.returns-then-eq-clause-named
-returns-then-eq-clause-named c = runs c.args.matches.now (found_of c.in-Some.inner.now) c.in-Some.name.now _ c.default-then-eq.result c.in-Some.ensures.name c.in-Some.ensures.rows (search rules) c.get_str.ensures c.default-then-eq.ensures
+returns-then-eq-clause-named c = runs c.args.matches.now (found_of c.in-Some.inner.now) c.in-Some.name.now _ c.in-Some.ensures.name c.in-Some.ensures.rows (search rules) c.run_of.ensures.named
 
 pub returns-then-eq-2-clause-named : goal.returns-then-eq-2-clause-named
-returns-then-eq-2-clause-named c = checks c.args.matches.now (found_of c.in-Some.inner.now) c.in-Some.name.now _ c.in-Some.ensures.name c.in-Some.ensures.rows (search rules) c.get_str-then-eq-2.ensures
+returns-then-eq-2-clause-named c = checks c.args.matches.now (found_of c.in-Some.inner.now) c.in-Some.name.now _ c.in-Some.ensures.name c.in-Some.ensures.rows (search rules) c.get_str.ensures

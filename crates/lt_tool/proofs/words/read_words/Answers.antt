@@ -1,8 +1,11 @@
-use Rattle.std.proofs.Common.{◌∙◌, ap}
-use Rattle.lt_tool.specs.Words.{run as runs, check as checks, default_options, texts, faults, named}
+use Rattle.std.proofs.Common.{◌∙◌, ◌^◌, true, ap, arith}
+use Rattle.std.specs.Fmt.{decimal}
+use Rattle.lt_tool.specs.Options.{default_options}
+use Rattle.lt_tool.specs.Words.{run as runs, check as checks, texts, faults, named}
 use Rattle.std.proofs.Common.{None, Some}
 use Rattle.lt_tool.proofs.Literals as literals
-use Rattle.lt_tool.proofs.Told.{gives, helps, refuses}
+use Rattle.lt_tool.proofs.Ranges.{plain_decimal}
+use Rattle.lt_tool.proofs.Told.{gives, helps, refuses, unnamed}
 use Rattle.lt_tool.proofs.words.read_words.Goals as goal
 
 pub returns-clause-none : goal.returns-clause-none
@@ -34,3 +37,34 @@ returns-clause-stray c = λ word rest is_stray e. refuses (texts c.args.words.no
 pub returns-clause-two : goal.returns-clause-two
 returns-clause-two c = λ name first second is_command f s e.
     refuses (texts c.args.words.now) c.parsed.result _ _ (ap faults e ∙ literals.two_faults name first second is_command f s) literals.no_help_of_one c.parsed.ensures.read
+
+pub returns-clause-threads : goal.returns-clause-threads
+returns-clause-threads c = λ e.
+    gives (texts c.args.words.now) c.parsed.result (runs None (record default_options { threads = true })) (ap faults e ∙ literals.flag_faults) (ap named e ∙ literals.flag_named) c.parsed.ensures.read
+
+pub returns-clause-shards : goal.returns-clause-shards
+returns-clause-shards c = λ n some few e.
+    gives (texts c.args.words.now) c.parsed.result (runs None (record default_options { shards = n })) (ap faults e ∙ literals.shards_faults (decimal n) (plain_decimal n 64 some few (omega arith)))
+    (ap named e ∙ literals.shards_given n some few) c.parsed.ensures.read
+
+pub returns-clause-steps : goal.returns-clause-steps
+returns-clause-steps c = λ n some few e.
+    gives (texts c.args.words.now) c.parsed.result (runs None (record default_options { steps = n })) (ap faults e ∙ literals.steps_faults (decimal n) (plain_decimal n (2 ^ 32) some few (omega arith)))
+    (ap named e ∙ literals.steps_given n some few) c.parsed.ensures.read
+
+pub returns-clause-turns : goal.returns-clause-turns
+returns-clause-turns c = λ n some few e.
+    gives (texts c.args.words.now) c.parsed.result (runs None (record default_options { turns = n })) (ap faults e ∙ literals.turns_faults (decimal n) (plain_decimal n 1000000000 some few (omega arith)))
+    (ap named e ∙ literals.turns_given n some few) c.parsed.ensures.read
+
+pub returns-clause-together : goal.returns-clause-together
+returns-clause-together c = λ file plain e.
+    gives (texts c.args.words.now) c.parsed.result (runs (Some file) (record default_options { shards = 1; steps = 2 })) (ap faults e ∙ literals.together_faults file plain) (ap named e ∙ literals.together_named file plain) c.parsed.ensures.read
+
+pub returns-clause-out_of_range : goal.returns-clause-out_of_range
+returns-clause-out_of_range c = λ name word most is_number plain beside e.
+    unnamed (texts c.args.words.now) c.parsed.result (ap faults e ∙ literals.number_faults name word most is_number plain) (ap named e ∙ literals.none_named_beyond name word most is_number plain beside) c.parsed.ensures.read
+
+pub returns-clause-option_of_check : goal.returns-clause-option_of_check
+returns-clause-option_of_check c = λ name word most is_number e.
+    refuses (texts c.args.words.now) c.parsed.result _ _ (ap faults e ∙ literals.check_option_faults name word most is_number) literals.no_help_of_one c.parsed.ensures.read

@@ -1,0 +1,15 @@
+ghost use Rattle.lt_tool.specs.Options.{AreInRange};
+
+use lt_tool::Options;
+
+/// These options, each number brought into its range.
+pub(crate) fn options(shards: usize, steps: u64, threads: bool, turns: u64) -> Options
+    ensures { AreInRange result }
+{
+    Options {
+        shards: shards.max(1).min(64),
+        steps: steps.max(1).min(4294967296),
+        threads,
+        turns: turns.max(1).min(1000000000),
+    }
+}
