@@ -1,0 +1,290 @@
+#!/usr/bin/env python3
+"""Runs random scripts with threads through the program and checks each output by the rules of a pass, written here anew.
+
+usage: random_runs.py [--runs N] [--seed S] [--self-test] [PROGRAM]
+
+PROGRAM is crates/lockrun/out/lockrun, unless it is named. Each script has 4 to 16 passes over a few keys. Of each output:
+every pass is answered over a front of its lines, and over all of them unless its last answer is `turns`; each answer is the
+one that the state of its request demands (docs/RULES.md), and takes its key steps, with their calls and replies, from the
+histories, in order; no step is left over; numbers of requests are drawn once; who went on after a wait was let through;
+and `check` accepts the histories with their numbers of keys and steps. The last line is `N runs, M wrong (A answers)`.
+
+--self-test changes outputs in one place each, and ends with `N of N changed outputs refused`.
+"""
+import argparse
+import collections
+import pathlib
+import random
+import subprocess
+import sys
+
+
+class Wrong(Exception):
+    pass
+
+
+def ask(fact, *words):
+    if not fact:
+        raise Wrong(' '.join(str(w) for w in words))
+
+
+def script(rng):
+    """A random script: a list of lines of words."""
+    passes = rng.randint(4, 16)
+    keys = [chr(97 + i) * rng.randint(1, 2) for i in range(rng.randint(1, 6))]
+    lines = []
+    for _ in range(rng.randint(20, 240)):
+        number = str(rng.randint(1, passes))
+        txn = str(rng.randint(1, 6))
+        ts = f'{rng.randint(0, 9)}.{rng.randint(0, 2)}'
+        key = rng.choice(keys)
+        call = rng.choices(
+            ['open', 'scan', 'await', 'look', 'acquire', 'update', 'finish', 'leave'], [5, 6, 3, 3, 5, 2, 7, 3])[0]
+        if call == 'open':
+            many = rng.choices([0, 1, 2, 3, 257], [1, 20, 15, 10, 1])[0]
+            accesses = [f'{rng.choice(keys)}:{rng.choice("rw")}' for _ in range(many)]
+            lines.append([number, call, txn, ts] + accesses)
+        elif call in ('acquire', 'update'):
+            lines.append([number, call, txn, ts, key])
+        elif call == 'finish':
+            lines.append([number, call, txn, key])
+        elif call == 'look':
+            lines.append([number, call, key])
+        else:
+            lines.append([number, call])
+    return lines
+
+
+class Request:
+    def __init__(self, number, txn, ts, accesses):
+        written = {a[:-2] for a in accesses if a.endswith(':w')}
+        read = {a[:-2] for a in accesses} - written
+        self.keys = [(k, 'w') for k in sorted(written)] + [(k, 'r') for k in sorted(read)]
+        self.number, self.txn, self.ts = number, txn, ts
+        self.place, self.waits, self.waited, self.mode = 0, 0, False, 'free'
+
+
+class Output:
+    """An output that is taken apart: the answers of each pass, and the steps of each pass and key."""
+
+    def __init__(self, text):
+        ask(text.endswith('\n'), 'the last line has no end')
+        lines = text.split('\n')[:-1]
+        ask('locks 1' in lines, 'no histories')
+        cut = lines.index('locks 1')
+        self.histories = ''.join(line + '\n' for line in lines[cut:])
+        self.answers, self.total = collections.defaultdict(list), cut
+        last = (0, 0)
+        for line in lines[:cut]:
+            number, place, words = line.split(' ', 2)
+            ask((int(number), int(place)) > last, 'the answers do not rise at', line)
+            last = (int(number), int(place))
+            self.answers[number].append((int(place), words))
+        self.steps, self.lets = collections.defaultdict(collections.deque), set()
+        self.keys, self.count = set(), len(lines) - cut - 1
+        for line in lines[cut + 1:]:
+            key, _, number, rest = line.split(' ', 3)
+            call, reply = rest.split(' = ')
+            reply, _, lets = reply.partition(' let ')
+            self.keys.add(key)
+            self.lets.update(lets.split())
+            self.steps[number, key].append((call, reply))
+
+
+class Machine:
+    """What one pass may be answered."""
+
+    def __init__(self, number, output, numbers):
+        self.number, self.output, self.numbers, self.request = number, output, numbers, None
+
+    def step(self, key, call):
+        """The reply of the pass's next step at the key, if it is this call."""
+        steps = self.output.steps[self.number, key]
+        return steps.popleft()[1] if steps and steps[0][0] == call else None
+
+    def once(self, key, call, answer):
+        if answer == 'refused HistoryFull':
+            return
+        reply = self.step(key, call)
+        ask(reply is not None and reply == answer, 'no step', key, call, answer)
+
+    def is_let(self):
+        return f'{self.request.number}.{self.request.waits}' in self.output.lets
+
+    def open(self, words, answer):
+        if self.request:
+            return ask(answer == 'busy', 'open', answer)
+        accesses = words[4:]
+        if not accesses:
+            return ask(answer == 'refused NoKeys', 'open of nothing', answer)
+        if len(accesses) > 256:
+            return ask(answer == 'refused TooManyKeys', 'open of too much', answer)
+        word, _, number = answer.partition(' ')
+        ask(word == 'request', 'open', answer)
+        ask(number not in self.numbers, 'a number twice', answer)
+        self.numbers.add(number)
+        self.request = Request(number, words[2], words[3], accesses)
+
+    def scan(self, _words, answer):
+        r = self.request
+        if r.mode == 'leaving':
+            return ask(answer == 'refused Leaving', 'scan', answer)
+        if r.mode == 'waiting' and answer == 'refused StillWaiting':
+            return None
+        if r.mode in ('waiting', 'let'):
+            ask(self.is_let(), 'went on without a let', answer)
+            r.place, r.mode = r.place + 1, 'free'
+        while r.place < len(r.keys):
+            key, access = r.keys[r.place]
+            reply = self.step(key, f'visit {r.number}.{r.waits + 1} {r.txn} {r.ts} {access}')
+            if reply is None:
+                return ask(answer == 'refused HistoryFull', 'a visit is missing at', key, answer)
+            if reply == 'wait':
+                r.waits, r.waited, r.mode = r.waits + 1, True, 'waiting'
+                return ask(answer == f'waiting {key}', 'scan', answer)
+            ask(reply == 'pass', 'visit', reply)
+            r.place += 1
+        wanted = 'rescan' if r.waited else 'proceed'
+        r.place, r.waited = 0, False
+        return ask(answer == wanted, 'scan', answer, 'for', wanted)
+
+    def wait(self, _words, answer):
+        r = self.request
+        if r.mode in ('free', 'leaving'):
+            return ask(answer == 'idle', 'await', answer)
+        if r.mode == 'let' or answer == 'let':
+            r.mode = 'let'
+            return ask(answer == 'let' and self.is_let(), 'await', answer)
+        return ask(answer == 'turns', 'await', answer)
+
+    def look(self, words, answer):
+        key = words[2]
+        if key not in [k for k, _ in self.request.keys]:
+            return ask(answer == 'stranger', 'look', answer)
+        return self.once(key, f'look {self.request.number}', answer)
+
+    def leave(self, _words, answer):
+        r = self.request
+        if r.mode != 'leaving':
+            r.place, r.mode = 0, 'leaving'
+        while r.place < len(r.keys):
+            reply = self.step(r.keys[r.place][0], f'leave {r.number}')
+            if reply is None:
+                return ask(answer == 'refused HistoryFull', 'a leave is missing', answer)
+            r.place += 1
+        self.request = None
+        return ask(answer == 'done', 'leave', answer)
+
+    def line(self, words, answer):
+        call = words[1]
+        if call == 'open':
+            return self.open(words, answer)
+        if call in ('acquire', 'update'):
+            return self.once(words[4], ' '.join(words[1:4]), answer)
+        if call == 'finish':
+            return self.once(words[3], ' '.join(words[1:3]), answer)
+        if self.request is None:
+            return ask(answer == 'none', call, answer)
+        return {'scan': self.scan, 'await': self.wait, 'look': self.look, 'leave': self.leave}[call](words, answer)
+
+
+def judge(lines, text, status):
+    """Raises Wrong where the output is none of the script; gives its parts."""
+    output, numbers, turns = Output(text), set(), False
+    for number in {line[0] for line in lines} | set(output.answers):
+        own = [(i + 1, line) for i, line in enumerate(lines) if line[0] == number]
+        answers = output.answers.get(number, [])
+        ask(len(answers) <= len(own), 'more answers than lines')
+        machine = Machine(number, output, numbers)
+        for (place, answer), (at, words) in zip(answers, own):
+            ask(place == at, 'line', place, 'for', at)
+            machine.line(words, answer)
+        out = bool(answers) and answers[-1][1] == 'turns'
+        ask(all(a != 'turns' for _, a in answers[:-1]), 'a line after turns')
+        ask(out or len(answers) == len(own), 'lines without an answer')
+        turns = turns or out
+    ask(not any(output.steps.values()), 'a step that no answer tells')
+    ask(numbers == {str(n + 1) for n in range(len(numbers))}, 'numbers', sorted(numbers))
+    ask(status == (3 if turns else 0), 'status', status)
+    return output
+
+
+def run(program, words, text):
+    done = subprocess.run([program] + words, input=text.encode(), capture_output=True, timeout=120, check=False)
+    return done.returncode, done.stdout.decode(), done.stderr.decode()
+
+
+def one(program, rng):
+    lines = script(rng)
+    words = ['run', '--threads', '--turns', str(rng.choice([1, 5, 200])), '--shards', str(rng.randint(1, 6))]
+    if rng.random() < 0.1:
+        words += ['--steps', str(rng.randint(1, 30))]
+    status, text, _ = run(program, words, ''.join(' '.join(line) + '\n' for line in lines))
+    return lines, text, status
+
+
+def changed(rng, text):
+    """The output with one answer or one step changed, left out or told twice."""
+    lines = text.split('\n')[:-1]
+    at = rng.randrange(len(lines))
+    cut = lines.index('locks 1')
+    if at == cut:
+        return None
+    kind = rng.randrange(3)
+    if kind == 0:
+        del lines[at]
+    elif kind == 1:
+        lines.insert(at, lines[at])
+    elif at < cut:
+        number, place, words = lines[at].split(' ', 2)
+        other = rng.choice([w for w in ('busy', 'proceed', 'rescan', 'idle', 'none', 'done', 'taken', 'freed', 'left',
+                                        'request 99', 'refused Leaving', 'stranger', 'waiting zz') if w != words])
+        lines[at] = f'{number} {place} {other}'
+    else:
+        key, index, number, rest = lines[at].split(' ', 3)
+        lines[at] = f'{key} {index} {int(number) + 1} {rest}'
+    return ''.join(line + '\n' for line in lines)
+
+
+def main():
+    top = pathlib.Path(__file__).resolve().parent.parent
+    asked = argparse.ArgumentParser()
+    asked.add_argument('program', nargs='?', default=str(top / 'crates/lockrun/out/lockrun'))
+    asked.add_argument('--runs', type=int, default=2000)
+    asked.add_argument('--seed', type=int, default=1)
+    asked.add_argument('--self-test', action='store_true')
+    told = asked.parse_args()
+    rng, wrong, answers, refused, tried = random.Random(told.seed), 0, 0, 0, 0
+    for number in range(told.runs):
+        lines, text, status = one(told.program, rng)
+        try:
+            output = judge(lines, text, status)
+            answers += output.total
+            verdict = run(told.program, ['check'], output.histories)
+            ask(verdict[1] == f'ok {len(output.keys)} keys {output.count} steps\n', 'check', verdict)
+        except Wrong as why:
+            wrong += 1
+            print(f'run {number}: {why}', file=sys.stderr)
+            continue
+        if not told.self_test:
+            continue
+        for _ in range(4):
+            other = changed(rng, text)
+            if other is None or other == text:
+                continue
+            tried += 1
+            try:
+                said = judge(lines, other, status)
+                verdict = run(told.program, ['check'], said.histories)
+                ask(verdict[1] == f'ok {len(said.keys)} keys {said.count} steps\n', 'check')
+                print(f'run {number}: a changed output is accepted', file=sys.stderr)
+            except (Wrong, ValueError, KeyError, IndexError):
+                refused += 1
+    if told.self_test:
+        print(f'{refused} of {tried} changed outputs refused')
+    print(f'{told.runs} runs, {wrong} wrong ({answers} answers)')
+    return 1 if wrong or refused < tried else 0
+
+
+if __name__ == '__main__':
+    sys.exit(main())
