@@ -3,11 +3,13 @@ ghost use Rattle.std.specs.Prelude.{◌≡◌, IfOk, length};
 ghost use Rattle.std.specs.List.{All};
 ghost use Rattle.std.specs.FinMap as finmap;
 
-use crate::seat::{Seat, Waiter, seated};
 use crate::watched::{Stop, Watched};
 use lt_ids::{Access, Key, Timestamp, TxnId};
 use lt_plain::{KeyTable, Reply};
 use lt_table::{Config, Poll, Ready, Scan, Table, open_with, prepare};
+use lt_table_player::run::seated;
+use lt_table_player::seat::Seat;
+use lt_table_player::tables::empty_tables;
 use lt_words::Name;
 use std::alloc::{AllocError, Global};
 use std::marker::Brand;
@@ -49,11 +51,13 @@ fn watched_tables<'a>(
     ensures many { IfOk result (λ tables. length tables.items ≡ count) }
     ensures empty { IfOk result (λ tables. All (λ t. t.table ≡ finmap.empty) tables.items) }
 {
-    let mut tables = Vec::new(alloc);
-    for _ in 0..count {
-        tables.push(Watched::new(alloc, stop))?;
-    }
-    Ok(tables)
+    empty_tables(
+        alloc,
+        count,
+        || -> Watched<'_>
+            ensures { result.table ≡ finmap.empty }
+        { Watched::new(alloc, stop) },
+    )
 }
 
 /// The transaction takes the lock of the key.
@@ -65,7 +69,7 @@ fn acquire<N: Name, T: KeyTable, R: Wait>(
     txn: u64,
     key: u8,
 ) -> Option<Reply> {
-    let mut pass = seat.into_pass();
+    let mut pass = seat.into_pass()?;
     let key = Key::from_bytes(alloc, &[key]).ok()?;
     let txn = TxnId::new(txn)?;
     let answer = table.acquire(rt, &mut pass, &key, txn, TIME).ok()?;
@@ -154,17 +158,17 @@ pub fn two_acquires<R: Threads + Wait + Sync>(
 /// Polls once another thread is at the stop, and then lets that one go on.
 fn poll_beside<N: Name, T: KeyTable>(
     table: &Table<N, T>,
-    waiter: Waiter<N>,
+    seat: Seat<N>,
     stop: &Stop,
 ) -> Option<Poll> {
-    let mut guard = waiter.into_guard();
+    let mut guard = seat.into_guard()?;
     let has_come = stop.come.wait();
     let poll = table.poll(&mut guard);
     stop.go.set();
     if has_come { Some(poll) } else { None }
 }
 
-/// A request that comes to write the key, and what its scan was told.
+/// A request comes to write the key, and its scan is told this.
 fn scanned<N: Name, T: KeyTable, R: Wait>(
     rt: &R,
     alloc: Global,
@@ -172,16 +176,17 @@ fn scanned<N: Name, T: KeyTable, R: Wait>(
     seat: Seat<N>,
     txn: u64,
     key: u8,
-) -> Option<(Waiter<N>, Scan)> {
+) -> Option<(Seat<N>, Scan)> {
+    let pass = seat.into_pass()?;
     let key = Key::from_bytes(alloc, &[key]).ok()?;
     let txn = TxnId::new(txn)?;
     let mut accesses = Vec::new(alloc);
     accesses.push((key, Access::Write)).ok()?;
-    let Ok(mut guard) = table.enter(rt, alloc, seat.into_pass(), txn, TIME, &accesses) else {
+    let Ok(mut guard) = table.enter(rt, alloc, pass, txn, TIME, &accesses) else {
         return None;
     };
     let scan = table.scan(rt, &mut guard).ok()?;
-    Some((Waiter::new(guard), scan))
+    Some((Seat::open(guard), scan))
 }
 
 fn poll_named<N: Name + Send + Sync, R: Threads + Wait + Sync>(
@@ -202,12 +207,12 @@ fn poll_named<N: Name + Send + Sync, R: Threads + Wait + Sync>(
     let two = seats.pop()?;
     let one = seats.pop()?;
     acquire(rt, alloc, &table, one, 1, keys.1)?;
-    let (waiter, scan) = scanned(rt, alloc, &table, two, 2, keys.1)?;
+    let (waiting, scan) = scanned(rt, alloc, &table, two, 2, keys.1)?;
     let inside = &table;
     let (first, second) = join(
         rt,
         move || acquire(rt, alloc, inside, three, 3, keys.0),
-        move || poll_beside(inside, waiter, at),
+        move || poll_beside(inside, waiting, at),
     );
     Some(Polled {
         scan,

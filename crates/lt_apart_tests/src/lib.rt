@@ -7,7 +7,6 @@
 
 pub mod beside;
 pub mod flag;
-pub mod seat;
 #[cfg(test)]
 mod tests;
 pub mod watched;

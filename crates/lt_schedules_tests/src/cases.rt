@@ -2,8 +2,8 @@
 use crate::steps::Step;
 use lt_plain::Reply;
 use lt_table::{EnterError, Poll, Scan, ScanError, StepError};
-use lt_table_tests::command::{Command, Told};
-use lt_table_tests::desk::Line;
+use lt_table_player::command::{Command, Told};
+use lt_table_player::desk::Line;
 
 /// A kind of answer, or something that happens on the way.
 #[derive(Clone, Copy, Debug, PartialEq, Eq)]

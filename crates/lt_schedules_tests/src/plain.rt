@@ -5,8 +5,9 @@ ghost use Rattle.std.specs.FinMap as finmap;
 
 use lt_plain::PlainTable;
 use lt_table::{Config, Ready, open_with, prepare};
-use lt_table_tests::command::Row;
-use lt_table_tests::run::{Ran, play_all};
+use lt_table_player::command::Row;
+use lt_table_player::run::{Ran, play_all};
+use lt_table_player::tables::empty_tables;
 use lt_words::Name;
 use std::alloc::{AllocError, Global};
 use std::marker::Brand;
@@ -17,11 +18,13 @@ fn plain_tables(alloc: Global, count: usize) -> Result<Vec<PlainTable>, AllocErr
     ensures many { IfOk result (λ tables. length tables.items ≡ count) }
     ensures empty { IfOk result (λ tables. All (λ t. t ≡ finmap.empty) tables.items) }
 {
-    let mut tables = Vec::new(alloc);
-    for _ in 0..count {
-        tables.push(PlainTable::new(alloc))?;
-    }
-    Ok(tables)
+    empty_tables(
+        alloc,
+        count,
+        || -> PlainTable
+            ensures { result ≡ finmap.empty }
+        { PlainTable::new(alloc) },
+    )
 }
 
 fn run_named<N: Name, R: Wait>(

@@ -3,7 +3,7 @@ use lt_ids::Access;
 use lt_plain::Reply;
 use lt_rules_tests::second::Time;
 use lt_table::{Poll, Scan, ScanError, StepError};
-use lt_table_tests::command::Told;
+use lt_table_player::command::Told;
 use std::alloc::{AllocError, Global};
 
 /// What a request does.

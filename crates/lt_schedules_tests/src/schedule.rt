@@ -5,8 +5,8 @@ use crate::table::SecondTable;
 use lt_ids::Access;
 use lt_rules_tests::random::Random;
 use lt_table::Config;
-use lt_table_tests::command::{Command, Row};
-use lt_table_tests::desk::Line;
+use lt_table_player::command::{Command, Row};
+use lt_table_player::desk::Line;
 use std::alloc::Global;
 
 /// How many commands a schedule has.

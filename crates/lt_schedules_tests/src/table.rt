@@ -7,8 +7,8 @@ use lt_ids::Access;
 use lt_plain::Reply;
 use lt_rules_tests::second::Time;
 use lt_table::{Config, EnterError, StepError};
-use lt_table_tests::command::{Command, Told};
-use lt_table_tests::desk::Line;
+use lt_table_player::command::{Command, Told};
+use lt_table_player::desk::Line;
 use std::alloc::Global;
 use std::collections::BTreeMap;
 

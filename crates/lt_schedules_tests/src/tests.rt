@@ -6,7 +6,7 @@ use lt_history::Entry;
 use lt_ids::{Access, Timestamp};
 use lt_plain::Call;
 use lt_rules_tests::second::{Let, Time};
-use lt_table_tests::run::{Ran, run};
+use lt_table_player::run::{Ran, run};
 use std::alloc::{AllocError, Global};
 use std::process::Abort;
 use std::sync::Wait;

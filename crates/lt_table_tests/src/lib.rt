@@ -1,16 +1,12 @@
-//! The table's public calls, through `Table` and nothing else: worked schedules, and two threads at once.
+//! The table's public calls: worked schedules, a close that comes too early, and two threads at once.
 //!
-//! A [`seat::Seat`] keeps a pass or its guard; [`desk`] plays commands on seats and tells what each was answered;
-//! [`run`] opens a table, plays a list of commands and closes it; [`race`] lets two threads work on one table.
+//! The commands are played as `lt_table_player` plays them. [`race`] lets two threads work on one table; [`closing`]
+//! closes a table without all its passes.
 #![tactic(auto)]
 
-pub mod command;
-pub mod desk;
-pub mod holds;
+pub mod closing;
 pub mod race;
 #[cfg(test)]
 mod races;
-pub mod run;
-pub mod seat;
 #[cfg(test)]
 mod worked;

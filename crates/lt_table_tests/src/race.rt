@@ -1,13 +1,13 @@
 //! Two threads, each with one key of its own, take and free it many times.
 ghost use Rattle.std.specs.Prelude.{◌≡◌};
 
-use crate::command::Command;
-use crate::desk::{Line, play};
-use crate::run::{close_all, seated};
-use crate::seat::Seat;
 use lt_ids::Access;
 use lt_plain::KeyTable;
 use lt_table::{Config, Histories, Ready, Table, open, prepare};
+use lt_table_player::command::Command;
+use lt_table_player::desk::{Line, play};
+use lt_table_player::run::{close_all, seated};
+use lt_table_player::seat::Seat;
 use lt_words::Name;
 use std::alloc::Global;
 use std::marker::Brand;

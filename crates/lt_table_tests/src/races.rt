@@ -1,9 +1,9 @@
-use crate::command::Told;
-use crate::desk::Line;
 use crate::race::{Raced, race};
 use lt_history::Entry;
 use lt_plain::{Call, Reply};
 use lt_table::{Config, Histories, Poll};
+use lt_table_player::command::Told;
+use lt_table_player::desk::Line;
 use std::process::Abort;
 use std::test::Fail;
 

@@ -1,10 +1,11 @@
-use crate::command::{Command, Row, Told};
-use crate::run::{Ran, close_twice, run};
+use crate::closing::close_twice;
 use lt_ids::Access;
 use lt_plain::Reply;
 use lt_table::{
     CloseError, Config, EnterError, Poll, PrepareError, Scan, ScanError, StepError, prepare,
 };
+use lt_table_player::command::{Command, Row, Told};
+use lt_table_player::run::{Ran, run};
 use std::alloc::{AllocError, Global};
 use std::process::Abort;
 use std::sync::Wait;

@@ -1,4 +1,4 @@
-use Rattle.lt_table_tests.proofs.run.close_twice.Given as goal
+use Rattle.lt_table_tests.proofs.closing.close_twice.Given as goal
 
 -- the name of the book that was just opened
 abbrev pub ghosts-close_twice_named : goal.ghosts-close_twice_named

@@ -1,5 +1,5 @@
-ghost use Rattle.std.specs.Prelude.{◌≡◌};
-ghost use Rattle.lt_table_tests.specs.Seats.{of_holds};
+ghost use Rattle.std.specs.Prelude.{◌≡◌, IfSome};
+ghost use Rattle.lt_table_player.specs.Seats.{of_holds};
 
 use crate::holds::Holds;
 use lt_table::Guard;
@@ -15,6 +15,7 @@ pub struct Seat<N: Name> {
 }
 
 impl<N: Name> Seat<N> {
+    /// With a pass alone.
     pub fn free(pass: Pass) -> Self
         requires { pass.of ≡ N.of }
     {
@@ -24,6 +25,7 @@ impl<N: Name> Seat<N> {
         }
     }
 
+    /// With a guard.
     pub fn open(guard: Guard) -> Self
         requires { guard.pass.of ≡ N.of }
     {
@@ -39,5 +41,25 @@ impl<N: Name> Seat<N> {
     {
         let Seat { holds, .. } = self;
         holds
+    }
+
+    /// Its pass, where that is alone.
+    pub fn into_pass(self) -> Option<Pass>
+        ensures { IfSome result (λ pass. pass.of ≡ N.of) }
+    {
+        match self.into_holds() {
+            Holds::Free(pass) => Some(pass),
+            Holds::Open(_) => None,
+        }
+    }
+
+    /// Its guard, where the pass is in one.
+    pub fn into_guard(self) -> Option<Guard>
+        ensures { IfSome result (λ guard. guard.pass.of ≡ N.of) }
+    {
+        match self.into_holds() {
+            Holds::Open(guard) => Some(guard),
+            Holds::Free(_) => None,
+        }
     }
 }

@@ -1,7 +1,7 @@
 -- Passes and guards of the book that a name names.
 use Rattle.lt_words.specs.Row.{Opening}
-use Rattle.lt_table_tests.specs.declared.holds.Holds.{Holds}
-use Rattle.lt_table_tests.specs.declared.holds.Holds.TheVariants.{Free, Open}
+use Rattle.lt_table_player.specs.declared.holds.Holds.{Holds}
+use Rattle.lt_table_player.specs.declared.holds.Holds.TheVariants.{Free, Open}
 
 -- The book of what a seat holds.
 abbrev pub of_holds : Holds → Opening

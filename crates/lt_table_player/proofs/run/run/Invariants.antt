@@ -1,4 +1,4 @@
-use Rattle.lt_table_tests.proofs.run.run.Given as goal
+use Rattle.lt_table_player.proofs.run.run.Given as goal
 
 -- the name of the book that was just opened
 abbrev pub ghosts-run_named : goal.ghosts-run_named

@@ -8,7 +8,7 @@ use crate::desk::{Line, play};
 use crate::holds::Holds;
 use crate::seat::Seat;
 use lt_plain::KeyTable;
-use lt_table::{CloseError, CloseRefused, Config, Guard, Histories, Ready, Table, open, prepare};
+use lt_table::{Config, Guard, Histories, Ready, Table, open, prepare};
 use lt_words::{Name, Pass};
 use std::alloc::{AllocError, Global};
 use std::marker::Brand;
@@ -21,6 +21,7 @@ pub struct Ran {
     pub histories: Histories,
 }
 
+/// A seat for each pass.
 pub fn seated<N: Name>(alloc: Global, passes: Vec<Pass>) -> Option<Vec<Seat<N>>>
     requires { All (λ p. p.of ≡ N.of) passes.items }
 {
@@ -32,7 +33,7 @@ pub fn seated<N: Name>(alloc: Global, passes: Vec<Pass>) -> Option<Vec<Seat<N>>>
 }
 
 /// The passes that stand alone, and the guards.
-fn gather<N: Name>(
+pub fn gather<N: Name>(
     alloc: Global,
     seats: Vec<Seat<N>>,
 ) -> Result<(Vec<Pass>, Vec<Guard>), AllocError>
@@ -98,48 +99,4 @@ fn run_named<N: Name, R: Wait>(rt: &R, alloc: Global, ready: Ready, rows: &[Row]
 pub fn run<R: Wait>(rt: &R, alloc: Global, config: Config, rows: &[Row]) -> Option<Ran> {
     let ready = prepare(alloc, config).ok()?;
     run_named::<Brand, R>(rt, alloc, ready, rows)
-}
-
-/// What came of a close without the last pass, and of one with all.
-#[derive(Drop)]
-pub struct Closed {
-    pub refused: CloseError,
-    /// How many passes came back.
-    pub back: usize,
-    pub histories: Histories,
-}
-
-fn close_twice_named<N: Name, R: Wait>(rt: &R, alloc: Global, ready: Ready) -> Option<Closed>
-    requires { ready.of ≡ N.of }
-{
-    let (table, passes) = open::<N>(alloc, ready).ok()?;
-    let mut seats = seated::<N>(alloc, passes)?;
-    let last = seats.pop()?;
-    let Ok((passes, guards)) = gather(alloc, seats) else {
-        return None;
-    };
-    let Err(refused) = table.close(rt, alloc, passes, guards) else {
-        return None;
-    };
-    let CloseRefused {
-        table,
-        passes,
-        error,
-        ..
-    } = refused;
-    let back = passes.len();
-    let mut seats = seated::<N>(alloc, passes)?;
-    seats.push(last).ok()?;
-    let histories = close_all(rt, alloc, table, seats)?;
-    Some(Closed {
-        refused: error,
-        back,
-        histories,
-    })
-}
-
-/// Closes a new table without its last pass, and then with all.
-pub fn close_twice<R: Wait>(rt: &R, alloc: Global, config: Config) -> Option<Closed> {
-    let ready = prepare(alloc, config).ok()?;
-    close_twice_named::<Brand, R>(rt, alloc, ready)
 }
