@@ -2,7 +2,8 @@ use crate::streams::{Paper, blank};
 use lt_history::CheckError;
 use lt_script::Fault;
 use lt_tool::{
-    CheckTextError, Failure, Finish, Job, Options, RunError, complain, perform, read_words, status,
+    CheckTextError, Failure, Finish, Job, Options, RunError, WordsError, complain, perform,
+    read_words, status,
 };
 use std::test::*;
 
@@ -154,7 +155,7 @@ const ENDS: [(&str, &[&str], &str, u8, &str, &str); 38] = [
         "lockrun: line 3: KeyOrder\n",
     ),
     (
-        "an option with a number",
+        "no shards",
         &["run", "--shards", "0"],
         "",
         2,
@@ -320,7 +321,7 @@ const HELP: &str =
     "Runs scripts of calls of a lock table, and checks histories of its keys. Without a word it is `run`.\n\nUsage: lockrun [COMMAND]\n\nCommands:\n  run    Runs a script and writes its answers and the histories of its keys\n  check  Checks whether a text tells legal histories of keys\n  help   Print this message or the help of the given subcommand(s)\n\nOptions:\n  -h, --help  Print help\n";
 
 const RUN_HELP: &str =
-    "Runs a script and writes its answers and the histories of its keys\n\nUsage: lockrun run [SCRIPT]\n\nArguments:\n  [SCRIPT]  The script; standard input where none is named\n\nOptions:\n  -h, --help  Print help\n";
+    "Runs a script and writes its answers and the histories of its keys\n\nUsage: lockrun run [OPTIONS] [SCRIPT]\n\nArguments:\n  [SCRIPT]  The script; standard input where none is named\n\nOptions:\n      --shards <N>  Shards of the table, 1 to 64\n      --steps <N>   Key steps that each shard can hold, 1 to 4294967296\n      --threads     Run each pass on a thread of its own\n      --turns <N>   Polls of one `await` with threads, 1 to 1000000000\n  -h, --help        Print help\n";
 
 const CHECK_HELP: &str =
     "Checks whether a text tells legal histories of keys\n\nUsage: lockrun check [FILE]\n\nArguments:\n  [FILE]  The text; standard input where none is named\n\nOptions:\n  -h, --help  Print help\n";
@@ -374,7 +375,25 @@ fn help_is_told(rt: HostRuntime) {
 fn words_are_read(rt: HostRuntime) {
     let options = Options::default();
     let none: &'static [&'static str] = &[];
-    let names: [(&'static [&'static str], Job<'static>); 7] = [
+    let few = Options {
+        shards: 1,
+        steps: 2,
+        threads: false,
+        turns: 1000000,
+    };
+    let threads = Options {
+        shards: 4,
+        steps: 1000000,
+        threads: true,
+        turns: 1000000,
+    };
+    let most = Options {
+        shards: 64,
+        steps: 4294967296,
+        threads: true,
+        turns: 1000000000,
+    };
+    let names: [(&'static [&'static str], Job<'static>); 10] = [
         (none, Job::Run(None, options)),
         (&["run"], Job::Run(None, options)),
         (&["run", "s"], Job::Run(Some("s"), options)),
@@ -382,6 +401,22 @@ fn words_are_read(rt: HostRuntime) {
         (&["check", "f"], Job::Check(Some("f"))),
         (&["check", "-"], Job::Check(Some("-"))),
         (&["run", "--", "--help"], Job::Run(Some("--help"), options)),
+        (
+            &["run", "s", "--shards", "1", "--steps", "2"],
+            Job::Run(Some("s"), few),
+        ),
+        (&["run", "--threads"], Job::Run(None, threads)),
+        (
+            &[
+                "run",
+                "--turns=1000000000",
+                "--steps=4294967296",
+                "--threads",
+                "--shards=64",
+                "s",
+            ],
+            Job::Run(Some("s"), most),
+        ),
     ];
     for (words, job) in names {
         let mut read = read_words(rt.alloc(), words).ok();
@@ -389,6 +424,31 @@ fn words_are_read(rt: HostRuntime) {
             read = read_words(rt.alloc(), words).ok();
         }
         assert_eq!(rt; read, Some(job));
+    }
+}
+
+fn is_refused(rt: &HostRuntime, words: &'static [&'static str]) -> bool {
+    match read_words(rt.alloc(), words) {
+        Err(WordsError::Refused) => true,
+        _ => false,
+    }
+}
+
+/// A number that is out of its range, a word that is no number, an option that is given twice, and a flag with a value are
+/// refused.
+#[test]
+fn faulty_options_are_refused(rt: HostRuntime) {
+    let faulty: [&'static [&'static str]; 7] = [
+        &["run", "--shards", "65"],
+        &["run", "--steps", "4294967297"],
+        &["run", "--turns", "1000000001"],
+        &["run", "--turns", "+1"],
+        &["run", "--turns", "01"],
+        &["run", "--turns", "1", "--turns", "1"],
+        &["run", "--threads=true"],
+    ];
+    for words in faulty {
+        assert!(rt; is_refused(&rt, words) || is_refused(&rt, words));
     }
 }
 
