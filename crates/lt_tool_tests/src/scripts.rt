@@ -393,7 +393,7 @@ fn long_scripts(rt: HostRuntime) {
 
 /// From which length and before which one the fronts of the two lines have this fault, or this output. The last line may
 /// lack its end.
-const FRONTS: [(usize, usize, Option<(usize, Fault)>, &str); 8] = [
+const FRONTS: [(usize, usize, Option<(usize, Fault)>, &str); 10] = [
     (0, 1, None, "locks 1\n"),
     (1, 9, Some((1, Fault::BadCall)), ""),
     (9, 18, Some((1, Fault::BadWords)), ""),
@@ -404,7 +404,14 @@ const FRONTS: [(usize, usize, Option<(usize, Fault)>, &str); 8] = [
         "1 1 taken\nlocks 1\na 1 1 acquire 7 20.0 = taken\n",
     ),
     (20, 25, Some((2, Fault::BadCall)), ""),
-    (25, 34, Some((2, Fault::BadWords)), ""),
+    (25, 29, Some((2, Fault::BadWords)), ""),
+    (29, 32, Some((2, Fault::BadTime)), ""),
+    (
+        32,
+        34,
+        None,
+        "1 1 taken\n2 2 refused NoKeys\nlocks 1\na 1 1 acquire 7 20.0 = taken\n",
+    ),
     (34, 36, Some((2, Fault::BadAccess)), ""),
     (36, 38, None, ANSWERED),
 ];

@@ -5,11 +5,15 @@ use lt_tool::{
     CheckTextError, Failure, Finish, Job, Options, RunError, WordsError, complain, perform,
     read_words, status,
 };
+use std::alloc::Global;
+use std::fs::Files;
+use std::sync::Wait;
 use std::test::*;
+use std::thread::Threads;
 
 /// What each line shows: the words behind the program's name, standard input, the status, standard output, and standard
 /// error.
-const ENDS: [(&str, &[&str], &str, u8, &str, &str); 38] = [
+const ENDS: [(&str, &[&str], &str, u8, &str, &str); 41] = [
     (
         "a script that is not there",
         &["run", "no-such-file"],
@@ -307,6 +311,30 @@ const ENDS: [(&str, &[&str], &str, u8, &str, &str); 38] = [
         "",
         "lockrun: command line\n",
     ),
+    (
+        "turns that are used up",
+        &["run", "--threads", "--turns", "10"],
+        "1 acquire 7 1.0 a\n1 open 8 1.0 a:w\n1 scan\n1 await\n1 leave\n",
+        3,
+        "1 1 taken\n1 2 request 1\n1 3 waiting a\n1 4 turns\nlocks 1\na 1 1 acquire 7 1.0 = taken\na 2 1 visit 1.1 8 1.0 w = wait\n",
+        "lockrun: turns\n",
+    ),
+    (
+        "a full history",
+        &["run", "--shards", "1", "--steps", "2"],
+        "1 acquire 7 20.0 a\n1 update 7 21.0 a\n1 finish 7 a\n",
+        0,
+        "1 1 taken\n1 2 raised\n1 3 refused HistoryFull\nlocks 1\na 1 1 acquire 7 20.0 = taken\na 2 1 update 7 21.0 = raised\n",
+        "",
+    ),
+    (
+        "threads",
+        &["run", "--threads"],
+        "1 acquire 7 20.0 a\n2 acquire 8 20.0 b\n1 finish 7 a\n2 finish 8 b\n",
+        0,
+        "1 1 taken\n1 3 freed\n2 2 taken\n2 4 freed\nlocks 1\na 1 1 acquire 7 20.0 = taken\na 2 1 finish 7 = freed\nb 1 2 acquire 8 20.0 = taken\nb 2 2 finish 8 = freed\n",
+        "",
+    ),
 ];
 
 /// The help of the program, and of its two commands, with its first eight bytes.
@@ -327,14 +355,16 @@ const CHECK_HELP: &str =
     "Checks whether a text tells legal histories of keys\n\nUsage: lockrun check [FILE]\n\nArguments:\n  [FILE]  The text; standard input where none is named\n\nOptions:\n  -h, --help  Print help\n";
 
 /// What one run of the program ends with, and a second one where the first was refused memory: then nothing was written.
-fn ended(
-    rt: &HostRuntime,
+fn ended<H: Threads + Wait + Sync, F: Files>(
+    rt: &H,
+    alloc: Global,
+    files: &F,
     words: &'static [&'static str],
     input: &str,
     output: &mut Paper,
 ) -> Result<Finish, Failure> {
     for _ in 0..2 {
-        let ending = perform(rt.alloc(), rt, words, &mut input.as_bytes(), output);
+        let ending = perform(rt, alloc, files, words, &mut input.as_bytes(), output);
         if status(&ending) != 4 || !output.written().is_empty() {
             return ending;
         }
@@ -347,10 +377,8 @@ fn words_and_texts_end_as_the_rules_say(rt: HostRuntime) {
     for (what, words, input, code, written, message) in ENDS {
         let mut output = blank(1024, 1024);
         let mut told = blank(1024, 1024);
-        let ending = ended(&rt, words, input, &mut output);
-        if let Err(failure) = &ending {
-            assert_eq!(rt; complain(&mut told, failure), Ok(()), "{what}");
-        }
+        let ending = ended(&rt, rt.alloc(), &rt, words, input, &mut output);
+        assert_eq!(rt; complain(&mut told, &ending), Ok(()), "{what}");
         assert_eq!(rt; status(&ending), code, "{what}");
         assert_eq!(rt; output.written(), written.as_bytes(), "{what}");
         assert_eq!(rt; told.written(), message.as_bytes(), "{what}");
@@ -363,7 +391,7 @@ fn help_is_told(rt: HostRuntime) {
     for (words, help, front) in HELPS {
         for (stops_at, code, written) in [(1024, 0, help), (8, 5, front)] {
             let mut output = blank(1024, stops_at);
-            let ending = ended(&rt, words, "", &mut output);
+            let ending = ended(&rt, rt.alloc(), &rt, words, "", &mut output);
             assert_eq!(rt; status(&ending), code);
             assert_eq!(rt; output.written(), written.as_bytes());
         }
@@ -479,6 +507,7 @@ fn failures_are_told(rt: HostRuntime) {
             "lockrun: text too long\n",
         ),
         (Failure::Run(RunError::Memory), 4, "lockrun: memory\n"),
+        (Failure::Run(RunError::Counts), 4, "lockrun: counts\n"),
         (Failure::Run(RunError::Read), 5, "lockrun: read\n"),
         (Failure::Run(RunError::Write), 5, "lockrun: write\n"),
         (Failure::Check(faulty), 1, "lockrun: line 10: WrongLets\n"),
@@ -492,9 +521,10 @@ fn failures_are_told(rt: HostRuntime) {
         (Failure::Check(CheckTextError::Write), 5, "lockrun: write\n"),
     ] {
         let mut told = blank(1, 1024);
-        assert_eq!(rt; complain(&mut told, &failure), Ok(()));
+        let ending = Err(failure);
+        assert_eq!(rt; complain(&mut told, &ending), Ok(()));
         assert_eq!(rt; told.written(), message.as_bytes());
-        assert_eq!(rt; status(&Err(failure)), code);
+        assert_eq!(rt; status(&ending), code);
     }
     assert_eq!(rt; status(&Ok(Finish::TurnsOut)), 3);
 }
