@@ -1,8 +1,8 @@
 -- A table is closed over what the passes did.
-use Rattle.std.proofs.Common.{◌≡◌, ◌≢◌, ℕ, zero, suc, ◌+◌, ◌<◌, ◌≤◌, Bool, true, false, cond, nat_eq, List, [], ◌∷◌, ◌++◌, length, map, get_or, Option, Some, refl, sym, ap, subst, ◌∙◌, append_assoc, append-nil, length-append, arith}
+use Rattle.std.proofs.Common.{◌≡◌, ◌≢◌, ℕ, zero, suc, ◌+◌, ◌<◌, Bool, true, false, cond, nat_eq, List, [], ◌∷◌, ◌++◌, length, map, get_or, refl, sym, ap, subst, ◌∙◌, append_assoc, append-nil, length-append, arith}
 use Rattle.std.specs.Prelude.{Contains}
 use Rattle.std.specs.Global.{Vec}
-use Rattle.std.specs.List.{flat_map, AllByRecursion}
+use Rattle.std.specs.List.{AllByRecursion}
 use Rattle.std.specs.Str.{bytes_eq}
 use Rattle.std.proofs.lemmas.List.{map-append}
 use Rattle.std.proofs.lemmas.List.Elements.{Contains-append_left, Contains-append_right, Contains-push, filter-append}
@@ -12,12 +12,11 @@ use Rattle.lt_history.specs.Histories.{AreLegalKeys, IsInRange, event_of}
 use Rattle.lt_history.specs.Histories.{part as key_part}
 use Rattle.lt_history.proofs.Keys.{same_key}
 use Rattle.lt_plain.specs.Step.{IsLegal}
-use Rattle.lt_words.specs.declared.event.Event.{Event}
 use Rattle.lt_words.specs.History.{part, shard_of}
 use Rattle.lt_words.specs.Row.{Opening, Seer, fresh, fresh_passes}
 use Rattle.lt_script.specs.declared.command.Command.{Command}
 use Rattle.lt_table.specs.Reported.{GuardState}
-use Rattle.lt_table.specs.Closed.{IsClosed, IsFinal, passes_of}
+use Rattle.lt_table.specs.Closed.{IsClosed, passes_of}
 use Rattle.lt_desk.specs.declared.answer.AnswerLine.{AnswerLine}
 use Rattle.lt_desk.specs.declared.desk.Desk.{Desk}
 use Rattle.lt_desk.specs.declared.desk.Desk.TheVariants.{Free, Open}
@@ -27,9 +26,8 @@ use Rattle.lt_desk.specs.declared.outcome.Ran.{Ran}
 use Rattle.lt_desk.specs.declared.outcome.Work.{Work}
 use Rattle.lt_desk.specs.Desks.{pass_of, request_of}
 use Rattle.lt_desk.specs.Machine.{Rules, Deed}
-use Rattle.lt_desk.specs.Worked.{IsRun, deed_line, lines_of}
+use Rattle.lt_desk.specs.Worked.{lines_of}
 use Rattle.lt_desk.specs.Turns.{AreNumbered, AreWorked, IsAmong}
-use Rattle.lt_desk.specs.Standing.{Finals, final_of, AllStand}
 use Rattle.lt_desk.specs.Closing.{AreHanded, IsPut, IsWithin, AreWithin, finish_all, join}
 use Rattle.lt_desk.specs.Ran.{AreAnswered, IsAnswered, IsRan, joined}
 use Rattle.lt_desk.proofs.Telling.{all_append, all_more, all_weaker}

@@ -8,7 +8,6 @@ use Rattle.lt_ids.specs.declared.request.Access.{Access}
 use Rattle.lt_ids.specs.declared.timestamp.Timestamp.{Timestamp}
 use Rattle.lt_plain.specs.declared.call.Call.{Call}
 use Rattle.lt_plain.specs.declared.call.Call.TheVariants as calls
-use Rattle.lt_plain.specs.declared.call.Reply.{Reply}
 use Rattle.lt_words.specs.Row.{Seer}
 use Rattle.lt_shard.specs.declared.answer.Answer.{Answer}
 use Rattle.lt_shard.specs.declared.answer.StepError.{StepError}

@@ -1,7 +1,6 @@
 -- The lines of a pass, one after the other.
-use Rattle.std.proofs.Common.{◌≡◌, ◌≢◌, ℕ, ◌+◌, ◌<◌, ◌==◌, Bool, true, false, cond, eq-eqb, List, [], ◌∷◌, ◌++◌, length, take, map, get_or, Option, None, refl, sym, ap, subst, ◌∙◌, inl, inr, append_assoc, append-nil, arith}
-use Rattle.std.specs.Prelude.{filter, IsTrue}
-use Rattle.std.specs.List.{flat_map, AllByRecursion}
+use Rattle.std.proofs.Common.{◌≡◌, ℕ, ◌+◌, ◌<◌, ◌==◌, Bool, true, false, cond, List, [], ◌∷◌, ◌++◌, length, take, get_or, Option, None, refl, sym, ap, subst, ◌∙◌, inl, inr, append_assoc, append-nil}
+use Rattle.std.specs.List.{flat_map}
 use Rattle.std.proofs.lemmas.List.{map-append, take_more}
 use Rattle.std.proofs.lemmas.List.Elements.{filter-append}
 use Rattle.std.proofs.lemmas.Grind.{flat_map-append}
@@ -20,7 +19,7 @@ use Rattle.lt_desk.specs.declared.outcome.Work.{Work}
 use Rattle.lt_desk.specs.Told.{Tells}
 use Rattle.lt_desk.specs.Desks.{request_of, pass_of}
 use Rattle.lt_desk.specs.Machine.{Rules, Deed, Runs, IsDone, deed_numbers, deed_lets}
-use Rattle.lt_desk.specs.Worked.{is_turns, answer_line, deed_line, deed_steps, finish_of, lines_of, AreDone, NoTurns, HasEnded, IsRun, IsWorked, IsBegun, TakesLine, TakesOn, GoesOn}
+use Rattle.lt_desk.specs.Worked.{is_turns, answer_line, deed_line, deed_steps, finish_of, lines_of, AreDone, NoTurns, HasEnded, IsWorked, IsBegun, TakesLine, TakesOn, GoesOn}
 use Rattle.lt_desk.proofs.Telling.{tells_none, tells_then, all_more}
 
 flat_snoc : {A B : Type 0} (f : A → List B) (xs : List A) (x : A) → flat_map f (xs ++ x ∷ []) ≡ flat_map f xs ++ f x

@@ -1,12 +1,11 @@
 -- What a scan and a poll tell.
-use Rattle.std.proofs.Common.{◌≡◌, ◌≢◌, ℕ, ◌+◌, Bool, true, false, cond, nat_eq, nat_lt, List, [], ◌∷◌, ◌++◌, length, Option, Some, None, Result, Ok, Err, refl, sym, ap, subst, ◌∙◌}
+use Rattle.std.proofs.Common.{◌≡◌, ◌≢◌, ℕ, Bool, true, false, cond, nat_eq, nat_lt, List, [], length, Option, Some, None, Result, Ok, Err, refl, sym, ap, subst, ◌∙◌}
 use Rattle.std.specs.Prelude.{slice_get}
 use Rattle.std.specs.List.{AllByRecursion}
 use Rattle.lt_ids.specs.Ticket.{Wait, value_of}
 use Rattle.lt_ids.specs.declared.request.Access.{Access}
 use Rattle.lt_plain.specs.declared.call.Call.{Call}
 use Rattle.lt_words.specs.History.{LetIn}
-use Rattle.lt_words.specs.Row.{Seer}
 use Rattle.lt_shard.specs.declared.answer.StepError.{StepError}
 use Rattle.lt_shard.specs.declared.answer.StepError.TheVariants as steps
 use Rattle.lt_table.specs.declared.progress.Mode.{Mode}
@@ -18,14 +17,14 @@ use Rattle.lt_table.specs.declared.scan.ScanError.{ScanError}
 use Rattle.lt_table.specs.declared.scan.ScanError.TheVariants as refused
 use Rattle.lt_table.specs.declared.scan.Poll.{Poll}
 use Rattle.lt_table.specs.declared.scan.Poll.TheVariants as polls
-use Rattle.lt_table.specs.Machine.{heard, mode_heard, polled, polled_in, scan_start, scan_start_in, scan_end, is_awaiting, next_visit}
+use Rattle.lt_table.specs.Machine.{heard, mode_heard, polled, polled_in, scan_start_in, scan_end, is_awaiting, next_visit}
 use Rattle.lt_table.specs.Runs.{WalkState, Step, Ends, IsScanBegun, of_step}
-use Rattle.lt_table.specs.Reported.{GuardState, IsScan, IsPoll, PassStays, GuardStays, wait_of}
+use Rattle.lt_table.specs.Reported.{GuardState, IsScan, IsPoll, wait_of}
 use Rattle.lt_desk.specs.Told.{Tells}
 use Rattle.lt_desk.specs.declared.answer.LineAnswer.{LineAnswer}
 use Rattle.lt_desk.specs.Machine.{let_in_mode, let_from, let_read, let_gone_on, state_heard, numbers_of, IsScanAnswer, IsWaitingAt}
 use Rattle.lt_desk.specs.Doing.{Polls}
-use Rattle.lt_desk.proofs.Telling.{tells_none, tells_more, tells_then, tells_steps, tells_let}
+use Rattle.lt_desk.proofs.Telling.{tells_more, tells_then, tells_steps, tells_let}
 
 -- ---- a scan that goes on is not told that it still waits
 

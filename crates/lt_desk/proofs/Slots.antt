@@ -7,7 +7,7 @@ use Rattle.lt_desk.specs.declared.outcome.Work.{Work}
 use Rattle.lt_desk.specs.declared.outcome.OutOfMemory.{OutOfMemory}
 use Rattle.lt_desk.specs.Machine.{Rules}
 use Rattle.lt_desk.specs.Worked.{IsWorked, IsBegun, GoesOn, lines_of}
-use Rattle.lt_desk.specs.Turns.{IsAmong, IsWorkedOf, AreWorked, IsTriedOf, AreTried, AreNumbered, IsSlot, AreSlots, IsReady, slot_at, TakesTurn, HaveBegun, somes}
+use Rattle.lt_desk.specs.Turns.{IsAmong, AreWorked, IsTriedOf, AreTried, AreNumbered, IsSlot, AreSlots, IsReady, slot_at, TakesTurn, HaveBegun, somes}
 use Rattle.lt_desk.proofs.Telling.{all_more, all_weaker}
 use Rattle.lt_desk.proofs.Lines.{goes_on, worked_none, mine, other, front_more}
 

@@ -1,27 +1,26 @@
 -- What the passes were told, in the final histories.
-use Rattle.std.proofs.Common.{◌≡◌, ◌≢◌, ℕ, zero, suc, ◌+◌, ◌<◌, ◌≤◌, ◌==◌, Bool, true, false, cond, eq-eqb, List, [], ◌∷◌, ◌++◌, length, map, Option, Some, inl, inr, refl, sym, ap, subst, ◌∙◌, arith}
+use Rattle.std.proofs.Common.{◌≡◌, ◌≢◌, ℕ, suc, ◌+◌, ◌<◌, ◌≤◌, ◌==◌, Bool, true, false, cond, eq-eqb, List, [], ◌∷◌, ◌++◌, map, Some, inl, inr, refl, sym, ap, subst, ◌∙◌, arith}
 use Rattle.std.specs.Prelude.{slice_get}
 use Rattle.std.specs.List.{flat_map, sum, AllByRecursion}
 use Rattle.std.proofs.lemmas.Nat.{mod_below}
-use mathlib.Core.List.{IsPrefix}
 use Rattle.lt_ids.specs.Ticket.{Wait}
 use Rattle.lt_history.specs.declared.entry.Entry.{Entry}
 use Rattle.lt_words.specs.declared.event.Event.{Event}
 use Rattle.lt_words.specs.declared.event.Event.TheVariants.{Opened, Draw, Step}
 use Rattle.lt_words.specs.History.{part, shard_of, Among, LetIn, DrewIn, StepsAtHome, IsLegalHistory}
-use Rattle.lt_words.specs.Row.{Opening, Seer}
+use Rattle.lt_words.specs.Row.{Seer}
 use Rattle.lt_words.proofs.Draws.{draws_stay, numbers_are_of_one_pass}
 use Rattle.lt_words.proofs.Prefixes.{prefix_get}
 use Rattle.lt_words.proofs.Parts.{beginnings_are_legal}
 use Rattle.lt_script.specs.declared.command.Command.{Command}
 use Rattle.lt_table.specs.Runs as runs
 use Rattle.lt_desk.specs.declared.outcome.Work.{Work}
-use Rattle.lt_desk.specs.Told.{StandsAt, StandsIn, IsBefore, Ascend, Rise, IsDrawn}
+use Rattle.lt_desk.specs.Told.{StandsIn, IsBefore, Ascend, Rise, IsDrawn}
 use Rattle.lt_desk.specs.Desks.{pass_of}
 use Rattle.lt_desk.specs.Machine.{Rules, Deed, deed_lets}
 use Rattle.lt_desk.specs.Worked.{IsRun, deed_steps, lines_of}
 use Rattle.lt_desk.specs.Turns.{AreNumbered}
-use Rattle.lt_desk.specs.Standing.{Finals, final_of, Made, made_by, made_from, IsFinal, IsApart, Apart, Distinct, run_numbers, IsLetThere, AreLet, AllStand}
+use Rattle.lt_desk.specs.Standing.{Finals, final_of, Made, made_by, made_from, IsFinal, IsApart, Apart, Distinct, run_numbers, IsLetThere, AllStand}
 use Rattle.lt_desk.specs.Closing.{IsWithin}
 use Rattle.lt_desk.proofs.Telling.{all_append, all_weaker, stands_at_later}
 

@@ -1,8 +1,6 @@
-use Rattle.std.proofs.Common.{◌≡◌, ◌≤◌, ◌-◌, ◌+◌, ◌<◌, Bool, List, map, Option, length, take, arith, subst, sym, ap}
-use Rattle.std.specs.List.{AllByRecursion}
+use Rattle.std.proofs.Common.{◌≡◌, ◌≤◌, ◌-◌, ◌+◌, ◌<◌, Bool, List, Option, length, take, arith, subst, sym, ap}
 use Rattle.std.proofs.lemmas.Result.{IfOk-weaker}
 use Rattle.std.proofs.lemmas.List.{take_all, with_items_is}
-use Rattle.std.proofs.lemmas.List.Elements.{recursion_from_All}
 use Rattle.lt_script.specs.declared.command.Command.{Command}
 use Rattle.lt_desk.specs.declared.outcome.Work.{Work}
 use Rattle.lt_desk.specs.Machine.{Rules}

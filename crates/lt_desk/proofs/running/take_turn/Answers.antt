@@ -1,5 +1,4 @@
-use Rattle.std.proofs.Common.{◌≡◌, ◌<◌, ◌-◌, ℕ, List, Option, Some, None, sym, subst, ◌∙◌, length, set, arith}
-use Rattle.lt_desk.specs.declared.outcome.Work.{Work}
+use Rattle.std.proofs.Common.{◌≡◌, ◌<◌, ◌-◌, ℕ, Some, None, sym, subst, ◌∙◌, length, set, arith}
 use Rattle.lt_desk.specs.Machine.{Rules}
 use Rattle.lt_desk.specs.Turns.{slot_at}
 use Rattle.lt_desk.specs.Worked.{GoesOn}

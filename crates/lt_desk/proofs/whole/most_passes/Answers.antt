@@ -1,4 +1,4 @@
-use Rattle.std.proofs.Common.{◌≡◌, ◌≤◌, ◌⊎◌, ℕ, inl, inr, arith, subst, sym}
+use Rattle.std.proofs.Common.{◌≡◌, ◌≤◌, ◌⊎◌, ℕ, inl, inr, arith}
 use Rattle.lt_desk.proofs.Slots.{among_more}
 use Rattle.lt_desk.proofs.whole.most_passes.Goals as goal
 

@@ -1,5 +1,4 @@
-use Rattle.std.proofs.Common.{◌≡◌, ◌==◌, ℕ, Bool, true, false, List, [], sym, subst, arith, eq-eqb}
-use Rattle.lt_desk.specs.declared.outcome.Work.{Work}
+use Rattle.std.proofs.Common.{Bool, arith}
 use Rattle.lt_desk.specs.Machine.{Rules}
 use Rattle.lt_desk.proofs.Lines.{worked_none, worked_mine, worked_other}
 use Rattle.lt_desk.proofs.worker.work.Goals.{then-number+in_ok-work, else-number}
