@@ -1,5 +1,5 @@
 //! The lines of all passes: each pass on a thread of its own, or all in turn on one thread.
-ghost use Rattle.std.specs.Prelude.{◌≡◌, ◌≤◌, ◌-◌, [], IfOk, length, map, List, Ok};
+ghost use Rattle.std.specs.Prelude.{◌≡◌, ◌≤◌, ◌-◌, IfOk, length, map, List, Ok};
 ghost use Rattle.std.specs.List.{All, AllByRecursion};
 ghost use Rattle.lt_desk.specs.Turns.{AreNumbered, AreTried, AreWorked, HaveBegun, IsAmong, IsReady, IsTriedOf, TakesTurn, slot_at, somes};
 
