@@ -13,7 +13,7 @@ use std::thread::Threads;
 
 /// What each line shows: the words behind the program's name, standard input, the status, standard output, and standard
 /// error.
-const ENDS: [(&str, &[&str], &str, u8, &str, &str); 41] = [
+const ENDS: [(&str, &[&str], &str, u8, &str, &str); 38] = [
     (
         "a script that is not there",
         &["run", "no-such-file"],
@@ -311,6 +311,10 @@ const ENDS: [(&str, &[&str], &str, u8, &str, &str); 41] = [
         "",
         "lockrun: command line\n",
     ),
+];
+
+/// The same of runs with options.
+const ENDS_WITH_OPTIONS: [(&str, &[&str], &str, u8, &str, &str); 3] = [
     (
         "turns that are used up",
         &["run", "--threads", "--turns", "10"],
@@ -375,6 +379,19 @@ fn ended<H: Threads + Wait + Sync, F: Files>(
 #[test]
 fn words_and_texts_end_as_the_rules_say(rt: HostRuntime) {
     for (what, words, input, code, written, message) in ENDS {
+        let mut output = blank(1024, 1024);
+        let mut told = blank(1024, 1024);
+        let ending = ended(&rt, rt.alloc(), &rt, words, input, &mut output);
+        assert_eq!(rt; complain(&mut told, &ending), Ok(()), "{what}");
+        assert_eq!(rt; status(&ending), code, "{what}");
+        assert_eq!(rt; output.written(), written.as_bytes(), "{what}");
+        assert_eq!(rt; told.written(), message.as_bytes(), "{what}");
+    }
+}
+
+#[test]
+fn options_end_as_the_rules_say(rt: HostRuntime) {
+    for (what, words, input, code, written, message) in ENDS_WITH_OPTIONS {
         let mut output = blank(1024, 1024);
         let mut told = blank(1024, 1024);
         let ending = ended(&rt, rt.alloc(), &rt, words, input, &mut output);
