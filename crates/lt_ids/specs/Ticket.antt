@@ -1,4 +1,8 @@
-use Rattle.std.specs.Prelude.{ℕ, ◌+◌, ◌*◌, ◌^◌, ◌<◌, ◌≤◌}
+use Rattle.std.specs.Prelude.{ℕ, ◌==◌, Bool, ◌+◌, ◌*◌, ◌/◌, ◌%◌, ◌^◌, ◌<◌, ◌≤◌}
+use Rattle.std.specs.Ordering.{on, eq_of_both}
+use Rattle.std.specs.Cmp.{IsEquivalence}
+use Rattle.std.specs.Cmp.Rules.{comparing}
+use Rattle.std.proofs.Common.{rules}
 
 -- one wait: the number of the request, and which of its waits it is
 pub record Wait : Type 0 where
@@ -8,6 +12,16 @@ pub record Wait : Type 0 where
 -- a wait in one word
 abbrev pub value_of : Wait → ℕ
 value_of t = t.number * 2 ^ 24 + t.wait
+
+-- the wait that a word tells
+abbrev pub wait_of : ℕ → Wait
+wait_of v = record { number = v / 2 ^ 24; wait = v % 2 ^ 24 }
+
+abbrev pub same_wait : Wait → Wait → Bool
+same_wait = eq_of_both (on (λ w. w.number) ◌==◌) (on (λ w. w.wait) ◌==◌)
+
+pub same_wait_equiv : IsEquivalence same_wait
+same_wait_equiv = Prim.search (comparing, rules)
 
 -- the number of a request
 abbrev pub IsNumber : ℕ → Type 0

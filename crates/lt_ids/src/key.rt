@@ -1,32 +1,86 @@
-ghost use Rattle.std.specs.Prelude.{◌≡◌, ◌==◌, IfOk, IfSome, IfNone, MatchResult, All, IsTrue, false, not, position};
+ghost use Rattle.std.specs.Prelude.{◌≡◌, ◌==◌, ◌≤◌, length, IfOk, IfSome, IfNone, MatchResult, All, IsTrue, false, not, position};
 ghost use Rattle.std.specs.Ordering.{nat_cmp, as_partial_cmp};
 ghost use Rattle.std.specs.Cmp.{partial_order_from_own_ties};
 ghost use Rattle.std.specs.Cmp.Rules.{comparing};
 ghost use Rattle.std.specs.Cmp.Lexicographic.{slice_cmp, pointwise};
 ghost use Rattle.std.proofs.Common.{rules};
 ghost use Rattle.lt_ids.specs.Key.{IsKey, key_fault, is_key_byte};
+ghost use Rattle.lt_ids.specs.Bytes.{bytes_of, AreWithin};
 
 use crate::IdError;
 use std::alloc::{AllocError, Global};
 use std::cmp::Ordering;
+use std::fmt::{self, Debug, Formatter, Write};
 use std::marker::Model;
 
-/// The name of what is locked: 1 to 64 printable bytes of ASCII (0x21 to 0x7E), ordered by bytes. In a contract it
-/// is the list of its bytes.
-#[derive(Debug, Drop)]
+/// Where the bytes of a key lie, and how many they are: up to 22 in the key itself, more in an allocation. The places
+/// behind them hold 0.
+#[derive(Drop)]
+pub(crate) enum Bytes {
+    Short(u8, [u8; 22]),
+    Long(u8, Box<[u8; 64]>),
+}
+
+impl Bytes {
+    /// These bytes, at most 64. Up to 22 take no memory.
+    fn from_slice(alloc: Global, bytes: &[u8]) -> Result<Bytes, AllocError>
+        requires { length bytes.now ≤ 64 }
+        ensures bytes { IfOk result (λ b. bytes_of b ≡ bytes.now) }
+        ensures within { IfOk result AreWithin }
+    {
+        let len = bytes.len();
+        if len <= 22 {
+            let mut short = [0; 22];
+            short[..len].copy_from_slice(bytes);
+            return Ok(Bytes::Short(len as u8, short));
+        }
+        let mut long = [0; 64];
+        long[..len].copy_from_slice(bytes);
+        match Box::new(alloc, long) {
+            Ok(long) => Ok(Bytes::Long(len as u8, long)),
+            Err(_) => Err(AllocError),
+        }
+    }
+
+    fn copy(&self) -> Result<Bytes, AllocError>
+        requires { AreWithin self.now }
+        ensures bytes { IfOk result (λ b. bytes_of b ≡ bytes_of self.now) }
+        ensures within { IfOk result AreWithin }
+    {
+        match self {
+            Bytes::Short(len, bytes) => Ok(Bytes::Short(*len, *bytes)),
+            Bytes::Long(len, bytes) => Ok(Bytes::Long(*len, bytes.clone()?)),
+        }
+    }
+
+    fn as_slice(&self) -> &[u8]
+        requires { AreWithin self.now }
+        ensures { result.now ≡ bytes_of self.now }
+    {
+        match self {
+            Bytes::Short(len, bytes) => &bytes[..*len as usize],
+            Bytes::Long(len, bytes) => &bytes[..*len as usize],
+        }
+    }
+}
+
+/// The name of what is locked: 1 to 64 printable bytes of ASCII (0x21 to 0x7E), ordered by bytes. Up to 22 bytes take
+/// no memory but the key's own. In a contract it is the list of its bytes.
+#[derive(Drop)]
 pub struct Key {
-    bytes: Vec<u8>,
+    bytes: Bytes,
 }
 
 impl Model for Key {
     ghost use Rattle.std.specs.Prelude.{ℕ, List};
     ghost use Rattle.lt_ids.specs.Key.{IsKey};
+    ghost use Rattle.lt_ids.specs.Bytes.{bytes_of, AreWithin};
 
     ghost Value = { List ℕ };
 
-    ghost view = { λ k. k.bytes.items };
+    ghost view = { λ k. bytes_of k.bytes };
 
-    ghost invariant = { λ k. IsKey k.bytes.items };
+    ghost invariant = { λ k. IsKey (bytes_of k.bytes) × AreWithin k.bytes };
 }
 
 impl Key {
@@ -46,7 +100,7 @@ impl Key {
         if let Some(place) = bad_byte(bytes) {
             return Err(IdError::KeyByte(place));
         }
-        let bytes = Vec::from_slice(alloc, bytes).map_err(|_| IdError::Memory)?;
+        let bytes = Bytes::from_slice(alloc, bytes).map_err(|_| IdError::Memory)?;
         Ok(Key { bytes })
     }
 
@@ -54,7 +108,7 @@ impl Key {
     pub fn copy(&self) -> Result<Key, AllocError>
         ensures { IfOk result (λ key. key ≡ self.now) }
     {
-        let bytes = self.bytes.clone()?;
+        let bytes = self.bytes.copy()?;
         Ok(Key { bytes })
     }
 
@@ -63,6 +117,12 @@ impl Key {
         ensures is_key { IsKey result.now }
     {
         self.bytes.as_slice()
+    }
+}
+
+impl Debug for Key {
+    fn fmt<W: Write>(&self, f: &mut Formatter<W>) -> fmt::Result {
+        self.as_bytes().fmt(f)
     }
 }
 
@@ -86,7 +146,7 @@ impl PartialEq for Key {
     ghost laws = { Prim.search (comparing, rules) };
 
     fn eq(&self, other: &Key) -> bool {
-        self.bytes == other.bytes
+        self.as_bytes() == other.as_bytes()
     }
 }
 
@@ -104,7 +164,7 @@ impl Ord for Key {
     ghost matches_eq = { Prim.search (comparing, rules) };
 
     fn cmp(&self, other: &Key) -> Ordering {
-        self.bytes.cmp(&other.bytes)
+        self.as_bytes().cmp(other.as_bytes())
     }
 }
 

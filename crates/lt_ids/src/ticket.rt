@@ -1,25 +1,26 @@
 ghost use Rattle.std.specs.Prelude.{◌≡◌, ◌<◌, ◌↔◌, IsSome, IfSome};
-ghost use Rattle.lt_ids.specs.Ticket.{Wait, value_of, IsNumber, IsWaitNumber};
+ghost use Rattle.std.specs.Cmp.{partial_equiv_from_equiv};
+ghost use Rattle.lt_ids.specs.Ticket.{Wait, value_of, same_wait, same_wait_equiv, IsNumber, IsWaitNumber};
 
+use std::fmt::{self, Debug, Formatter, Write};
 use std::marker::Model;
 
-/// Names one wait: the number of the request, and which of its waits it is, from 1.
-#[derive(Clone, Copy, Debug, PartialEq, Eq)]
+/// Names one wait: the number of the request, and which of its waits it is, from 1. It is kept as its value.
+#[derive(Clone, Copy)]
 pub struct Ticket {
-    number: u64,
-    wait: u32,
+    value: u64,
 }
 
 impl Model for Ticket {
-    ghost use Rattle.lt_ids.specs.Ticket.{Wait, IsNumber, IsWaitNumber};
+    ghost use Rattle.lt_ids.specs.Ticket.{Wait, IsNumber, IsWaitNumber, value_of, wait_of};
 
     ghost Value = { Wait };
 
-    ghost view = { λ t. record { number = t.number; wait = t.wait } };
+    ghost view = { λ t. wait_of t.value };
 
-    ghost invariant = { λ t. IsNumber t.number × IsWaitNumber t.wait };
+    ghost invariant = { λ t. IsNumber (wait_of t.value).number × IsWaitNumber (wait_of t.value).wait };
 
-    ghost inverse = { λ w. record { number = w.number; wait = w.wait } };
+    ghost inverse = { λ w. record { value = value_of w } };
 }
 
 impl Ticket {
@@ -32,7 +33,9 @@ impl Ticket {
         if number == 0 || number >= 1 << 40 || wait == 0 || wait >= 1 << 24 {
             return None;
         }
-        Some(Ticket { number, wait })
+        Some(Ticket {
+            value: (1 << 24) * number + wait as u64,
+        })
     }
 
     /// The number of the request.
@@ -40,7 +43,7 @@ impl Ticket {
         ensures value { result ≡ self.number }
         ensures range { IsNumber result }
     {
-        self.number
+        self.value >> 24
     }
 
     /// Which of the request's waits it is.
@@ -48,7 +51,7 @@ impl Ticket {
         ensures value { result ≡ self.wait }
         ensures range { IsWaitNumber result }
     {
-        self.wait
+        (self.value & 0xFF_FFFF) as u32
     }
 
     /// The ticket in one word, `number * 2^24 + wait`: never 0, and another ticket's is another.
@@ -58,7 +61,27 @@ impl Ticket {
         // No other ticket has this value.
         ensures alone { (other : Wait) → IsNumber other.number → IsWaitNumber other.wait → value_of other ≡ result → other ≡ self }
     {
-        (1 << 24) * self.number + self.wait as u64
+        self.value
+    }
+}
+
+impl PartialEq for Ticket {
+    ghost eq = { same_wait };
+
+    ghost laws = { partial_equiv_from_equiv same_wait_equiv };
+
+    fn eq(&self, other: &Ticket) -> bool {
+        self.value == other.value
+    }
+}
+
+impl Eq for Ticket {
+    ghost laws = { same_wait_equiv };
+}
+
+impl Debug for Ticket {
+    fn fmt<W: Write>(&self, f: &mut Formatter<W>) -> fmt::Result {
+        write!(f, "{}.{}", self.number(), self.wait())
     }
 }
 
