@@ -16,3 +16,4 @@ pub mod LineLaws
 pub mod Loop
 pub mod Verdicts
 pub mod Written
+pub mod Ranks

@@ -6,3 +6,4 @@ pub mod Verdict
 pub mod Print
 pub mod Histories
 pub mod Sorted
+pub mod Rank

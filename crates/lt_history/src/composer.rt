@@ -10,27 +10,91 @@ ghost use Rattle.std.specs.List.Sorted.{IsSortedByKey, IsStableByKey};
 ghost use Rattle.std.specs.Ordering.{nat_cmp};
 ghost use Rattle.std.specs.Cmp.Lexicographic.{slice_cmp};
 ghost use Rattle.lt_history.specs.Text.{header};
+ghost use Rattle.lt_history.specs.Rank.{byte_or_0, rank_of};
+ghost use Rattle.lt_ids.specs.Key.{IsKey};
 
 use crate::Entry;
 use lt_ids::Through;
 use lt_text::put::{put_call, put_number_word, put_reply, put_ticket, put_word};
 use std::alloc::{AllocError, Global};
+use std::cmp::Ordering;
 
-/// Puts references to the entries of a shard at the end.
-fn push_all<'a>(entries: &mut Vec<&'a Entry>, shard: &'a [Entry]) -> Result<(), AllocError>
-    ensures { OnOk result (map (λ e. e.now) entries.new.items ≡ map (λ e. e.now) entries.old.items ++ shard.now) }
+/// An entry, with its key's first eight bytes as one number, which settles most comparisons without a look at the entry.
+#[derive(Drop)]
+struct Ranked<'a> {
+    rank: u64,
+    entry: &'a Entry,
+    ghost ranked: { rank ≡ rank_of entry.now.key },
+    ghost bytes: { IsKey entry.now.key },
+}
+
+/// The byte at this place, or 0 where there is none.
+fn byte_or_0(bytes: &[u8], place: usize) -> u8
+    ensures { result ≡ byte_or_0 bytes.now place }
+{
+    match bytes.get(place) {
+        Some(byte) => *byte,
+        None => 0,
+    }
+}
+
+/// The first eight bytes as one number, the first one the highest.
+fn rank_of(bytes: &[u8]) -> u64
+    ensures { result ≡ rank_of bytes.now }
+{
+    u64::from_be_bytes([
+        byte_or_0(bytes, 0),
+        byte_or_0(bytes, 1),
+        byte_or_0(bytes, 2),
+        byte_or_0(bytes, 3),
+        byte_or_0(bytes, 4),
+        byte_or_0(bytes, 5),
+        byte_or_0(bytes, 6),
+        byte_or_0(bytes, 7),
+    ])
+}
+
+fn with_rank<'a>(entry: &'a Entry) -> Ranked<'a>
+    ensures { result.entry.now ≡ entry.now }
+{
+    let rank = rank_of(entry.key.as_bytes());
+    Ranked { rank, entry }
+}
+
+/// How the keys lie: by their ranks, and where these are equal, by the keys.
+fn compare(a: &Ranked, b: &Ranked) -> Ordering
+    ensures { result ≡ slice_cmp nat_cmp a.now.entry.now.key b.now.entry.now.key }
+{
+    match a.rank.cmp(&b.rank) {
+        Ordering::Equal => a.entry.key.cmp(&b.entry.key),
+        unequal => unequal,
+    }
+}
+
+/// Puts the entries of a shard at the end.
+fn push_all<'a>(entries: &mut Vec<Ranked<'a>>, shard: &'a [Entry]) -> Result<(), AllocError>
+    ensures { OnOk result (map (λ e. e.entry.now) entries.new.items ≡ map (λ e. e.entry.now) entries.old.items ++ shard.now) }
 {
     for entry in shard {
-        entries.push(entry)?;
+        entries.push(with_rank(entry))?;
     }
     Ok(())
 }
 
+/// How many entries there are, so that room is taken once.
+fn count(shards: &[Vec<Entry>]) -> usize {
+    let mut count: usize = 0;
+    for shard in shards {
+        count = count.saturating_add(shard.len());
+    }
+    count
+}
+
 /// All entries, shard after shard.
-fn entries_of<'a>(alloc: Global, shards: &'a [Vec<Entry>]) -> Result<Vec<&'a Entry>, AllocError>
-    ensures { IfOk result (λ v. map (λ e. e.now) v.items ≡ flat_map (λ v. v.items) shards.now) }
+fn entries_of<'a>(alloc: Global, shards: &'a [Vec<Entry>]) -> Result<Vec<Ranked<'a>>, AllocError>
+    ensures { IfOk result (λ v. map (λ e. e.entry.now) v.items ≡ flat_map (λ v. v.items) shards.now) }
 {
-    let mut entries = Vec::new(alloc);
+    let mut entries = Vec::with_capacity(alloc, count(shards))?;
     for shard in shards {
         push_all(&mut entries, shard)?;
     }
@@ -38,18 +102,18 @@ fn entries_of<'a>(alloc: Global, shards: &'a [Vec<Entry>]) -> Result<Vec<&'a Ent
 }
 
 /// Sorts the entries by their keys, those of a key as they stand.
-fn sort_by_key(entries: &mut Vec<&Entry>) -> Result<(), AllocError>
-    ensures sorted { OnOk result (IsSortedByKey (λ e. e.now.key) (slice_cmp nat_cmp) entries.new.items) }
-    ensures stable { IsStableByKey (λ e. e.now.key) (slice_cmp nat_cmp) entries.old.items entries.new.items }
+fn sort_by_key(entries: &mut Vec<Ranked>) -> Result<(), AllocError>
+    ensures sorted { OnOk result (IsSortedByKey (λ e. e.entry.now.key) (slice_cmp nat_cmp) entries.new.items) }
+    ensures stable { IsStableByKey (λ e. e.entry.now.key) (slice_cmp nat_cmp) entries.old.items entries.new.items }
 {
-    entries.sort_by(|a, b| a.key.cmp(&b.key))?;
+    entries.sort_by(|a, b| compare(a, b))?;
     Ok(())
 }
 
 /// All entries, in the order of their keys, those of a key in theirs.
-fn by_key<'a>(alloc: Global, shards: &'a [Vec<Entry>]) -> Result<Vec<&'a Entry>, AllocError>
-    ensures rising { IfOk result (λ v. RiseFrom [] (map (λ e. e.now) v.items)) }
-    ensures parts { IfOk result (λ v. HaveSameParts (map (λ e. e.now) v.items) (flat_map (λ v. v.items) shards.now)) }
+fn by_key<'a>(alloc: Global, shards: &'a [Vec<Entry>]) -> Result<Vec<Ranked<'a>>, AllocError>
+    ensures rising { IfOk result (λ v. RiseFrom [] (map (λ e. e.entry.now) v.items)) }
+    ensures parts { IfOk result (λ v. HaveSameParts (map (λ e. e.entry.now) v.items) (flat_map (λ v. v.items) shards.now)) }
 {
     let mut entries = entries_of(alloc, shards)?;
     sort_by_key(&mut entries)?;
@@ -104,12 +168,13 @@ fn next_index(before: &[u8], index: u64, key: &[u8]) -> u64
 }
 
 /// Puts the lines of the entries at the end, which stand in the order of their keys.
-fn put_lines(out: &mut Vec<u8>, entries: &[&Entry]) -> Result<(), AllocError>
-    ensures { OnOk result (out.new.items ≡ out.old.items ++ flat_map line_text (lines_after [] 0 (map (λ e. e.now) entries.now))) }
+fn put_lines(out: &mut Vec<u8>, entries: &[Ranked]) -> Result<(), AllocError>
+    ensures { OnOk result (out.new.items ≡ out.old.items ++ flat_map line_text (lines_after [] 0 (map (λ e. e.entry.now) entries.now))) }
 {
     let mut key: &[u8] = b"";
     let mut index = 0;
-    for entry in entries {
+    for ranked in entries {
+        let entry = ranked.entry;
         index = next_index(key, index, entry.key.as_bytes());
         key = entry.key.as_bytes();
         put_line(out, index, entry)?;
@@ -118,8 +183,8 @@ fn put_lines(out: &mut Vec<u8>, entries: &[&Entry]) -> Result<(), AllocError>
 }
 
 /// Puts the text of the histories of some shards at the end: `locks 1`, and then key after key, rising, each key's
-/// entries in the order in which they stand, shard after shard. It takes a reference for each entry, and time for one
-/// sort of these.
+/// entries in the order in which they stand, shard after shard. It takes 16 bytes for each entry and as many for
+/// the sort, and time for one sort of these.
 pub fn put_histories(out: &mut Vec<u8>, shards: &[Vec<Entry>]) -> Result<(), AllocError>
     ensures text { OnOk result (PutsText out.old.items out.new.items (flat_map (λ shard. shard.items) shards.now)) }
     // These entries have no other text.

@@ -10,7 +10,7 @@ behind_header old headed new lines e f = f ∙ (ap (λ (x : List ℕ). x ++ line
 
 pub returns-clause-text : goal.returns-clause-text
 returns-clause-text c = record {
-  text = text_of (lines_after [] 0 (map (λ e. e.now) c.in_ok-entries.entries.items));
+  text = text_of (lines_after [] 0 (map (λ e. e.entry.now) c.in_ok-entries.entries.items));
   is_text = text_of_same _ _ _ c.in_ok-entries.ensures.parts (text_of_sorted _ _ c.in_ok-entries.ensures.rising refl);
   joined = behind_header c.args.out.now.items c.extend_from_slice.new.self.items c.put_lines.new.out.items _ (search rules) (search rules);
 }
