@@ -33,7 +33,7 @@ abbrev pub deed_of : Command → Desk → ℕ → LineAnswer → List Step → D
 deed_of line old word answer steps new = record { line = line; before = request_of old; word = word; answer = answer; steps = steps; after = request_of new }
 
 done_more : (rules : Rules) (old : Seer) (lines : List Command) (desk : Desk) (answers : List AnswerLine) (deeds : List Deed) (line : Command) (new : Desk) (more : List AnswerLine) (out : Bool)
-    → AreDone rules old lines desk answers deeds → (t : TakesLine rules old.number line desk answers new more out) → AreDone rules old (lines ++ line ∷ []) new more (deeds ++ deed_of line desk t.does.word t.answer t.does.steps new ∷ [])
+    → AreDone rules old lines desk answers deeds → (t : TakesLine rules line desk answers new more out) → AreDone rules old (lines ++ line ∷ []) new more (deeds ++ deed_of line desk t.does.word t.answer t.does.steps new ∷ [])
 done_more rules old lines desk answers deeds line new more out a t =
     let d : Deed = deed_of line desk t.does.word t.answer t.does.steps new in
     let all : Tells old (pass_of new) (flat_map deed_steps deeds ++ d.steps) (flat_map deed_numbers deeds ++ deed_numbers d) (flat_map deed_lets deeds ++ deed_lets d) =
@@ -41,7 +41,7 @@ done_more rules old lines desk answers deeds line new more out a t =
     record {
       lines_are = map-append deed_line deeds (d ∷ []) ∙ ap (λ (ls : List Command). ls ++ line ∷ []) a.lines_are;
       runs = runs_more rules None (request_of desk) deeds d a.runs refl t.does.done;
-      answers_are = t.told ∙ (ap (λ (ls : List AnswerLine). ls ++ answer_line old.number d ∷ []) a.answers_are ∙ sym (map-append (answer_line old.number) deeds (d ∷ [])));
+      answers_are = t.told ∙ (ap (λ (ls : List AnswerLine). ls ++ answer_line d ∷ []) a.answers_are ∙ sym (map-append answer_line deeds (d ∷ [])));
       tells = subst (λ (x : List Wait). Tells old (pass_of new) (flat_map deed_steps (deeds ++ d ∷ [])) (flat_map deed_numbers (deeds ++ d ∷ [])) x) (sym (flat_snoc deed_lets deeds d))
           (subst (λ (x : List ℕ). Tells old (pass_of new) (flat_map deed_steps (deeds ++ d ∷ [])) x (flat_map deed_lets deeds ++ deed_lets d)) (sym (flat_snoc deed_numbers deeds d))
           (subst (λ (x : List Step). Tells old (pass_of new) x (flat_map deed_numbers deeds ++ deed_numbers d) (flat_map deed_lets deeds ++ deed_lets d)) (sym (flat_snoc deed_steps deeds d)) all));
@@ -96,8 +96,8 @@ alive rules always old ls w f h =
     let all : ls ≡ h.1.front = h.1.all ∙ (ap (λ (r : List Command). h.1.front ++ r) e.0 ∙ append-nil h.1.front) in
     record { deeds = h.0; done = subst (λ (l : List Command). AreDone rules old l w.desk w.answers.items h.0) (sym all) h.1.done; none = e.1 }
 
-taken : (rules : Rules) (always : Bool) (old : Seer) (ls : List Command) (number : ℕ) (line : Command) (w new : Work) → number ≡ old.number → IsAlive rules old ls w → TakesOn rules always number w.desk w.answers.items line new → IsWorked rules always old (ls ++ line ∷ []) new
-taken rules always old ls number line w new same a (inl s) =
+taken : (rules : Rules) (always : Bool) (old : Seer) (ls : List Command) (line : Command) (w new : Work) → IsAlive rules old ls w → TakesOn rules always w.desk w.answers.items line new → IsWorked rules always old (ls ++ line ∷ []) new
+taken rules always old ls line w new a (inl s) =
     let desk : AreDone rules old ls new.desk w.answers.items a.deeds = subst (λ (d : Desk). AreDone rules old ls d w.answers.items a.deeds) (sym s.desk_same) a.done in (
       a.deeds,
       record {
@@ -108,8 +108,8 @@ taken rules always old ls number line w new same a (inl s) =
         ended = subst (λ (f : Finish). HasEnded always a.deeds (line ∷ []) f) (sym s.finish_is) (inr (s.refused, a.none));
       },
     )
-taken rules always old ls number line w new same a (inr s) =
-    let t : TakesLine rules old.number line w.desk w.answers.items new.desk new.answers.items s.out = subst (λ (n : ℕ). TakesLine rules n line w.desk w.answers.items new.desk new.answers.items s.out) same s.takes in
+taken rules always old ls line w new a (inr s) =
+    let t : TakesLine rules line w.desk w.answers.items new.desk new.answers.items s.out = s.takes in
     let d : Deed = deed_of line w.desk t.does.word t.answer t.does.steps new.desk in (
       a.deeds ++ d ∷ [],
       record {
@@ -122,9 +122,9 @@ taken rules always old ls number line w new same a (inr s) =
     )
 
 -- With its next line a pass has run one line more, or left it.
-pub goes_on : (rules : Rules) (always : Bool) (old : Seer) (ls : List Command) (number : ℕ) (line : Command) (f : Finish) (w new : Work) → w.finish ≡ f → number ≡ old.number → IsWorked rules always old ls w → GoesOn rules always number f w line new → IsWorked rules always old (ls ++ line ∷ []) new
-goes_on rules always old ls number line TurnsOut w new f same h g = subst (λ (x : Work). IsWorked rules always old (ls ++ line ∷ []) x) (sym g) (left_over rules always old ls line w f h)
-goes_on rules always old ls number line Done w new f same h g = taken rules always old ls number line w new same (alive rules always old ls w f h) g
+pub goes_on : (rules : Rules) (always : Bool) (old : Seer) (ls : List Command) (line : Command) (f : Finish) (w new : Work) → w.finish ≡ f → IsWorked rules always old ls w → GoesOn rules always f w line new → IsWorked rules always old (ls ++ line ∷ []) new
+goes_on rules always old ls line TurnsOut w new f h g = subst (λ (x : Work). IsWorked rules always old (ls ++ line ∷ []) x) (sym g) (left_over rules always old ls line w f h)
+goes_on rules always old ls line Done w new f h g = taken rules always old ls line w new (alive rules always old ls w f h) g
 
 -- before the first line
 pub worked_none : (rules : Rules) (always : Bool) (p : Seer) (w : Work) → IsBegun p w → IsWorked rules always p [] w
@@ -161,11 +161,11 @@ pub front_more : (cs : List Command) (i : ℕ) (c : Command) → i < length cs �
 front_more cs i c lt is = take_more cs i c lt ∙ ap (λ (x : Command). take i cs ++ x ∷ []) (sym is)
 
 -- A worker took its pass's next line.
-pub worked_mine : (rules : Rules) (always : Bool) (old : Seer) (cs : List Command) (i : ℕ) (c : Command) (number : ℕ) (w new : Work) → i < length cs → c ≡ get_or cs i c → number ≡ old.number → (c.pass == old.number) ≡ true
-    → IsWorked rules always old (lines_of old.number (take i cs)) w → GoesOn rules always number w.finish w c new → IsWorked rules always old (lines_of old.number (take (i + 1) cs)) new
-worked_mine rules always old cs i c number w new lt is same hit h g =
+pub worked_mine : (rules : Rules) (always : Bool) (old : Seer) (cs : List Command) (i : ℕ) (c : Command) (w new : Work) → i < length cs → c ≡ get_or cs i c → (c.pass == old.number) ≡ true
+    → IsWorked rules always old (lines_of old.number (take i cs)) w → GoesOn rules always w.finish w c new → IsWorked rules always old (lines_of old.number (take (i + 1) cs)) new
+worked_mine rules always old cs i c w new lt is hit h g =
     subst (λ (ls : List Command). IsWorked rules always old ls new) (sym (ap (lines_of old.number) (front_more cs i c lt is) ∙ mine old.number (take i cs) c hit))
-    (goes_on rules always old (lines_of old.number (take i cs)) number c w.finish w new refl same h g)
+    (goes_on rules always old (lines_of old.number (take i cs)) c w.finish w new refl h g)
 
 -- It passed a line of another.
 pub worked_other : (rules : Rules) (always : Bool) (old : Seer) (cs : List Command) (i : ℕ) (c : Command) (w : Work) → i < length cs → c ≡ get_or cs i c → (c.pass == old.number) ≡ false

@@ -46,12 +46,12 @@ slots_other rules always cs c n (p ∷ ps) (s ∷ ss) num le h =
     let is : p.number ≡ n + 1 = num.0 in
     (slot_other rules always cs c p s (λ e. absurd (omega arith)) h.0, slots_other rules always cs c (n + 1) ps ss num.1 (omega arith) h.1)
 
-slot_mine : (rules : Rules) (always : Bool) (cs : List Command) (c : Command) (p : Seer) (w after : Work) → c.pass ≡ p.number → IsSlot rules always cs p (Some w) → GoesOn rules always c.pass w.finish w c after → IsSlot rules always (cs ++ c ∷ []) p (Some after)
+slot_mine : (rules : Rules) (always : Bool) (cs : List Command) (c : Command) (p : Seer) (w after : Work) → c.pass ≡ p.number → IsSlot rules always cs p (Some w) → GoesOn rules always w.finish w c after → IsSlot rules always (cs ++ c ∷ []) p (Some after)
 slot_mine rules always cs c p w after e h g =
-    subst (λ (ls : List Command). IsWorked rules always p ls after) (sym (mine p.number cs c (hit c.pass p.number e))) (goes_on rules always p (lines_of p.number cs) c.pass c w.finish w after refl e h g)
+    subst (λ (ls : List Command). IsWorked rules always p ls after) (sym (mine p.number cs c (hit c.pass p.number e))) (goes_on rules always p (lines_of p.number cs) c w.finish w after refl h g)
 
 slots_turn : (rules : Rules) (always : Bool) (cs : List Command) (c : Command) (n i : ℕ) (ps : List Seer) (ss : List (Option Work)) (w after : Work) → AreNumbered n ps → c.pass ≡ n + i + 1 → get_or ss i None ≡ Some w
-    → GoesOn rules always c.pass w.finish w c after → AreSlots rules always cs ps ss → AreSlots rules always (cs ++ c ∷ []) ps (set ss i (Some after))
+    → GoesOn rules always w.finish w c after → AreSlots rules always cs ps ss → AreSlots rules always (cs ++ c ∷ []) ps (set ss i (Some after))
 slots_turn rules always cs c n i [] [] w after num e was g h = tt
 slots_turn rules always cs c n i [] (s ∷ ss) w after num e was g h = absurd h
 slots_turn rules always cs c n i (p ∷ ps) [] w after num e was g h = absurd h

@@ -21,7 +21,7 @@ pub record IsAnswered (rules : Rules) (always : Bool) (pass : ℕ) (lines : List
   pub all : lines ≡ map deed_line deeds ++ rest
   pub after : Option WalkState
   pub runs : Runs rules None deeds after
-  pub answers_are : answers ≡ map (answer_line pass) deeds
+  pub answers_are : answers ≡ map answer_line deeds
   pub ended : HasEnded always deeds rest finish
 
 -- the same of all passes from this number on

@@ -62,7 +62,7 @@ pub record TakesTurn (rules : Rules) (always : Bool) (c : Command) (old new : Li
   pub before : Work
   pub after : Work
   pub was : slot_at old (c.pass - 1) ≡ Some before
-  pub goes_on : GoesOn rules always c.pass before.finish before c after
+  pub goes_on : GoesOn rules always before.finish before c after
   pub others : new ≡ slice_set old (c.pass - 1) (Some after)
 
 -- no pass has run a line

@@ -25,8 +25,8 @@ is_turns _ = false
 abbrev pub lines_of : ℕ → List Command → List Command
 lines_of pass commands = filter (λ c. c.pass == pass) commands
 
-abbrev pub answer_line : ℕ → Deed → AnswerLine
-answer_line pass d = record { pass = pass; line = d.line.line; answer = d.answer }
+abbrev pub answer_line : Deed → AnswerLine
+answer_line d = record { line = d.line.line; answer = d.answer }
 
 abbrev pub deed_line : Deed → Command
 deed_line d = d.line
@@ -39,7 +39,7 @@ deed_steps d = d.steps
 pub record AreDone (rules : Rules) (old : Seer) (lines : List Command) (desk : Desk) (answers : List AnswerLine) (deeds : List Deed) : Type 0 where
   pub lines_are : map deed_line deeds ≡ lines
   pub runs : Runs rules None deeds (request_of desk)
-  pub answers_are : answers ≡ map (answer_line old.number) deeds
+  pub answers_are : answers ≡ map answer_line deeds
   pub tells : Tells old (pass_of desk) (flat_map deed_steps deeds) (flat_map deed_numbers deeds) (flat_map deed_lets deeds)
 
 -- None of them used the turns up.
@@ -79,10 +79,10 @@ pub record IsBegun (p : Seer) (w : Work) : Type 0 where
 -- ---- one more line
 
 -- One more line was done and answered.
-pub record TakesLine (rules : Rules) (pass : ℕ) (line : Command) (old : Desk) (answers : List AnswerLine) (new : Desk) (more : List AnswerLine) (out : Bool) : Type 0 where
+pub record TakesLine (rules : Rules) (line : Command) (old : Desk) (answers : List AnswerLine) (new : Desk) (more : List AnswerLine) (out : Bool) : Type 0 where
   pub answer : LineAnswer
   pub does : Does (IsDone rules line.action) (lets_of line.action) old answer new
-  pub told : more ≡ answers ++ (record { pass = pass; line = line.line; answer = answer }) ∷ []
+  pub told : more ≡ answers ++ (record { line = line.line; answer = answer }) ∷ []
   pub out_is : out ≡ is_turns answer
 
 abbrev pub finish_of : Bool → Finish
@@ -97,15 +97,15 @@ pub record IsStoppedBy (always : Bool) (desk : Desk) (answers : List AnswerLine)
   pub finish_is : new.finish ≡ TurnsOut
 
 -- The line was done, and the pass goes on unless it used the turns up.
-pub record IsTaken (rules : Rules) (pass : ℕ) (desk : Desk) (answers : List AnswerLine) (line : Command) (new : Work) : Type 0 where
+pub record IsTaken (rules : Rules) (desk : Desk) (answers : List AnswerLine) (line : Command) (new : Work) : Type 0 where
   pub out : Bool
-  pub takes : TakesLine rules pass line desk answers new.desk new.answers.items out
+  pub takes : TakesLine rules line desk answers new.desk new.answers.items out
   pub finish_is : new.finish ≡ finish_of out
 
-abbrev pub TakesOn : Rules → Bool → ℕ → Desk → List AnswerLine → Command → Work → Type 0
-TakesOn rules always pass desk answers line new = IsStoppedBy always desk answers new ⊎ IsTaken rules pass desk answers line new
+abbrev pub TakesOn : Rules → Bool → Desk → List AnswerLine → Command → Work → Type 0
+TakesOn rules always desk answers line new = IsStoppedBy always desk answers new ⊎ IsTaken rules desk answers line new
 
 -- A pass that has ended does nothing more.
-abbrev pub GoesOn : Rules → Bool → ℕ → Finish → Work → Command → Work → Type 0
-GoesOn rules always pass TurnsOut old line new = new ≡ old
-GoesOn rules always pass Done old line new = TakesOn rules always pass old.desk old.answers.items line new
+abbrev pub GoesOn : Rules → Bool → Finish → Work → Command → Work → Type 0
+GoesOn rules always TurnsOut old line new = new ≡ old
+GoesOn rules always Done old line new = TakesOn rules always old.desk old.answers.items line new

@@ -53,10 +53,9 @@ pub enum LineAnswer {
     Refused(Refusal),
 }
 
-/// An answer, with the pass and the line that it is for, each from 1.
+/// An answer, with the line that it is for, from 1. Whose line it is says the list that it stands in.
 #[derive(Debug, PartialEq, Eq, Drop)]
 pub struct AnswerLine {
-    pub pass: u32,
     pub line: usize,
     pub answer: LineAnswer,
 }

@@ -5,7 +5,7 @@ ghost use Rattle.lt_desk.specs.Turns.{AreNumbered, AreTried, AreWorked, HaveBegu
 
 use crate::gate::Gate;
 use crate::outcome::{OutOfMemory, Work};
-use crate::worker::{begin, next_line, work};
+use crate::worker::{begin, lines_by_pass, lines_of_pass, next_line, work};
 use lt_plain::KeyTable;
 use lt_script::Command;
 use lt_table::Table;
@@ -103,12 +103,19 @@ fn take_turn<N: Name, T: KeyTable, G: Gate, R: Wait>(
     Ok(())
 }
 
-fn begin_all(alloc: Global, passes: Vec<Pass>) -> Result<Vec<Option<Work>>, OutOfMemory>
+fn begin_all(
+    alloc: Global,
+    passes: Vec<Pass>,
+    commands: &[Command],
+) -> Result<Vec<Option<Work>>, OutOfMemory>
     ensures { IfOk result (λ slots. HaveBegun passes.items slots.items) }
 {
+    let lines = lines_by_pass(commands);
     let mut slots = Vec::new(alloc);
     for pass in passes {
-        let Ok(()) = slots.push(Some(begin(alloc, pass))) else {
+        let room = lines_of_pass(&lines, &pass);
+        let begun = begin(alloc, pass, room)?;
+        let Ok(()) = slots.push(Some(begun)) else {
             return Err(OutOfMemory);
         };
     }
@@ -144,7 +151,7 @@ pub(crate) fn run_in_turn<N: Name, T: KeyTable, G: Gate, R: Wait>(
     requires among { AllByRecursion (IsAmong (length passes.items)) commands.now }
     ensures { IfOk result (λ works. AreWorked (record { max_waits = table.now.max_waits; turns = turns }) (G.always gate.now) commands.now passes.items works.items) }
 {
-    let mut slots = begin_all(alloc, passes)?;
+    let mut slots = begin_all(alloc, passes, commands)?;
     for command in commands {
         take_turn(rt, alloc, table, gate, turns, &mut slots, command)?;
     }

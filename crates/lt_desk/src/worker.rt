@@ -34,17 +34,15 @@ fn take_line<N: Name, T: KeyTable, R: Wait>(
     table: &Table<N, T>,
     turns: Option<u64>,
     desk: Desk,
-    number: u32,
     command: &Command,
     answers: &mut Vec<AnswerLine>,
 ) -> Result<(Desk, bool), OutOfMemory>
     requires { (pass_of desk).of ≡ N.of }
-    ensures { IfOk result (λ r. TakesLine (record { max_waits = table.now.max_waits; turns = turns }) number command.now desk answers.old.items r.0 answers.new.items r.1) }
+    ensures { IfOk result (λ r. TakesLine (record { max_waits = table.now.max_waits; turns = turns }) command.now desk answers.old.items r.0 answers.new.items r.1) }
 {
     let told = act(rt, alloc, table, turns, desk, &command.action)?;
     let out = is_turns(&told.answer);
     let answer = AnswerLine {
-        pass: number,
         line: command.line,
         answer: told.answer,
     };
@@ -67,7 +65,7 @@ fn live_line<N: Name, T: KeyTable, G: Gate, R: Wait>(
     command: &Command,
 ) -> Result<Work, OutOfMemory>
     requires { (pass_of desk).of ≡ N.of }
-    ensures { IfOk result (λ w. TakesOn (record { max_waits = table.now.max_waits; turns = turns }) (G.always gate.now) number desk answers.items command.now w) }
+    ensures { IfOk result (λ w. TakesOn (record { max_waits = table.now.max_waits; turns = turns }) (G.always gate.now) desk answers.items command.now w) }
 {
     if !gate.before(number, command.line) {
         return Ok(Work {
@@ -76,7 +74,7 @@ fn live_line<N: Name, T: KeyTable, G: Gate, R: Wait>(
             finish: Finish::TurnsOut,
         });
     }
-    let (after, out) = take_line(rt, alloc, table, turns, desk, number, command, &mut answers)?;
+    let (after, out) = take_line(rt, alloc, table, turns, desk, command, &mut answers)?;
     gate.after(number, command.line);
     Ok(Work {
         desk: after,
@@ -97,7 +95,7 @@ pub(crate) fn next_line<N: Name, T: KeyTable, G: Gate, R: Wait>(
     command: &Command,
 ) -> Result<Work, OutOfMemory>
     requires { (pass_of work.desk).of ≡ N.of }
-    ensures { IfOk result (λ w. GoesOn (record { max_waits = table.now.max_waits; turns = turns }) (G.always gate.now) number work.finish work command.now w) }
+    ensures { IfOk result (λ w. GoesOn (record { max_waits = table.now.max_waits; turns = turns }) (G.always gate.now) work.finish work command.now w) }
 {
     match work.finish {
         Finish::TurnsOut => Ok(work),
@@ -115,14 +113,35 @@ pub(crate) fn next_line<N: Name, T: KeyTable, G: Gate, R: Wait>(
     }
 }
 
-/// Nothing was done yet.
-pub(crate) fn begin(alloc: Global, pass: Pass) -> Work
-    ensures { IsBegun pass result }
+/// Nothing was done yet. Room is taken for the answers of so many lines.
+pub(crate) fn begin(alloc: Global, pass: Pass, lines: usize) -> Result<Work, OutOfMemory>
+    ensures { IfOk result (IsBegun pass) }
 {
-    Work {
+    let Ok(answers) = Vec::with_capacity(alloc, lines) else {
+        return Err(OutOfMemory);
+    };
+    Ok(Work {
         desk: Desk::Free(pass),
-        answers: Vec::new(alloc),
+        answers,
         finish: Finish::Done,
+    })
+}
+
+/// How many lines each pass has, from pass 1 on.
+pub(crate) fn lines_by_pass(commands: &[Command]) -> [usize; 64] {
+    let mut lines: [usize; 64] = [0; 64];
+    for command in commands {
+        let place = (command.pass.number() - 1) as usize;
+        lines[place] = lines[place].saturating_add(1);
+    }
+    lines
+}
+
+/// How many lines the pass has. A table may have more passes than a script, which then have none.
+pub(crate) fn lines_of_pass(lines: &[usize; 64], pass: &Pass) -> usize {
+    match lines.get((pass.number() - 1) as usize) {
+        Some(count) => *count,
+        None => 0,
     }
 }
 
@@ -141,7 +160,9 @@ pub fn work<N: Name, T: KeyTable, G: Gate, R: Wait>(
     ensures { IfOk result (λ w. IsWorked (record { max_waits = table.now.max_waits; turns = turns }) (G.always gate.now) pass (lines_of pass.number commands.now) w) }
 {
     let number = pass.number();
-    let mut work = begin(alloc, pass);
+    let lines = lines_of_pass(&lines_by_pass(commands), &pass);
+    let begun = begin(alloc, pass, lines)?;
+    let mut work = begun;
     for command in commands {
         if command.pass.number() == number {
             work = next_line(rt, alloc, table, gate, turns, work, number, command)?;

@@ -79,11 +79,11 @@ fn access(alloc: Global, word: &[u8]) -> Result<(Key, Access), Refusal>
     Ok((key, access))
 }
 
-/// The keys with their accesses that all the words left name.
+/// The keys with their accesses that all the words left name. Room is taken for one, since most requests name one.
 fn accesses(alloc: Global, words: &mut Words) -> Result<Accesses, Refusal>
     ensures { Reads (λ accesses. accesses) result (accesses_of words.old) }
 {
-    let mut list = Vec::new(alloc);
+    let mut list = Vec::with_capacity(alloc, 1)?;
     while let Some(word) = words.next() {
         list.push(access(alloc, word)?)?;
     }

@@ -42,12 +42,14 @@ fn read_into(
 
 #[tactic(auto, using(crate::proofs::Fronts::goes_on, crate::proofs::Fronts::stops, crate::proofs::Fronts::ends))]
 /// The commands of a script, or the first faulty line and the first fault in it. Only want of memory keeps a
-/// script without a fault from being read.
+/// script without a fault from being read. Room is taken at once for lines of sixteen bytes, so that their list seldom moves.
 pub fn read_script(alloc: Global, text: &[u8]) -> Result<Script, ScriptError>
     ensures ok { IfOk result (λ script. commands_of text.now ≡ Ok script) }
     ensures err { IfErr result (λ e. IsTold e (commands_of text.now)) }
 {
-    let mut commands = Vec::new(alloc);
+    let Ok(mut commands) = Vec::with_capacity(alloc, text.len() / 16 + 1) else {
+        return Err(ScriptError::Memory);
+    };
     let mut lines = text.lines();
     let mut line = 1;
     while let Some(bytes) = lines.next() {

@@ -1,5 +1,5 @@
 -- The lines that answer a script.
-use Rattle.std.specs.Prelude.{ℕ, List, [], ◌∷◌, ◌++◌, decimal, codes}
+use Rattle.std.specs.Prelude.{ℕ, ◌+◌, List, [], ◌∷◌, ◌++◌, decimal, codes}
 use Rattle.std.specs.Global.{Vec}
 use Rattle.std.specs.List.{flat_map}
 use Rattle.lt_text.specs.Compose.{spaced}
@@ -38,13 +38,18 @@ answer_words (Refused refusal) = codes "refused" ∷ refusal_word refusal ∷ []
 
 -- the line of an answer, with its end: the pass, the line of the script, and the words of the answer, a space
 -- between two words
-abbrev pub line_text : AnswerLine → List ℕ
-line_text a = decimal a.pass ++ spaced (decimal a.line ∷ answer_words a.answer) ++ 10 ∷ []
+abbrev pub line_text : ℕ → AnswerLine → List ℕ
+line_text pass a = decimal pass ++ spaced (decimal a.line ∷ answer_words a.answer) ++ 10 ∷ []
 
 -- the lines of one pass, in their order
-abbrev pub pass_text : List AnswerLine → List ℕ
-pass_text answers = flat_map line_text answers
+abbrev pub pass_text : ℕ → List AnswerLine → List ℕ
+pass_text pass answers = flat_map (line_text pass) answers
 
--- the lines of all passes, one pass after the other
+-- the lines of all passes from this one on, one pass after the other
+abbrev pub texts_from : ℕ → List (Vec AnswerLine) → List ℕ
+texts_from pass [] = []
+texts_from pass (p ∷ ps) = pass_text pass p.items ++ texts_from (pass + 1) ps
+
+-- the lines of all passes
 abbrev pub answers_text : List (Vec AnswerLine) → List ℕ
-answers_text passes = flat_map (λ p. pass_text p.items) passes
+answers_text passes = texts_from 1 passes

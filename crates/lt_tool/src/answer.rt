@@ -51,11 +51,11 @@ fn put_answer(out: &mut Vec<u8>, answer: &LineAnswer) -> Result<(), AllocError>
     }
 }
 
-/// Puts the line at the end.
-fn put_line(out: &mut Vec<u8>, line: &AnswerLine) -> Result<(), AllocError>
-    ensures { OnOk result (out.new.items ≡ out.old.items ++ line_text line.now) }
+/// Puts the line of the pass at the end.
+fn put_line(out: &mut Vec<u8>, pass: u64, line: &AnswerLine) -> Result<(), AllocError>
+    ensures { OnOk result (out.new.items ≡ out.old.items ++ line_text pass line.now) }
 {
-    put_number(out, line.pass as u64)?;
+    put_number(out, pass)?;
     put_number_word(out, line.line as u64)?;
     put_answer(out, &line.answer)?;
     out.push(b'\n')?;
@@ -63,11 +63,11 @@ fn put_line(out: &mut Vec<u8>, line: &AnswerLine) -> Result<(), AllocError>
 }
 
 /// Puts the lines of one pass at the end.
-fn put_pass(out: &mut Vec<u8>, lines: &[AnswerLine]) -> Result<(), AllocError>
-    ensures { OnOk result (out.new.items ≡ out.old.items ++ pass_text lines.now) }
+fn put_pass(out: &mut Vec<u8>, pass: u64, lines: &[AnswerLine]) -> Result<(), AllocError>
+    ensures { OnOk result (out.new.items ≡ out.old.items ++ pass_text pass lines.now) }
 {
     for line in lines {
-        put_line(out, line)?;
+        put_line(out, pass, line)?;
     }
     Ok(())
 }
@@ -76,8 +76,10 @@ fn put_pass(out: &mut Vec<u8>, lines: &[AnswerLine]) -> Result<(), AllocError>
 pub(crate) fn put_answers(out: &mut Vec<u8>, passes: &[Vec<AnswerLine>]) -> Result<(), AllocError>
     ensures { OnOk result (out.new.items ≡ out.old.items ++ answers_text passes.now) }
 {
+    let mut pass = 1;
     for lines in passes {
-        put_pass(out, lines)?;
+        put_pass(out, pass, lines)?;
+        pass += 1;
     }
     Ok(())
 }

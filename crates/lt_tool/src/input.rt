@@ -31,14 +31,18 @@ fn read_some<R: Read>(reader: &mut R, text: &mut Vec<u8>) -> Result<usize, Unrea
     }
 }
 
-/// All that the reader has, up to its end.
+/// All that the reader has, up to its end. Room for the longest text is taken at once, so that it is not moved, and as much
+/// again: a piece of over 32 MiB goes back to the system when it is dropped, where the C library would keep a smaller one,
+/// and would from then on let the lists of a run grow in pieces that it keeps as well.
 #[tactic(auto, using(crate::proofs::Pieces::more, crate::proofs::Pieces::whole, crate::proofs::Pieces::too_long))]
 pub(crate) fn read_text<R: Read>(alloc: Global, reader: &mut R) -> Result<Vec<u8>, Unread>
     ensures ok { IfOk result (λ text. IfSome (R.remaining reader.old) (λ all. text.items ≡ all)) }
     ensures bound { IfOk result (λ text. length text.items ≤ 2 ^ 24) }
     ensures too_long { IfErr result (λ e. e ≡ Unread.TooLong → IfSome (R.remaining reader.old) (λ all. 2 ^ 24 < length all)) }
 {
-    let mut text = Vec::new(alloc);
+    let Ok(mut text) = Vec::with_capacity(alloc, 2 * LONGEST) else {
+        return Err(Unread::Memory);
+    };
     while text.len() <= LONGEST {
         if read_some(reader, &mut text)? == 0 {
             return Ok(text);

@@ -1,7 +1,6 @@
 use Rattle.std.proofs.Common.{◌≡◌, ◌<◌, ◌-◌, ℕ, Some, None, sym, subst, ◌∙◌, length, set, arith}
 use Rattle.lt_desk.specs.Machine.{Rules}
 use Rattle.lt_desk.specs.Turns.{slot_at}
-use Rattle.lt_desk.specs.Worked.{GoesOn}
 use Rattle.lt_desk.proofs.Slots.{set_twice, any_default}
 use Rattle.lt_desk.proofs.running.take_turn.Goals as goal
 
@@ -15,6 +14,6 @@ returns g c =
       before = c.in-Some.before;
       after = c.in_ok-after.after;
       was = subst (λ (k : ℕ). slot_at c.args.slots.now (k - 1) ≡ Some c.in-Some.before) is (any_default c.args.slots.now (n - 1) None c.index-slots-place.result lt ∙ (sym c.replace.ensures.value ∙ c.in-Some.is));
-      goes_on = subst (λ (k : ℕ). GoesOn rules (g.G.Gate.always c.args.gate.now) k c.in-Some.before.finish c.in-Some.before c.args.command.now c.in_ok-after.after) is c.in_ok-after.ensures;
+      goes_on = c.in_ok-after.ensures;
       others = subst (λ (k : ℕ). set (set c.args.slots.now (n - 1) c.replace.new.dest) (n - 1) (Some c.in_ok-after.after) ≡ set c.args.slots.now (k - 1) (Some c.in_ok-after.after)) is (set_twice c.args.slots.now (n - 1) c.replace.new.dest (Some c.in_ok-after.after));
     }

@@ -5,7 +5,7 @@ use Rattle.lt_desk.proofs.worker.work.Goals.{then-number+in_ok-work, else-number
 use Rattle.lt_desk.proofs.worker.work.Goals as goal
 
 pub loop-command-init : goal.loop-command-init
-loop-command-init g c = worked_none (record { max_waits = c.args.table.now.max_waits; turns = c.args.turns }) (g.G.Gate.always c.args.gate.now) c.args.pass c.begin-work.result c.begin-work.ensures
+loop-command-init g c = worked_none (record { max_waits = c.args.table.now.max_waits; turns = c.args.turns }) (g.G.Gate.always c.args.gate.now) c.args.pass c.in_ok-begun.begun c.in_ok-begun.ensures
 
 pub loop-command-preserved : goal.loop-command-preserved
 loop-command-preserved g c =
@@ -13,8 +13,8 @@ loop-command-preserved g c =
     let always : Bool = g.G.Gate.always c.args.gate.now in
     elim c.if-number.branch [
       | then-number+in_ok-work w ↦
-          rw w.work-is (worked_mine rules always c.args.pass c.args.commands.now c.loop-command.command-index c.command-item.result c.number-number.result c.loop-command.work w.in_ok-work.work
-          c.loop-command-test.true c.command-item.is c.number-number.ensures.number (grind (arith, c.number.ensures.value, c.number-number.ensures.number, w.if-number.true)) c.loop-command.invariant w.in_ok-work.ensures)
+          rw w.work-is (worked_mine rules always c.args.pass c.args.commands.now c.loop-command.command-index c.command-item.result c.loop-command.work w.in_ok-work.work
+          c.loop-command-test.true c.command-item.is (grind (arith, c.number.ensures.value, c.number-number.ensures.number, w.if-number.true)) c.loop-command.invariant w.in_ok-work.ensures)
       | else-number w ↦
           rw w.work-is (worked_other rules always c.args.pass c.args.commands.now c.loop-command.command-index c.command-item.result c.loop-command.work
           c.loop-command-test.true c.command-item.is (grind (arith, c.number.ensures.value, c.number-number.ensures.number, w.if-number.false)) c.loop-command.invariant)
