@@ -5,8 +5,11 @@
 //! own call has returned, so a call that waits for the lock is seen.
 #![tactic(auto)]
 
-pub mod beside;
-pub mod flag;
+#[cfg(test)]
+mod beside;
+#[cfg(test)]
+mod flag;
 #[cfg(test)]
 mod tests;
-pub mod watched;
+#[cfg(test)]
+mod watched;

@@ -8,11 +8,17 @@
 //! that no kind of answer is left out.
 #![tactic(auto)]
 
-pub mod cases;
-pub mod plain;
-pub mod request;
-pub mod schedule;
-pub mod steps;
-pub mod table;
+#[cfg(test)]
+mod cases;
+#[cfg(test)]
+mod plain;
+#[cfg(test)]
+mod request;
+#[cfg(test)]
+mod schedule;
+#[cfg(test)]
+mod steps;
+#[cfg(test)]
+mod table;
 #[cfg(test)]
 mod tests;

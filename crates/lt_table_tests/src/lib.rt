@@ -4,8 +4,10 @@
 //! closes a table without all its passes.
 #![tactic(auto)]
 
-pub mod closing;
-pub mod race;
+#[cfg(test)]
+mod closing;
+#[cfg(test)]
+mod race;
 #[cfg(test)]
 mod races;
 #[cfg(test)]

@@ -1,4 +1,4 @@
-ghost use Rattle.std.specs.Prelude.{◌≡◌, ◌<◌, ◌↔◌, IsTrue, true};
+ghost use Rattle.std.specs.Prelude.{◌≡◌, ◌<◌, ◌↔◌, IsTrue, true, length};
 ghost use Rattle.lt_links.specs.Maps.{HasNode, has_record as is_record};
 
 use super::*;
@@ -258,57 +258,115 @@ impl Random {
     }
 }
 
+/// The stand, with another wait that is no longer active.
+fn idle(stand: &Stand, wait: u32) -> Stand
+    ensures { result.number ≡ stand.now.number }
+{
+    Stand {
+        wait,
+        active: false,
+        ..*stand
+    }
+}
+
+/// The links, what they are to be, and the nodes that are left.
+#[derive(Drop)]
+struct Both {
+    links: Links,
+    plain: Plain,
+    nodes: Vec<NodeId>,
+}
+
+impl Both {
+    fn push_front(&mut self, rt: &impl Abort, to: &Queue, stand: &Stand) -> Result<(), AllocError> {
+        assert!(rt; has_record(&self.links, to.id));
+        let node = self.links.push_front(*to, *stand)?;
+        self.plain.put(to, None, node, stand)?;
+        self.nodes.push(node)?;
+        Ok(())
+    }
+
+    fn insert_after(
+        &mut self,
+        rt: &impl Abort,
+        node: NodeId,
+        stand: &Stand,
+    ) -> Result<(), AllocError> {
+        assert!(rt; has_node(&self.links, node));
+        let queue = self.links.queue_of(node);
+        let new = self.links.insert_after(node, *stand)?;
+        self.plain.put(&queue, Some(node), new, stand)?;
+        self.nodes.push(new)?;
+        Ok(())
+    }
+
+    fn move_front(&mut self, rt: &impl Abort, node: NodeId, to: &Queue) -> Result<(), AllocError> {
+        assert!(rt; has_record(&self.links, to.id) && has_node(&self.links, node));
+        let from = self.links.queue_of(node);
+        self.links.move_front(node, *to);
+        self.plain.move_front(&from, node, to)
+    }
+
+    fn set_stand(&mut self, rt: &impl Abort, node: NodeId, wait: u32) -> Result<(), AllocError> {
+        assert!(rt; has_node(&self.links, node));
+        let stand = self.links.stand(node);
+        self.links.set_stand(node, idle(&stand, wait));
+        self.plain.stands.insert(node.key(), idle(&stand, wait))?;
+        Ok(())
+    }
+
+    fn remove(&mut self, rt: &impl Abort, place: usize) -> Result<(), AllocError>
+        requires { place < length self.old.nodes.items }
+    {
+        let node = self.nodes.swap_remove(place);
+        assert!(rt; has_node(&self.links, node));
+        let queue = self.links.queue_of(node);
+        let gone = self.links.remove(node);
+        assert_eq!(rt; self.plain.remove(&queue, node)?, Some(gone));
+        Ok(())
+    }
+
+    /// One random call.
+    fn call(
+        &mut self,
+        rt: &impl Abort,
+        random: &mut Random,
+        to: &Queue,
+        turn: u32,
+    ) -> Result<(), AllocError> {
+        let stand = stand_of(rt, random.below(NUMBERS), turn);
+        if self.nodes.is_empty() || random.below(4) == 0 {
+            return self.push_front(rt, to, &stand);
+        }
+        let place = random.below(self.nodes.len() as u64) as usize;
+        let node = self.nodes[place];
+        match random.below(6) {
+            0 => self.insert_after(rt, node, &stand),
+            1 => self.move_front(rt, node, to),
+            2 => self.set_stand(rt, node, turn),
+            _ => self.remove(rt, place),
+        }
+    }
+}
+
 #[test]
 fn random_calls_do_what_three_plain_maps_do(rt: HostRuntime) -> Result<(), Fail> {
     let alloc = rt.alloc();
     let mut links = Links::new(alloc);
-    let mut plain = Plain::new(alloc);
-    let first = links.add_record()?;
-    let second = links.add_record()?;
-    let mut nodes: Vec<NodeId> = Vec::new(alloc);
+    let records = [links.add_record()?, links.add_record()?];
+    let mut both = Both {
+        links,
+        plain: Plain::new(alloc),
+        nodes: Vec::new(alloc),
+    };
     let mut random = Random { state: 1 };
     for turn in 0..600 {
-        let id = if random.below(2) == 0 { first } else { second };
         let to = Queue {
-            id,
+            id: records[random.below(2) as usize],
             kind: kind_of(random.below(3) as usize),
         };
-        let stand = stand_of(&rt, random.below(NUMBERS), turn);
-        assert!(rt; has_record(&links, id));
-        if nodes.is_empty() || random.below(4) == 0 {
-            let node = links.push_front(to, stand)?;
-            plain.put(&to, None, node, &stand)?;
-            nodes.push(node)?;
-        } else {
-            let place = random.below(nodes.len() as u64) as usize;
-            let node = nodes[place];
-            assert!(rt; has_node(&links, node));
-            let from = links.queue_of(node);
-            match random.below(6) {
-                0 => {
-                    let new = links.insert_after(node, stand)?;
-                    plain.put(&from, Some(node), new, &stand)?;
-                    nodes.push(new)?;
-                }
-                1 => {
-                    links.move_front(node, to);
-                    plain.move_front(&from, node, &to)?;
-                }
-                2 => {
-                    let mut other = links.stand(node);
-                    other.wait = turn;
-                    other.active = false;
-                    links.set_stand(node, other);
-                    plain.stands.insert(node.key(), other)?;
-                }
-                _ => {
-                    let gone = links.remove(node);
-                    assert_eq!(rt; plain.remove(&from, node)?, Some(gone));
-                    nodes.swap_remove(place);
-                }
-            }
-        }
-        plain.expect(&rt, &links, &[first, second]);
+        both.call(&rt, &mut random, &to, turn)?;
+        both.plain.expect(&rt, &both.links, &records);
     }
     Ok(())
 }
