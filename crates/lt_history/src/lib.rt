@@ -26,8 +26,6 @@ mod error;
 mod line;
 mod place;
 mod printer;
-#[cfg(test)]
-mod tests;
 
 pub use checker::{CheckError, Report, check};
 pub use composer::{compose, put_histories};

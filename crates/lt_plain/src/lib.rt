@@ -20,8 +20,6 @@ mod plain_table;
 mod queued;
 mod queues;
 pub mod step;
-#[cfg(test)]
-mod tests;
 
 pub use call::{Call, Reply};
 pub use key_table::KeyTable;

@@ -11,3 +11,5 @@ pub mod random;
 pub mod second;
 #[cfg(test)]
 mod tests;
+#[cfg(test)]
+mod worked;

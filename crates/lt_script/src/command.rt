@@ -24,7 +24,8 @@ impl Model for Accesses {
 }
 
 impl Accesses {
-    pub(crate) fn new(accesses: Vec<(Key, Access)>) -> Self
+    /// These, as they stand. No memory is taken.
+    pub fn new(accesses: Vec<(Key, Access)>) -> Self
         ensures { result ≡ accesses.items }
     {
         Accesses { accesses }

@@ -15,8 +15,6 @@ mod error;
 mod line;
 mod pass;
 mod read;
-#[cfg(test)]
-mod tests;
 mod words;
 
 pub use command::{Accesses, Action, Command, Script};

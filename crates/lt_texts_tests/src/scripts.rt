@@ -1,5 +1,5 @@
-use super::*;
 use lt_ids::{Access, Key, Timestamp, TxnId};
+use lt_script::{Accesses, Action, Command, Fault, Script, ScriptError, ScriptPass, read_script};
 use std::alloc::Global;
 use std::test::*;
 

@@ -1,5 +1,5 @@
-use crate::{Call, KeyTable, PlainTable, Reply, step};
 use lt_ids::{Access, IdError, Key, Through, Ticket, Timestamp, TxnId};
+use lt_plain::{Call, KeyTable, PlainTable, Reply, step};
 use std::alloc::Global;
 use std::process::Abort;
 use std::test::Fail;
