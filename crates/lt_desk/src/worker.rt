@@ -127,7 +127,7 @@ pub(crate) fn begin(alloc: Global, pass: Pass, lines: usize) -> Result<Work, Out
     })
 }
 
-/// How many lines each pass has, from pass 1 on.
+/// How many lines each pass has, from pass 1 on. It says how much room to take, and no promise rests on it.
 pub(crate) fn lines_by_pass(commands: &[Command]) -> [usize; 64] {
     let mut lines: [usize; 64] = [0; 64];
     for command in commands {

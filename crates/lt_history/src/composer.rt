@@ -25,7 +25,7 @@ struct Ranked<'a> {
     rank: u64,
     entry: &'a Entry,
     ghost ranked: { rank ≡ rank_of entry.now.key },
-    ghost bytes: { IsKey entry.now.key },
+    ghost is_key: { IsKey entry.now.key },
 }
 
 /// The byte at this place, or 0 where there is none.

@@ -14,8 +14,6 @@
 mod error;
 mod key;
 mod request;
-#[cfg(test)]
-mod tests;
 mod ticket;
 mod timestamp;
 mod txn;

@@ -1,4 +1,5 @@
-use crate::{IdError, Key, Request, Ticket, Timestamp, TxnId};
+use lt_ids::{IdError, Key, Request, Ticket, Timestamp, TxnId};
+use std::alloc::Global;
 use std::test::Fail;
 
 #[test]
@@ -20,6 +21,40 @@ fn keys_are_up_to_64_printable_bytes(rt: HostRuntime) -> Result<(), Fail> {
     }
     let key = Key::from_bytes(rt.alloc(), b"ab")?;
     assert_eq!(rt; key.copy()?, key);
+    Ok(())
+}
+
+/// The key, and a copy of it, each by a second call where the first one was refused memory.
+fn key_and_copy(alloc: Global, bytes: &[u8]) -> Result<(Key, Key), Fail> {
+    let key = match Key::from_bytes(alloc, bytes) {
+        Err(IdError::Memory) => Key::from_bytes(alloc, bytes)?,
+        made => made?,
+    };
+    let copy = match key.copy() {
+        Ok(copy) => copy,
+        Err(_) => key.copy()?,
+    };
+    Ok((key, copy))
+}
+
+/// Up to 22 bytes lie in the key, and more elsewhere.
+#[test]
+fn a_short_key_and_a_long_one_keep_their_bytes(rt: HostRuntime) -> Result<(), Fail> {
+    for (bytes, shorter) in [
+        (
+            b"abcdefghijklmnopqrstuv".as_slice(),
+            b"abcdefghijklmnopqrstu".as_slice(),
+        ),
+        (
+            b"abcdefghijklmnopqrstuvw".as_slice(),
+            b"abcdefghijklmnopqrstuv".as_slice(),
+        ),
+    ] {
+        let (key, copy) = key_and_copy(rt.alloc(), bytes)?;
+        assert_eq!(rt; copy.as_bytes(), bytes);
+        let (before, _) = key_and_copy(rt.alloc(), shorter)?;
+        assert!(rt; before < key);
+    }
     Ok(())
 }
 
