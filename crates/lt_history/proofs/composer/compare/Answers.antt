@@ -1,5 +1,4 @@
-use Rattle.std.proofs.Common.{◌≡◌, sym, subst, ◌∙◌, rules}
-use Rattle.std.specs.declared.cmp.Ordering.TheVariants.{Equal}
+use Rattle.std.proofs.Common.{sym, rules}
 use Rattle.lt_history.proofs.Ranks.{keys_by_rank}
 use Rattle.lt_history.proofs.composer.compare.Goals as goal
 
