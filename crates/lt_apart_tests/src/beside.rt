@@ -96,6 +96,31 @@ fn shard_of<N: Name, T: KeyTable>(alloc: Global, table: &Table<N, T>, key: u8) -
     Some(table.shard_of(&key))
 }
 
+/// The first two seats.
+fn two_of<N: Name>(mut seats: Vec<Seat<N>>) -> Option<(Seat<N>, Seat<N>)> {
+    let two = seats.pop()?;
+    let one = seats.pop()?;
+    Some((one, two))
+}
+
+/// Both acquires at once: the first stops inside its shard until the second has returned.
+fn acquire_both<N: Name + Send + Sync, R: Threads + Wait + Sync>(
+    rt: &R,
+    alloc: Global,
+    table: &Table<N, Watched<'_>>,
+    stop: &Stop,
+    seats: (Seat<N>, Seat<N>),
+    keys: (u8, u8),
+) -> Option<(Reply, Reply)> {
+    let (one, two) = seats;
+    let (first, second) = join(
+        rt,
+        move || acquire(rt, alloc, table, one, 1, keys.0),
+        move || acquire_beside(rt, alloc, table, two, keys.1, stop),
+    );
+    Some((first?, second?))
+}
+
 fn two_acquires_named<N: Name + Send + Sync, R: Threads + Wait + Sync>(
     rt: &R,
     alloc: Global,
@@ -110,23 +135,16 @@ fn two_acquires_named<N: Name + Send + Sync, R: Threads + Wait + Sync>(
     let at = &stop;
     let tables = watched_tables(alloc, shards, at).ok()?;
     let (table, passes) = open_with::<N, Watched<'_>>(alloc, ready, tables).ok()?;
-    let mut seats = seated::<N>(alloc, passes)?;
-    let two = seats.pop()?;
-    let one = seats.pop()?;
     let shards = (
         shard_of(alloc, &table, keys.0)?,
         shard_of(alloc, &table, keys.1)?,
     );
-    let inside = &table;
-    let (first, second) = join(
-        rt,
-        move || acquire(rt, alloc, inside, one, 1, keys.0),
-        move || acquire_beside(rt, alloc, inside, two, keys.1, at),
-    );
+    let seats = two_of(seated::<N>(alloc, passes)?)?;
+    let (first, second) = acquire_both(rt, alloc, &table, at, seats, keys)?;
     Some(Apart {
         shards,
-        first: first?,
-        second: second?,
+        first,
+        second,
         is_apart: stop.gone.is_set(),
     })
 }
@@ -189,6 +207,37 @@ fn scanned<N: Name, T: KeyTable, R: Wait>(
     Some((Seat::open(guard), scan))
 }
 
+/// Takes the lock of the key, and has a request come to write it.
+fn held_and_scanned<N: Name, T: KeyTable, R: Wait>(
+    rt: &R,
+    alloc: Global,
+    table: &Table<N, T>,
+    seats: (Seat<N>, Seat<N>),
+    key: u8,
+) -> Option<(Seat<N>, Scan)> {
+    let (one, two) = seats;
+    acquire(rt, alloc, table, one, 1, key)?;
+    scanned(rt, alloc, table, two, 2, key)
+}
+
+/// The acquire of a key, which stops inside its shard until the poll has returned, and that poll.
+fn acquire_and_poll<N: Name + Send + Sync, R: Threads + Wait + Sync>(
+    rt: &R,
+    alloc: Global,
+    table: &Table<N, Watched<'_>>,
+    stop: &Stop,
+    seats: (Seat<N>, Seat<N>),
+    key: u8,
+) -> Option<(Reply, Poll)> {
+    let (free, waiting) = seats;
+    let (first, second) = join(
+        rt,
+        move || acquire(rt, alloc, table, free, 3, key),
+        move || poll_beside(table, waiting, stop),
+    );
+    Some((first?, second?))
+}
+
 fn poll_named<N: Name + Send + Sync, R: Threads + Wait + Sync>(
     rt: &R,
     alloc: Global,
@@ -204,20 +253,12 @@ fn poll_named<N: Name + Send + Sync, R: Threads + Wait + Sync>(
     let (table, passes) = open_with::<N, Watched<'_>>(alloc, ready, tables).ok()?;
     let mut seats = seated::<N>(alloc, passes)?;
     let three = seats.pop()?;
-    let two = seats.pop()?;
-    let one = seats.pop()?;
-    acquire(rt, alloc, &table, one, 1, keys.1)?;
-    let (waiting, scan) = scanned(rt, alloc, &table, two, 2, keys.1)?;
-    let inside = &table;
-    let (first, second) = join(
-        rt,
-        move || acquire(rt, alloc, inside, three, 3, keys.0),
-        move || poll_beside(inside, waiting, at),
-    );
+    let (waiting, scan) = held_and_scanned(rt, alloc, &table, two_of(seats)?, keys.1)?;
+    let (acquire, poll) = acquire_and_poll(rt, alloc, &table, at, (three, waiting), keys.0)?;
     Some(Polled {
         scan,
-        poll: second?,
-        acquire: first?,
+        poll,
+        acquire,
         is_apart: stop.gone.is_set(),
     })
 }

@@ -1,4 +1,4 @@
-ghost use Rattle.std.specs.Prelude.{◌<◌};
+ghost use Rattle.std.specs.Prelude.{◌<◌, ◌≤◌};
 
 use crate::calls::{Found, NUMBERS, at, key, looks, make, ticket, txn, visit};
 use crate::sight::Sight;
@@ -173,84 +173,161 @@ const CALLS: u64 = 20_000;
 // The queues grow for so many calls, and drain for as many.
 const SPELL: u64 = 1_000;
 
+/// A key, what is found there at both tables, and what can be known of it.
+#[derive(Drop)]
+struct Spot {
+    key: Key,
+    found: Found,
+    sight: Sight,
+}
+
+/// Both tables, and what came about.
+#[derive(Drop)]
+struct Both {
+    seed: u64,
+    turn: u64,
+    plain: PlainTable,
+    linked: LinkedTable,
+    counts: Counts,
+    refusals: u64,
+    longest: u64,
+    emptied: u64,
+}
+
+impl Both {
+    fn new(alloc: Global, seed: u64) -> Both {
+        Both {
+            seed,
+            turn: 0,
+            plain: PlainTable::new(alloc),
+            linked: LinkedTable::new(alloc),
+            counts: Counts::new(),
+            refusals: 0,
+            longest: 0,
+            emptied: 0,
+        }
+    }
+
+    /// A key that nobody has called for.
+    fn spot(&self, alloc: Global, name: &[u8]) -> Result<Spot, Fail> {
+        let key = key(alloc, name)?;
+        let found = looks(&self.plain, &key);
+        Ok(Spot {
+            key,
+            found,
+            sight: Sight::new(),
+        })
+    }
+
+    /// Makes the call at both tables, and asks that the replies and the lets are the same.
+    fn call(
+        &mut self,
+        rt: &impl Abort,
+        alloc: Global,
+        spot: &mut Spot,
+        pass: u32,
+        call: &Call,
+    ) -> Result<(), Fail>
+        requires pass_low { 1 ≤ pass }
+        requires pass_high { pass ≤ 1024 }
+    {
+        let mut lets = Vec::new(alloc);
+        let mut others = Vec::new(alloc);
+        let Both {
+            plain,
+            linked,
+            refusals,
+            ..
+        } = self;
+        let (key, found) = (&spot.key, &spot.found);
+        let reply = make(rt, plain, key, found, pass, call, &mut lets, refusals)?;
+        let other = make(rt, linked, key, found, pass, call, &mut others, refusals)?;
+        let (seed, turn) = (self.seed, self.turn);
+        assert!(rt;
+            reply == other && lets == others,
+            "the answers differ, seed {seed}, call {turn}"
+        );
+        spot.sight
+            .note(&spot.found, call, reply, &lets, &mut self.counts);
+        Ok(())
+    }
+
+    /// Whether the same is found at both tables.
+    fn is_found(&self, spot: &Spot) -> bool {
+        looks(&self.plain, &spot.key) == spot.found && looks(&self.linked, &spot.key) == spot.found
+    }
+
+    /// Asks that the same is found at both tables, and counts the queue.
+    fn measure(&mut self, rt: &impl Abort, spot: &mut Spot) {
+        spot.found = looks(&self.plain, &spot.key);
+        let (seed, turn) = (self.seed, self.turn);
+        assert!(rt;
+            self.is_found(spot),
+            "the looks differ, seed {seed}, call {turn}"
+        );
+        let standing = stands(&spot.found);
+        self.longest = self.longest.max(standing);
+        if standing == 0 {
+            self.emptied = self.emptied.wrapping_add(1);
+        }
+    }
+
+    /// Counts what is found at this key, and asks that at every key it is what it was.
+    fn compare_all(&mut self, rt: &impl Abort, place: usize, spots: &[Spot]) {
+        if let Some(spot) = spots.get(place) {
+            for reply in &spot.found {
+                self.counts.add_look(*reply);
+            }
+        }
+        let (seed, turn) = (self.seed, self.turn);
+        for spot in spots {
+            assert!(rt;
+                self.is_found(spot),
+                "the looks at another key differ, seed {seed}, call {turn}"
+            );
+        }
+    }
+
+    /// One random call at one of the keys.
+    fn random_call(
+        &mut self,
+        rt: &impl Abort,
+        alloc: Global,
+        random: &mut Random,
+        spots: &mut [Spot; 3],
+    ) -> Result<(), Fail> {
+        let place = random.below(3) as usize;
+        let pass = 1 + random.below(PASSES) as u32;
+        let call = random_call(random, self.turn / SPELL % 2 == 0)?;
+        self.call(rt, alloc, &mut spots[place], pass, &call)?;
+        self.measure(rt, &mut spots[place]);
+        if self.turn % 64 == 0 {
+            self.compare_all(rt, place, spots.as_slice());
+        }
+        Ok(())
+    }
+}
+
 /// Random calls at three keys, the same at both tables, compared after each call.
 fn compare(rt: &impl Abort, alloc: Global, seed: u64) -> Result<(), Fail> {
     let mut random = Random { state: seed };
-    let mut plain = PlainTable::new(alloc);
-    let mut linked = LinkedTable::new(alloc);
-    let keys = [key(alloc, b"a")?, key(alloc, b"b")?, key(alloc, b"key")?];
-    // What is found at each key, the same at both tables.
-    let mut found = [
-        looks(&plain, &keys[0]),
-        looks(&plain, &keys[1]),
-        looks(&plain, &keys[2]),
+    let mut both = Both::new(alloc, seed);
+    let mut spots = [
+        both.spot(alloc, b"a")?,
+        both.spot(alloc, b"b")?,
+        both.spot(alloc, b"key")?,
     ];
-    let mut sights = [Sight::new(), Sight::new(), Sight::new()];
-    let mut counts = Counts::new();
-    let mut refusals = 0;
-    let mut longest: u64 = 0;
-    let mut emptied: u64 = 0;
     for turn in 0..CALLS {
-        let place = random.below(3) as usize;
-        let at = &keys[place];
-        let pass = 1 + random.below(PASSES) as u32;
-        let call = random_call(&mut random, turn / SPELL % 2 == 0)?;
-        let mut lets = Vec::new(alloc);
-        let mut others = Vec::new(alloc);
-        let reply = make(
-            rt,
-            &mut plain,
-            at,
-            &found[place],
-            pass,
-            &call,
-            &mut lets,
-            &mut refusals,
-        )?;
-        let other = make(
-            rt,
-            &mut linked,
-            at,
-            &found[place],
-            pass,
-            &call,
-            &mut others,
-            &mut refusals,
-        )?;
-        assert!(rt;
-            reply == other,
-            "the replies differ, seed {seed}, call {turn}"
-        );
-        assert!(rt; lets == others, "the lets differ, seed {seed}, call {turn}");
-        sights[place].note(&found[place], &call, reply, &lets, &mut counts);
-        found[place] = looks(&plain, at);
-        assert!(rt;
-            found[place] == looks(&linked, at),
-            "the looks differ, seed {seed}, call {turn}"
-        );
-        if turn % 64 == 0 {
-            for sight in &found[place] {
-                counts.add_look(*sight);
-            }
-            for (every, same) in keys.iter().zip(&found) {
-                assert!(rt;
-                    looks(&plain, every) == *same && looks(&linked, every) == *same,
-                    "the looks at another key differ, seed {seed}, call {turn}"
-                );
-            }
-        }
-        let standing = stands(&found[place]);
-        longest = longest.max(standing);
-        if standing == 0 {
-            emptied = emptied.wrapping_add(1);
-        }
+        both.turn = turn;
+        both.random_call(rt, alloc, &mut random, &mut spots)?;
     }
+    let (longest, emptied) = (both.longest, both.emptied);
     assert!(rt;
         longest >= 30,
         "the longest queues had {longest}, seed {seed}"
     );
     assert!(rt; emptied >= 100, "empty after {emptied} calls, seed {seed}");
-    assert_eq!(rt; counts.missing(), None);
+    assert_eq!(rt; both.counts.missing(), None);
     Ok(())
 }
 

@@ -88,10 +88,11 @@ fn compare_entry<R: Abort>(
     assert_eq!(rt; entry.pass, step.pass, "the pass, seed {seed}");
     assert_eq!(rt; asked_of(&entry.call), step.asked, "the call, seed {seed}");
     assert_eq!(rt; entry.reply, step.reply, "the reply, seed {seed}");
-    assert!(rt;
-        lets_of(alloc, entry)? == step.lets,
-        "the lets differ, seed {seed}"
-    );
+    let mut lets = lets_of(alloc, entry);
+    if lets.is_err() {
+        lets = lets_of(alloc, entry);
+    }
+    assert!(rt; lets? == step.lets, "the lets differ, seed {seed}");
     Ok(())
 }
 
@@ -115,7 +116,7 @@ fn compare_history<R: Abort>(
     Ok(())
 }
 
-/// The run came out as the rules give.
+/// The run came out as the rules give, and no more than one call was refused memory.
 fn compare<R: Abort>(
     rt: &R,
     alloc: Global,
@@ -124,6 +125,7 @@ fn compare<R: Abort>(
     ran: &Ran,
 ) -> Result<(), Fail> {
     compare_lines(rt, seed, schedule, ran)?;
+    assert!(rt; ran.refused <= 1, "seed {seed}");
     assert_eq!(rt;
         ran.histories.draws,
         schedule.second.draws(),
@@ -142,18 +144,48 @@ fn compare<R: Abort>(
     Ok(())
 }
 
-/// One schedule on both tables.
+/// The schedule on linked tables.
+fn compare_linked<R: Abort + Wait>(
+    rt: &R,
+    alloc: Global,
+    seed: u64,
+    schedule: &Schedule,
+) -> Result<(), Fail> {
+    let mut ran = run(rt, alloc, schedule.config, &schedule.rows);
+    if ran.is_none() {
+        ran = run(rt, alloc, schedule.config, &schedule.rows);
+    }
+    compare(rt, alloc, seed, schedule, &ran.ok_or("the linked tables")?)
+}
+
+/// The schedule on plain tables.
+fn compare_plain<R: Abort + Wait>(
+    rt: &R,
+    alloc: Global,
+    seed: u64,
+    schedule: &Schedule,
+) -> Result<(), Fail> {
+    let mut ran = run_plain(rt, alloc, schedule.config, &schedule.rows);
+    if ran.is_none() {
+        ran = run_plain(rt, alloc, schedule.config, &schedule.rows);
+    }
+    compare(rt, alloc, seed, schedule, &ran.ok_or("the plain tables")?)
+}
+
+/// One schedule on both tables. What was refused memory beside a call, as where a table is opened, is done again.
 fn compare_both<R: Abort + Wait>(
     rt: &R,
     alloc: Global,
     seed: u64,
     counts: &mut Counts,
 ) -> Result<(), Fail> {
-    let schedule = random_schedule(alloc, seed, counts).ok_or("the schedule")?;
-    let linked = run(rt, alloc, schedule.config, &schedule.rows).ok_or("the linked tables")?;
-    compare(rt, alloc, seed, &schedule, &linked)?;
-    let plain = run_plain(rt, alloc, schedule.config, &schedule.rows).ok_or("the plain tables")?;
-    compare(rt, alloc, seed, &schedule, &plain)
+    let mut schedule = random_schedule(alloc, seed, counts);
+    if schedule.is_none() {
+        schedule = random_schedule(alloc, seed, counts);
+    }
+    let schedule = schedule.ok_or("the schedule")?;
+    compare_linked(rt, alloc, seed, &schedule)?;
+    compare_plain(rt, alloc, seed, &schedule)
 }
 
 #[test]
@@ -163,5 +195,16 @@ fn both_tables_agree_with_the_rules_read_a_second_time(rt: HostRuntime) -> Resul
         compare_both(&rt, rt.alloc(), seed, &mut counts)?;
     }
     assert_eq!(rt; counts.missing(), None);
+    Ok(())
+}
+
+/// Few schedules, for whoever refuses each of their allocations in turn: a call that was refused is made again, and all
+/// comes out as ever.
+#[test]
+fn schedules_come_out_alike_whatever_is_refused(rt: HostRuntime) -> Result<(), Fail> {
+    let mut counts = Counts::new();
+    for seed in 0..5 {
+        compare_both(&rt, rt.alloc(), seed, &mut counts)?;
+    }
     Ok(())
 }

@@ -56,3 +56,15 @@ pub enum Told {
     /// It is no call that a pass can make as it stands, alone or in a guard.
     Nothing,
 }
+
+impl Told {
+    /// Whether the call was refused for want of memory.
+    pub fn is_out_of_memory(&self) -> bool {
+        match self {
+            Told::NotEntered(error) => *error == EnterError::Memory,
+            Told::NotScanned(error) => *error == ScanError::Memory,
+            Told::NotStepped(error) | Told::NotLeft(error) => *error == StepError::Memory,
+            _ => false,
+        }
+    }
+}

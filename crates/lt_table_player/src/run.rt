@@ -3,22 +3,23 @@ ghost use Rattle.std.specs.Prelude.{◌≡◌, IfOk};
 ghost use Rattle.std.specs.List.{All};
 ghost use Rattle.lt_words.specs.Row.{Opening};
 
-use crate::command::Row;
+use crate::command::{Command, Row};
 use crate::desk::{Line, play};
 use crate::holds::Holds;
 use crate::seat::Seat;
 use lt_plain::KeyTable;
-use lt_table::{Config, Guard, Histories, Ready, Table, open, prepare};
+use lt_table::{CloseError, CloseRefused, Config, Guard, Histories, Ready, Table, open, prepare};
 use lt_words::{Name, Pass};
 use std::alloc::{AllocError, Global};
 use std::marker::Brand;
 use std::sync::Wait;
 
-/// What came of a run: a line for each command, and the histories.
+/// What came of a run: a line for each command, the histories, and how many calls were refused memory and made again.
 #[derive(Drop)]
 pub struct Ran {
     pub lines: Vec<Line>,
     pub histories: Histories,
+    pub refused: usize,
 }
 
 /// A seat for each pass.
@@ -51,7 +52,7 @@ pub fn gather<N: Name>(
     Ok((passes, guards))
 }
 
-/// Closes the table with all that the seats hold.
+/// Closes the table with all that the seats hold. Where memory is refused, all came back, and is closed once more.
 pub fn close_all<N: Name, T: KeyTable + Drop, R: Wait>(
     rt: &R,
     alloc: Global,
@@ -61,7 +62,48 @@ pub fn close_all<N: Name, T: KeyTable + Drop, R: Wait>(
     let Ok((passes, guards)) = gather(alloc, seats) else {
         return None;
     };
-    table.close(rt, alloc, passes, guards).ok()
+    match table.close(rt, alloc, passes, guards) {
+        Ok(histories) => Some(histories),
+        Err(refused) => {
+            if refused.error != CloseError::Memory {
+                return None;
+            }
+            let CloseRefused {
+                table,
+                passes,
+                guards,
+                ..
+            } = refused;
+            table.close(rt, alloc, passes, guards).ok()
+        }
+    }
+}
+
+/// Plays the command on the seat. A call that is refused memory is made again: the steps that it made before stand, and a
+/// further scan or leave makes the others. Where it is no scan and no leave, the guard still has the answers of its latest
+/// scan.
+fn play_through<N: Name, T: KeyTable, R: Wait>(
+    rt: &R,
+    alloc: Global,
+    table: &Table<N, T>,
+    seat: Seat<N>,
+    command: &Command,
+    refused: &mut usize,
+) -> Option<(Seat<N>, Line)> {
+    let (seat, mut line) = play(rt, alloc, table, seat, command)?;
+    if !line.told.is_out_of_memory() {
+        return Some((seat, line));
+    }
+    *refused = refused.saturating_add(1);
+    let (seat, again) = play(rt, alloc, table, seat, command)?;
+    if let Command::Scan | Command::Leave = command {
+        line.replies.extend_from_slice(&again.replies).ok()?;
+    } else if line.replies != again.replies {
+        return None;
+    }
+    line.told = again.told;
+    line.at = again.at;
+    Some((seat, line))
 }
 
 /// Plays the commands of the rows, each on the seat of the pass at its place, from 0, and closes the table.
@@ -76,16 +118,22 @@ pub fn play_all<N: Name, T: KeyTable + Drop, R: Wait>(
 {
     let mut seats = seated::<N>(alloc, passes)?;
     let mut lines = Vec::new(alloc);
+    let mut refused = 0;
     for (place, command, _) in rows {
         if *place >= seats.len() {
             return None;
         }
-        let (seat, line) = play(rt, alloc, &table, seats.remove(*place), command)?;
+        let seat = seats.remove(*place);
+        let (seat, line) = play_through(rt, alloc, &table, seat, command, &mut refused)?;
         seats.insert(*place, seat).ok()?;
         lines.push(line).ok()?;
     }
     let histories = close_all(rt, alloc, table, seats)?;
-    Some(Ran { lines, histories })
+    Some(Ran {
+        lines,
+        histories,
+        refused,
+    })
 }
 
 fn run_named<N: Name, R: Wait>(rt: &R, alloc: Global, ready: Ready, rows: &[Row]) -> Option<Ran>

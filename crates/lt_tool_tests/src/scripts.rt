@@ -7,12 +7,13 @@ use lt_script::Fault;
 use lt_tool::{Finish, Gate, Options, RunError, run_script, run_script_with};
 use std::alloc::{AllocError, Global};
 use std::io::Read;
+use std::process::Abort;
 use std::sync::Wait;
 use std::test::*;
 use std::thread::Threads;
 
 /// What each run shows, its script, and what it writes. Six runs are the scripts of `examples/`, whose files say the same.
-const RUNS: [(&str, &str, &str); 24] = [
+const RUNS: [(&'static str, &'static str, &'static str); 24] = [
     ("an empty script", "", "locks 1\n"),
     (
         "a reader at the time of the holder waits",
@@ -131,42 +132,61 @@ const RUNS: [(&str, &str, &str); 24] = [
     ),
 ];
 
-/// What each run shows, its script, its shards, steps, threads and turns, how it ends, and what it writes.
-const OTHERWISE: [(&str, &str, (usize, u64, bool, u64), Finish, &str); 5] = [
+/// What each run shows, its script and what it writes; its shards, steps, threads and turns; and how it ends.
+const OTHERWISE: [(
+    (&'static str, &'static str, &'static str),
+    (usize, u64, bool, u64),
+    Finish,
+); 6] = [
     (
-        "a full history refuses steps, and a refused leave stays on its way",
-        "1 acquire 7 20.0 a\n1 update 7 21.0 a\n1 finish 7 a\n2 open 8 1.0 a:w\n2 leave\n2 scan\n2 open 8 1.0 a:w\n",
+        (
+            "a full history refuses steps, and a refused leave stays on its way",
+            "1 acquire 7 20.0 a\n1 update 7 21.0 a\n1 finish 7 a\n2 open 8 1.0 a:w\n2 leave\n2 scan\n2 open 8 1.0 a:w\n",
+            "1 1 taken\n1 2 raised\n1 3 refused HistoryFull\n2 4 request 1\n2 5 refused HistoryFull\n2 6 refused Leaving\n2 7 busy\nlocks 1\na 1 1 acquire 7 20.0 = taken\na 2 1 update 7 21.0 = raised\n",
+        ),
         (1, 2, false, 1000000),
         Finish::Done,
-        "1 1 taken\n1 2 raised\n1 3 refused HistoryFull\n2 4 request 1\n2 5 refused HistoryFull\n2 6 refused Leaving\n2 7 busy\nlocks 1\na 1 1 acquire 7 20.0 = taken\na 2 1 update 7 21.0 = raised\n",
     ),
     (
-        "a history that fills in the middle of a scan",
-        "1 open 5 1.0 a:w b:w c:w d:w\n1 scan\n1 scan\n1 await\n1 leave\n",
+        (
+            "a history that fills in the middle of a scan",
+            "1 open 5 1.0 a:w b:w c:w d:w\n1 scan\n1 scan\n1 await\n1 leave\n",
+            "1 1 request 1\n1 2 refused HistoryFull\n1 3 refused HistoryFull\n1 4 idle\n1 5 refused HistoryFull\nlocks 1\na 1 1 visit 1.1 5 1.0 w = pass\nb 1 1 visit 1.1 5 1.0 w = pass\nc 1 1 visit 1.1 5 1.0 w = pass\n",
+        ),
         (1, 3, false, 1000000),
         Finish::Done,
-        "1 1 request 1\n1 2 refused HistoryFull\n1 3 refused HistoryFull\n1 4 idle\n1 5 refused HistoryFull\nlocks 1\na 1 1 visit 1.1 5 1.0 w = pass\nb 1 1 visit 1.1 5 1.0 w = pass\nc 1 1 visit 1.1 5 1.0 w = pass\n",
     ),
     (
-        "each shard has room of its own",
-        "1 acquire 7 1.0 a\n1 acquire 7 1.0 b\n1 finish 7 a\n1 finish 7 c\n",
+        (
+            "a history that is full in the middle of a leave",
+            "1 acquire 7 1.0 b\n2 open 8 1.0 a:w b:w\n2 leave\n2 leave\n2 scan\n2 await\n",
+            "1 1 taken\n2 2 request 1\n2 3 refused HistoryFull\n2 4 refused HistoryFull\n2 5 refused Leaving\n2 6 idle\nlocks 1\na 1 2 leave 1 = absent\nb 1 1 acquire 7 1.0 = taken\n",
+        ),
         (2, 1, false, 1000000),
         Finish::Done,
-        "1 1 taken\n1 2 taken\n1 3 refused HistoryFull\n1 4 refused HistoryFull\nlocks 1\na 1 1 acquire 7 1.0 = taken\nb 1 1 acquire 7 1.0 = taken\n",
     ),
     (
-        "threads at keys of their own",
-        TWO_KEYS,
+        (
+            "each shard has room of its own",
+            "1 acquire 7 1.0 a\n1 acquire 7 1.0 b\n1 finish 7 a\n1 finish 7 c\n",
+            "1 1 taken\n1 2 taken\n1 3 refused HistoryFull\n1 4 refused HistoryFull\nlocks 1\na 1 1 acquire 7 1.0 = taken\nb 1 1 acquire 7 1.0 = taken\n",
+        ),
+        (2, 1, false, 1000000),
+        Finish::Done,
+    ),
+    (
+        ("threads at keys of their own", TWO_KEYS, TWO_KEYS_ANSWERED),
         (4, 1000000, true, 1000000),
         Finish::Done,
-        TWO_KEYS_ANSWERED,
     ),
     (
-        "turns that are used up end a pass",
-        "1 acquire 7 1.0 a\n1 open 8 1.0 a:w\n1 scan\n1 await\n1 leave\n",
+        (
+            "turns that are used up end a pass",
+            "1 acquire 7 1.0 a\n1 open 8 1.0 a:w\n1 scan\n1 await\n1 leave\n",
+            "1 1 taken\n1 2 request 1\n1 3 waiting a\n1 4 turns\nlocks 1\na 1 1 acquire 7 1.0 = taken\na 2 1 visit 1.1 8 1.0 w = wait\n",
+        ),
         (4, 1000000, true, 10),
         Finish::TurnsOut,
-        "1 1 taken\n1 2 request 1\n1 3 waiting a\n1 4 turns\nlocks 1\na 1 1 acquire 7 1.0 = taken\na 2 1 visit 1.1 8 1.0 w = wait\n",
     ),
 ];
 
@@ -211,20 +231,32 @@ fn run_of<H: Threads + Wait + Sync, R: Read + Drop>(
     run_by(rt, alloc, readers, writer, &Options::default())
 }
 
+/// Runs a script, and asks that the run ends so and that this is written.
+fn expect_output<H: Threads + Wait + Sync + Abort>(
+    rt: &H,
+    alloc: Global,
+    run: &(&'static str, &'static str, &'static str),
+    at_once: usize,
+    options: &Options,
+    finish: Finish,
+)
+    requires { AreInRange options.now }
+{
+    let (what, script, output) = *run;
+    let mut writer = blank(at_once, 1024);
+    let readers = [script.as_bytes(), script.as_bytes()];
+    let ended = run_by(rt, alloc, readers, &mut writer, options);
+    assert!(rt; ended == Ok(finish), "{what}");
+    assert!(rt; writer.written() == output.as_bytes(), "{what}");
+}
+
 /// The answers and the histories of each script, with few shards and many, and where a writer takes three bytes at once.
 #[test]
 fn scripts_are_answered_and_their_steps_told(rt: HostRuntime) {
-    for (what, script, output) in RUNS {
+    for run in &RUNS {
         for (shards, at_once) in [(1, 1024), (4, 3), (64, 1024)] {
-            let mut writer = blank(at_once, 1024);
-            let readers = [script.as_bytes(), script.as_bytes()];
             let options = options(shards, 1000000, false, 1000000);
-            assert_eq!(rt;
-                run_by(&rt, rt.alloc(), readers, &mut writer, &options),
-                Ok(Finish::Done),
-                "{what}"
-            );
-            assert_eq!(rt; writer.written(), output.as_bytes(), "{what}");
+            expect_output(&rt, rt.alloc(), run, at_once, &options, Finish::Done);
         }
     }
 }
@@ -232,16 +264,9 @@ fn scripts_are_answered_and_their_steps_told(rt: HostRuntime) {
 /// The same under other options.
 #[test]
 fn options_are_kept(rt: HostRuntime) {
-    for (what, script, (shards, steps, threads, turns), finish, output) in OTHERWISE {
-        let mut writer = blank(1024, 1024);
-        let readers = [script.as_bytes(), script.as_bytes()];
-        let options = options(shards, steps, threads, turns);
-        assert_eq!(rt;
-            run_by(&rt, rt.alloc(), readers, &mut writer, &options),
-            Ok(finish),
-            "{what}"
-        );
-        assert_eq!(rt; writer.written(), output.as_bytes(), "{what}");
+    for (run, (shards, steps, threads, turns), finish) in &OTHERWISE {
+        let options = options(*shards, *steps, *threads, *turns);
+        expect_output(&rt, rt.alloc(), run, 1024, &options, *finish);
     }
 }
 

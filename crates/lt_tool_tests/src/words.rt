@@ -7,13 +7,22 @@ use lt_tool::{
 };
 use std::alloc::Global;
 use std::fs::Files;
+use std::process::Abort;
 use std::sync::Wait;
 use std::test::*;
 use std::thread::Threads;
 
-/// What each line shows: the words behind the program's name, standard input, the status, standard output, and standard
-/// error.
-const ENDS: [(&str, &[&str], &str, u8, &str, &str); 38] = [
+/// What it shows, the words behind the program's name, standard input, the status, standard output, and standard error.
+type Case = (
+    &'static str,
+    &'static [&'static str],
+    &'static str,
+    u8,
+    &'static str,
+    &'static str,
+);
+
+const ENDS: [Case; 38] = [
     (
         "a script that is not there",
         &["run", "no-such-file"],
@@ -314,7 +323,7 @@ const ENDS: [(&str, &[&str], &str, u8, &str, &str); 38] = [
 ];
 
 /// The same of runs with options.
-const ENDS_WITH_OPTIONS: [(&str, &[&str], &str, u8, &str, &str); 3] = [
+const ENDS_WITH_OPTIONS: [Case; 3] = [
     (
         "turns that are used up",
         &["run", "--threads", "--turns", "10"],
@@ -376,29 +385,34 @@ fn ended<H: Threads + Wait + Sync, F: Files>(
     Err(Failure::Memory)
 }
 
+/// Asks that the program ends as the case says.
+fn expect_end<H: Threads + Wait + Sync + Abort, F: Files>(
+    rt: &H,
+    alloc: Global,
+    files: &F,
+    case: &Case,
+) {
+    let (what, words, input, code, written, message) = *case;
+    let mut output = blank(1024, 1024);
+    let mut told = blank(1024, 1024);
+    let ending = ended(rt, alloc, files, words, input, &mut output);
+    assert!(rt; complain(&mut told, &ending).is_ok(), "{what}");
+    assert_eq!(rt; status(&ending), code, "{what}");
+    assert!(rt; output.written() == written.as_bytes(), "{what}");
+    assert!(rt; told.written() == message.as_bytes(), "{what}");
+}
+
 #[test]
 fn words_and_texts_end_as_the_rules_say(rt: HostRuntime) {
-    for (what, words, input, code, written, message) in ENDS {
-        let mut output = blank(1024, 1024);
-        let mut told = blank(1024, 1024);
-        let ending = ended(&rt, rt.alloc(), &rt, words, input, &mut output);
-        assert_eq!(rt; complain(&mut told, &ending), Ok(()), "{what}");
-        assert_eq!(rt; status(&ending), code, "{what}");
-        assert_eq!(rt; output.written(), written.as_bytes(), "{what}");
-        assert_eq!(rt; told.written(), message.as_bytes(), "{what}");
+    for case in &ENDS {
+        expect_end(&rt, rt.alloc(), &rt, case);
     }
 }
 
 #[test]
 fn options_end_as_the_rules_say(rt: HostRuntime) {
-    for (what, words, input, code, written, message) in ENDS_WITH_OPTIONS {
-        let mut output = blank(1024, 1024);
-        let mut told = blank(1024, 1024);
-        let ending = ended(&rt, rt.alloc(), &rt, words, input, &mut output);
-        assert_eq!(rt; complain(&mut told, &ending), Ok(()), "{what}");
-        assert_eq!(rt; status(&ending), code, "{what}");
-        assert_eq!(rt; output.written(), written.as_bytes(), "{what}");
-        assert_eq!(rt; told.written(), message.as_bytes(), "{what}");
+    for case in &ENDS_WITH_OPTIONS {
+        expect_end(&rt, rt.alloc(), &rt, case);
     }
 }
 

@@ -9,12 +9,11 @@ use std::alloc::{AllocError, Global};
 use std::sync::Wait;
 use std::thread::{Threads, join};
 
-/// What a worker hands back: its pass, the numbers that it drew, and the steps that it made.
+/// What a worker hands back: its pass, and the numbers that it drew.
 #[derive(Drop)]
-pub struct Worked {
-    pub pass: Pass,
-    pub numbers: Vec<u64>,
-    pub steps: u64,
+struct Worked {
+    pass: Pass,
+    numbers: Vec<u64>,
 }
 
 /// The step of a finish at a key that nobody holds.
@@ -78,21 +77,15 @@ fn work<R: Wait>(
         let number = book.draw(rt, &mut pass, 1 << 40)?;
         numbers.push(number).ok()?;
     }
-    let mut steps = 0;
     for k in 0..16 {
         let entry = idle_finish(alloc, first + k, pass.number(), txn).ok()?;
         first_step(rt, book, &mut pass, 64, &entry, txn);
-        steps += 1;
     }
-    Some(Worked {
-        pass,
-        numbers,
-        steps,
-    })
+    Some(Worked { pass, numbers })
 }
 
 /// Two workers at once.
-pub fn two_workers<R: Threads + Wait + Sync>(
+fn two_workers<R: Threads + Wait + Sync>(
     rt: &R,
     alloc: Global,
     book: &Book,
@@ -122,7 +115,7 @@ pub fn two_workers<R: Threads + Wait + Sync>(
 }
 
 /// Four workers at once.
-pub fn four_workers<R: Threads + Wait + Sync>(
+fn four_workers<R: Threads + Wait + Sync>(
     rt: &R,
     alloc: Global,
     book: &Book,
@@ -153,7 +146,7 @@ pub fn four_workers<R: Threads + Wait + Sync>(
 }
 
 /// Whether each of the 64 shards has just one step. Where one has another number of steps it does not return.
-pub fn one_step_each<R: Wait>(rt: &R, book: &Book, pass: &mut Pass)
+fn one_step_each<R: Wait>(rt: &R, book: &Book, pass: &mut Pass)
     requires of { book.now ≡ pass.old.of }
     requires shards { book.now.shards ≡ 64 }
     ensures { pass.new.of ≡ pass.old.of }
@@ -162,4 +155,72 @@ pub fn one_step_each<R: Wait>(rt: &R, book: &Book, pass: &mut Pass)
         let mut front = book.front();
         book.exact(rt, pass, &mut front, shard, 1);
     }
+}
+
+/// A new book of 64 shards, and its two passes.
+fn open_for_two(alloc: Global) -> Option<(Book, Pass, Pass)>
+    ensures shards { IfSome result (λ r. r.0.shards ≡ 64) }
+    ensures one { IfSome result (λ r. r.1.of ≡ r.0) }
+    ensures two { IfSome result (λ r. r.2.of ≡ r.0) }
+{
+    let (book, mut passes) = Book::open(alloc, 64, 2).ok()?;
+    let two = passes.pop()?;
+    let one = passes.pop()?;
+    Some((book, one, two))
+}
+
+/// A new book of 64 shards, and its four passes.
+fn open_for_four(alloc: Global) -> Option<(Book, (Pass, Pass, Pass, Pass))>
+    ensures shards { IfSome result (λ r. r.0.shards ≡ 64) }
+    ensures one { IfSome result (λ r. r.1.0.of ≡ r.0) }
+    ensures two { IfSome result (λ r. r.1.1.of ≡ r.0) }
+    ensures three { IfSome result (λ r. r.1.2.of ≡ r.0) }
+    ensures four { IfSome result (λ r. r.1.3.of ≡ r.0) }
+{
+    let (book, mut passes) = Book::open(alloc, 64, 4).ok()?;
+    let four = passes.pop()?;
+    let three = passes.pop()?;
+    let two = passes.pop()?;
+    let one = passes.pop()?;
+    Some((book, (one, two, three, four)))
+}
+
+/// The numbers that two workers at once draw from a new book, each so many.
+pub fn drawn_by_two<R: Threads + Wait + Sync>(
+    rt: &R,
+    alloc: Global,
+    draws: u64,
+) -> Option<Vec<u64>> {
+    let (book, one, two) = open_for_two(alloc)?;
+    let (a, b) = two_workers(rt, alloc, &book, one, two, 33, draws);
+    let mut numbers = a?.numbers;
+    numbers.extend_from_slice(&b?.numbers).ok()?;
+    Some(numbers)
+}
+
+/// The numbers that four workers at once draw from a new book, each so many; and how many draws it then counts. It
+/// returns where each shard has just one step.
+pub fn drawn_by_four<R: Threads + Wait + Sync>(
+    rt: &R,
+    alloc: Global,
+    draws: u64,
+) -> Option<(Vec<u64>, u64)> {
+    let (book, passes) = open_for_four(alloc)?;
+    let (a, b, c, d) = four_workers(rt, alloc, &book, passes, draws)?;
+    let mut numbers = a.numbers;
+    for more in [b.numbers, c.numbers, d.numbers] {
+        numbers.extend_from_slice(&more).ok()?;
+    }
+    let mut last = d.pass;
+    one_step_each(rt, &book, &mut last);
+    Some((numbers, book.drawn(&mut last)))
+}
+
+/// The least and the greatest of these numbers, and how many different ones they are.
+pub fn spread(mut numbers: Vec<u64>) -> Option<(u64, u64, usize)> {
+    numbers.sort().ok()?;
+    numbers.dedup();
+    let least = *numbers.first()?;
+    let greatest = *numbers.last()?;
+    Some((least, greatest, numbers.len()))
 }

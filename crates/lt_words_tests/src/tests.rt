@@ -1,5 +1,5 @@
 use crate::named::open_by_name;
-use crate::race::{four_workers, one_step_each, two_workers};
+use crate::race::{drawn_by_four, drawn_by_two, spread};
 use crate::sharding::shards_of;
 use crate::shown::show_two_lets;
 use lt_words::Book;
@@ -9,44 +9,16 @@ use std::test::Fail;
 fn four_threads_draw_each_number_once_and_step_each_shard_once(
     rt: HostRuntime,
 ) -> Result<(), Fail> {
-    let (book, mut passes) = Book::open(rt.alloc(), 64, 4)?;
-    let four = passes.pop().ok_or("pass 4")?;
-    let three = passes.pop().ok_or("pass 3")?;
-    let two = passes.pop().ok_or("pass 2")?;
-    let one = passes.pop().ok_or("pass 1")?;
-    let (a, b, c, d) = four_workers(&rt, rt.alloc(), &book, (one, two, three, four), 500).ok_or(
-        "four workers",
-    )?;
-    let mut numbers = a.numbers;
-    numbers.extend_from_slice(&b.numbers)?;
-    numbers.extend_from_slice(&c.numbers)?;
-    numbers.extend_from_slice(&d.numbers)?;
-    numbers.sort()?;
-    assert_eq!(rt; numbers.first(), Some(&1));
-    assert_eq!(rt; numbers.last(), Some(&2000));
-    numbers.dedup();
-    assert_eq!(rt; numbers.len(), 2000);
-    let mut last = d.pass;
-    one_step_each(&rt, &book, &mut last);
-    assert_eq!(rt; book.drawn(&mut last), 2000);
+    let (numbers, count) = drawn_by_four(&rt, rt.alloc(), 500).ok_or("the four workers")?;
+    assert_eq!(rt; count, 2000);
+    assert_eq!(rt; spread(numbers), Some((1, 2000, 2000)));
     Ok(())
 }
 
 #[test]
 fn two_threads_draw_each_number_once(rt: HostRuntime) -> Result<(), Fail> {
-    let (book, mut passes) = Book::open(rt.alloc(), 64, 2)?;
-    let two = passes.pop().ok_or("pass 2")?;
-    let one = passes.pop().ok_or("pass 1")?;
-    let (a, b) = two_workers(&rt, rt.alloc(), &book, one, two, 33, 1000);
-    let a = a.ok_or("the first worker")?;
-    let b = b.ok_or("the second worker")?;
-    let mut numbers = a.numbers;
-    numbers.extend_from_slice(&b.numbers)?;
-    numbers.sort()?;
-    assert_eq!(rt; numbers.first(), Some(&1));
-    assert_eq!(rt; numbers.last(), Some(&2000));
-    numbers.dedup();
-    assert_eq!(rt; numbers.len(), 2000);
+    let numbers = drawn_by_two(&rt, rt.alloc(), 1000).ok_or("the two workers")?;
+    assert_eq!(rt; spread(numbers), Some((1, 2000, 2000)));
     Ok(())
 }
 

@@ -396,7 +396,7 @@ fn put(
     rt: &impl Abort,
     links: &mut Links,
     queue: &Queue,
-    at: Option<NodeId>,
+    at: &Option<NodeId>,
     stand: &Stand,
 ) -> Result<NodeId, AllocError> {
     let before = seen(rt, links, queue);
@@ -405,14 +405,14 @@ fn put(
         let put = match at {
             None => links.push_front(*queue, *stand),
             Some(node) => {
-                assert!(rt; has_node(links, node));
-                links.insert_after(node, *stand)
+                assert!(rt; has_node(links, *node));
+                links.insert_after(*node, *stand)
             }
         };
         if put.is_ok() {
             return put;
         }
-        assert_eq!(rt; seen(rt, links, queue), before);
+        assert!(rt; seen(rt, links, queue) == before);
     }
     Err(AllocError)
 }
@@ -431,34 +431,59 @@ fn add_record(rt: &impl Abort, links: &mut Links, known: &[Queue]) -> Result<Rec
         }
         assert_eq!(rt; links.heads.len(), records);
         if let Some(queue) = known.first() {
-            assert_eq!(rt; seen(rt, links, queue), before);
+            assert!(rt; seen(rt, links, queue) == before);
         }
     }
     Err(AllocError)
 }
 
-// Beside the calls of the links nothing here takes memory. So whichever one allocation is refused, as by
-// `rt try --test --fail-alloc N`, this test sees a call refused, made again, and answered as in the other links.
-#[test]
-fn after_refused_memory_the_same_call_answers_as_ever(rt: HostRuntime) -> Result<(), Fail> {
-    let mut one = Links::new(rt.alloc());
-    let mut other = Links::new(rt.alloc());
-    let id = add_record(&rt, &mut one, &[])?;
-    assert_eq!(rt; add_record(&rt, &mut other, &[])?, id);
+/// Makes the same two calls at both links, which then look alike, and gives the new node.
+fn grow_both(
+    rt: &impl Abort,
+    one: &mut Links,
+    other: &mut Links,
+    queue: &Queue,
+    turn: u32,
+    last: &Option<NodeId>,
+) -> Result<NodeId, AllocError> {
+    let behind = if turn % 3 == 0 { None } else { *last };
+    let stand = stand_of(rt, u64::from(turn), turn);
+    let node = put(rt, one, queue, &behind, &stand)?;
+    let same = put(rt, other, queue, &behind, &stand)?;
+    assert_eq!(rt; same, node);
+    let more = add_record(rt, one, &[*queue])?;
+    let same = add_record(rt, other, &[*queue])?;
+    assert_eq!(rt; same, more);
+    assert!(rt; seen(rt, one, queue) == seen(rt, other, queue));
+    Ok(node)
+}
+
+/// Fourteen turns at both links, in a queue of their first record.
+fn grow_fourteen_times(
+    rt: &impl Abort,
+    one: &mut Links,
+    other: &mut Links,
+) -> Result<(), AllocError> {
+    let id = add_record(rt, one, &[])?;
+    let same = add_record(rt, other, &[])?;
+    assert_eq!(rt; same, id);
     let queue = Queue {
         id,
         kind: QueueKind::Readers,
     };
     let mut last = None;
     for turn in 0..14 {
-        let behind = if turn % 3 == 0 { None } else { last };
-        let stand = stand_of(&rt, turn, turn as u32);
-        let node = put(&rt, &mut one, &queue, behind, &stand)?;
-        assert_eq!(rt; put(&rt, &mut other, &queue, behind, &stand)?, node);
-        last = Some(node);
-        let more = add_record(&rt, &mut one, &[queue])?;
-        assert_eq!(rt; add_record(&rt, &mut other, &[queue])?, more);
-        assert_eq!(rt; seen(&rt, &one, &queue), seen(&rt, &other, &queue));
+        last = Some(grow_both(rt, one, other, &queue, turn, &last)?);
     }
+    Ok(())
+}
+
+// Beside the calls of the links nothing here takes memory. So whichever one allocation is refused, this test sees a call
+// refused, made again, and answered as in the other links.
+#[test]
+fn after_refused_memory_the_same_call_answers_as_ever(rt: HostRuntime) -> Result<(), Fail> {
+    let mut one = Links::new(rt.alloc());
+    let mut other = Links::new(rt.alloc());
+    grow_fourteen_times(&rt, &mut one, &mut other)?;
     Ok(())
 }

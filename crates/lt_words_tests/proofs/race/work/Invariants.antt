@@ -7,5 +7,4 @@ invariant-loop g l = l.pass.of ≡ l.initial.pass.of
 abbrev pub invariant-loop-k : goal.invariant-loop-k
 invariant-loop-k g l = record {
   of : l.pass.of ≡ l.fn.pass.of;
-  steps : l.steps ≡ l.k;
 }

@@ -1,0 +1,169 @@
+#!/usr/bin/env python3
+"""Has the proved programs meet what their contracts do not say: refused memory, failing streams, odd texts, long runs.
+
+    python3 tools/hostile.py [--seconds S] [--texts N] [--runs N]
+
+The programs must have been built, as `rt ci` does. Each part prints what it tried; the last line is `N passed, M failed`.
+
+- Tests that hold whichever one allocation is refused run once for each of their allocations.
+- `lockrun` runs the scripts of examples/, checks their histories and tells its help, once for each allocation that is
+  refused, each read that fails, each write that fails, and each write that takes one byte. It must end as
+  docs/FORMATS.md says: status 4 or 5 with its message and, but for a failed write, nothing written; a front of the
+  output after a failed write; or just what it writes otherwise.
+- `lockbench texts` tries scripts and histories that were changed by chance, N of them.
+- `lockbench soak` plays random requests on threads for S seconds.
+- tools/random_runs.py compares N random scripts with what the rules of a pass say.
+"""
+
+import argparse
+import glob
+import os
+import re
+import subprocess
+import sys
+import tempfile
+from concurrent.futures import ThreadPoolExecutor
+
+HERE = os.path.dirname(os.path.abspath(__file__))
+CRATES = os.path.join(os.path.dirname(HERE), 'crates')
+
+# Tests that hold whichever one allocation is refused, by crate: those whose names begin so.
+TESTS = [
+    ('lt_links', 'links::tests::after_refused_memory'),
+    ('lt_lock_tests', 'tests::the_'),
+    ('lt_words_tests', 'tests::a_refused_open'),
+    ('lt_words_tests', 'tests::a_book_is_used_by_its_name'),
+    ('lt_schedules_tests', 'tests::schedules_come_out_alike'),
+    ('lt_tool_tests', 'checks::'),
+    ('lt_tool_tests', 'scripts::'),
+    ('lt_tool_tests', 'words::'),
+]
+
+
+def built(crate, tests=False):
+    return os.path.join(CRATES, crate, 'out', crate + ('_tests' if tests else ''))
+
+
+class Shim:
+    """Runs programs with one request refused."""
+
+    def __init__(self, folder):
+        self.library = os.path.join(folder, 'refuse.so')
+        source = os.path.join(HERE, 'refuse.c')
+        subprocess.run(['cc', '-O1', '-shared', '-fPIC', '-o', self.library, source, '-ldl'], check=True)
+
+    def run(self, words, text=b'', **refused):
+        """Returns the status, standard output, standard error, and how much memory, reads and writes were asked for."""
+        read_end, write_end = os.pipe()
+        settings = [f'{name.upper()}={number}' for name, number in refused.items()]
+        process = subprocess.Popen(
+            ['sh', '-c', f'exec env LD_PRELOAD={self.library} "$@" 9>&{write_end}', '', *settings, *words],
+            stdin=subprocess.PIPE, stdout=subprocess.PIPE, stderr=subprocess.PIPE, pass_fds=[write_end])
+        os.close(write_end)
+        try:
+            out, err = process.communicate(text, timeout=120)
+        except subprocess.TimeoutExpired:
+            process.kill()
+            out, err = process.communicate()
+        with os.fdopen(read_end) as told:
+            counts = [int(word) for word in told.read().split()[-3:]]
+        return process.returncode, out, err, counts or [0, 0, 0]
+
+
+class Report:
+    def __init__(self):
+        self.passed = self.failed = 0
+
+    def tell(self, what, faults):
+        print(f"{'FAILED' if faults else 'passed'}: {what}", flush=True)
+        for fault in faults[:5]:
+            print(f'    {fault}')
+        self.passed, self.failed = self.passed + (not faults), self.failed + bool(faults)
+
+
+def tests_of(program, prefix):
+    listed = subprocess.run([program, '--list'], capture_output=True, text=True).stdout
+    names = [re.sub(r':? ?test$', '', line).strip() for line in listed.splitlines()]
+    return [name for name in names if name.startswith(prefix)]
+
+
+def refuse_in_tests(report, shim, lanes):
+    for crate, prefix in TESTS:
+        program = built(crate, tests=True)
+        names = tests_of(program, prefix) if os.path.exists(program) else []
+        if not names:
+            report.tell(f'{crate}: no test {prefix}* is built', ['run rt ci, or rt test in the crate'])
+        for name in names:
+            status, _, err, (requests, _, _) = shim.run([program, name])
+            faults = [f'without a refusal: status {status}'] if status else []
+            ended = lanes.map(lambda n: (n, shim.run([program, name], refuse_memory=n)), range(1, requests + 1))
+            faults += [f'allocation {n}: status {status}, {err[-200:]!r}' for n, (status, _, err, _) in ended if status]
+            report.tell(f'{crate}, {name}: {requests} allocations, each refused once', faults)
+
+
+def as_told(kind, ran, status, out):
+    """Whether the program ended as its formats say where something of this kind was refused."""
+    got, wrote, err, _ = ran
+    if (got, wrote, err) == (status, out, b''):
+        return True
+    if kind == 'refuse_memory':
+        return (got, wrote, err) == (4, b'', b'lockrun: memory\n')
+    if kind == 'refuse_read':
+        return (got, wrote, err) == (5, b'', b'lockrun: read\n')
+    return kind == 'refuse_write' and got == 5 and out.startswith(wrote) and err == b'lockrun: write\n'
+
+
+def refuse_in_program(report, shim, lanes):
+    program = built('lockrun')
+    scripts = sorted(it for it in glob.glob(os.path.join(os.path.dirname(HERE), 'examples', '*')) if '.' not in it.rpartition('/')[2])
+    runs = [(['run', *options], open(it, 'rb').read()) for it in scripts for options in ([], ['--threads'])]
+    histories = [open(it + '.stdout', 'rb').read() for it in scripts]
+    runs += [(['check'], it[it.index(b'locks 1\n'):]) for it in histories]
+    runs += [(['run', scripts[0]], b''), (['--help'], b''), (['run', '--help'], b'')]
+    totals, faults = {}, []
+    for words, text in runs:
+        # An `await` with threads may poll before or after a let, so such a run is compared where it has no `await`.
+        if '--threads' in words and b'await' in text:
+            continue
+        status, out, err, counts = shim.run([program, *words], text)
+        if status or err:
+            faults.append(f'{words}: status {status} without a refusal')
+        for kind, count in zip(('refuse_memory', 'refuse_read', 'refuse_write', 'short_write'), [*counts, counts[2]]):
+            ended = lanes.map(lambda n: (n, shim.run([program, *words], text, **{kind: n})), range(1, count + 1))
+            faults += [f'{words}: {kind} {n}: status {ran[0]}, {len(ran[1])} bytes, {ran[2]!r}' for n, ran in ended
+                       if not as_told(kind, ran, status, out)]
+            totals[kind] = totals.get(kind, 0) + count
+    said = f"{totals['refuse_memory']} allocations, {totals['refuse_read']} reads and {totals['refuse_write']} writes"
+    report.tell(f"lockrun: {said}, each refused once, and {totals['short_write']} writes that took one byte", faults)
+
+
+def ends_with_none_wrong(report, words, folder):
+    ran = subprocess.run(words, capture_output=True, text=True, cwd=folder)
+    lines = ran.stdout.strip().splitlines()
+    is_right = ran.returncode == 0 and lines and re.search(r'\b0 wrong\b', lines[-1])
+    what = ' '.join([os.path.basename(words[0]), *words[1:]])
+    report.tell(f"{what}: {'; '.join(lines[-2:])}", [] if is_right else [f'status {ran.returncode}: {ran.stderr[-300:]}'])
+
+
+def main():
+    parser = argparse.ArgumentParser(description=__doc__, formatter_class=argparse.RawDescriptionHelpFormatter)
+    parser.add_argument('--seconds', type=int, default=600)
+    parser.add_argument('--texts', type=int, default=1000000)
+    parser.add_argument('--runs', type=int, default=2000)
+    given = parser.parse_args()
+    report = Report()
+    with tempfile.TemporaryDirectory() as folder, ThreadPoolExecutor(os.cpu_count()) as lanes:
+        shim = Shim(folder)
+        refuse_in_tests(report, shim, lanes)
+        refuse_in_program(report, shim, lanes)
+        bench = built('lockbench')
+        ends_with_none_wrong(report, [bench, 'texts', '--count', str(given.texts)], folder)
+        ends_with_none_wrong(report, [bench, 'soak', '--seconds', str(given.seconds)], folder)
+        compare = [sys.executable, os.path.join(HERE, 'random_runs.py'), '--runs', str(given.runs)]
+        ends_with_none_wrong(report, compare, os.path.dirname(HERE))
+    print(f'{report.passed} passed, {report.failed} failed')
+    return 1 if report.failed else 0
+
+
+if __name__ == '__main__':
+    sys.exit(main())
