@@ -39,6 +39,13 @@ TESTS = [
     ('lt_tool_tests', 'words::'),
 ]
 
+# This one needs two threads, which cannot be made where memory for one is refused: its passes then run in turn. That one
+# takes no memory.
+OTHERS = ['scripts::passes_work_at_once', 'words::failures_are_told']
+
+# Two passes with a key each: on threads, too, it has one output.
+APART = b'1 acquire 7 20.0 a\n2 open 8 20.0 b:w c:r\n2 scan\n1 finish 7 a\n2 acquire 8 20.0 b\n2 finish 8 b\n2 leave\n'
+
 
 def built(crate, tests=False):
     return os.path.join(CRATES, crate, 'out', crate + ('_tests' if tests else ''))
@@ -55,10 +62,10 @@ class Shim:
     def run(self, words, text=b'', **refused):
         """Returns the status, standard output, standard error, and how much memory, reads and writes were asked for."""
         read_end, write_end = os.pipe()
-        settings = [f'{name.upper()}={number}' for name, number in refused.items()]
-        process = subprocess.Popen(
-            ['sh', '-c', f'exec env LD_PRELOAD={self.library} "$@" 9>&{write_end}', '', *settings, *words],
-            stdin=subprocess.PIPE, stdout=subprocess.PIPE, stderr=subprocess.PIPE, pass_fds=[write_end])
+        settings = {'LD_PRELOAD': self.library, 'TELL': str(write_end)}
+        settings |= {name.upper(): str(number) for name, number in refused.items()}
+        process = subprocess.Popen(words, env={**os.environ, **settings}, pass_fds=[write_end], stdin=subprocess.PIPE,
+                                   stdout=subprocess.PIPE, stderr=subprocess.PIPE)
         os.close(write_end)
         try:
             out, err = process.communicate(text, timeout=120)
@@ -84,7 +91,7 @@ class Report:
 def tests_of(program, prefix):
     listed = subprocess.run([program, '--list'], capture_output=True, text=True).stdout
     names = [re.sub(r':? ?test$', '', line).strip() for line in listed.splitlines()]
-    return [name for name in names if name.startswith(prefix)]
+    return [name for name in names if name.startswith(prefix) and name not in OTHERS]
 
 
 def refuse_in_tests(report, shim, lanes):
@@ -95,7 +102,7 @@ def refuse_in_tests(report, shim, lanes):
             report.tell(f'{crate}: no test {prefix}* is built', ['run rt ci, or rt test in the crate'])
         for name in names:
             status, _, err, (requests, _, _) = shim.run([program, name])
-            faults = [f'without a refusal: status {status}'] if status else []
+            faults = [f'without a refusal: status {status}'] if status else [] if requests else ['no allocation']
             ended = lanes.map(lambda n: (n, shim.run([program, name], refuse_memory=n)), range(1, requests + 1))
             faults += [f'allocation {n}: status {status}, {err[-200:]!r}' for n, (status, _, err, _) in ended if status]
             report.tell(f'{crate}, {name}: {requests} allocations, each refused once', faults)
@@ -116,15 +123,12 @@ def as_told(kind, ran, status, out):
 def refuse_in_program(report, shim, lanes):
     program = built('lockrun')
     scripts = sorted(it for it in glob.glob(os.path.join(os.path.dirname(HERE), 'examples', '*')) if '.' not in it.rpartition('/')[2])
-    runs = [(['run', *options], open(it, 'rb').read()) for it in scripts for options in ([], ['--threads'])]
+    runs = [(['run'], open(it, 'rb').read()) for it in scripts] + [(['run'], APART), (['run', '--threads'], APART)]
     histories = [open(it + '.stdout', 'rb').read() for it in scripts]
     runs += [(['check'], it[it.index(b'locks 1\n'):]) for it in histories]
     runs += [(['run', scripts[0]], b''), (['--help'], b''), (['run', '--help'], b'')]
     totals, faults = {}, []
     for words, text in runs:
-        # An `await` with threads may poll before or after a let, so such a run is compared where it has no `await`.
-        if '--threads' in words and b'await' in text:
-            continue
         status, out, err, counts = shim.run([program, *words], text)
         if status or err:
             faults.append(f'{words}: status {status} without a refusal')

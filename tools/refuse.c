@@ -1,7 +1,7 @@
 /* Refuses one request for memory, one read or one write: the one whose number stands in REFUSE_MEMORY, REFUSE_READ or
    REFUSE_WRITE, counted from 1. A request for memory is a call of malloc, calloc or realloc, and gets none; a read or a
    write fails with EIO. SHORT_WRITE=N has the Nth write take one byte alone, so that another one follows. At the end
-   the numbers of all three are written to file descriptor 9, if that is open.
+   the numbers of all three are written to the file descriptor that TELL names.
    Built as a shared library and loaded by LD_PRELOAD; see hostile.py. */
 #define _GNU_SOURCE
 #include <dlfcn.h>
@@ -37,18 +37,33 @@ __attribute__((constructor)) static void find(void) {
 }
 
 __attribute__((destructor)) static void tell(void) {
+    static int told;
     char text[96];
+    if (told++) return;
     int n = snprintf(text, sizeof text, "%lu %lu %lu\n", requests, reads, writes);
-    if (next_write(9, text, n) < 0) { }
+    if (next_write((int)number("TELL"), text, n) < 0) { }
+}
+
+/* A program with threads ends so, without the destructors of its libraries. */
+void _exit(int status) {
+    void (*next)(int) = (void (*)(int))dlsym(RTLD_NEXT, "_exit");
+    tell();
+    next(status);
+    __builtin_unreachable();
 }
 
 static int is_next(unsigned long *count, unsigned long refused) {
     return __atomic_add_fetch(count, 1, __ATOMIC_SEQ_CST) == refused;
 }
 
+static void *none(void) {
+    errno = ENOMEM;
+    return NULL;
+}
+
 void *malloc(size_t size) {
     if (!next_malloc) next_malloc = dlsym(RTLD_NEXT, "malloc");
-    return is_next(&requests, refuse_memory) ? NULL : next_malloc(size);
+    return is_next(&requests, refuse_memory) ? none() : next_malloc(size);
 }
 
 /* dlsym itself may ask for zeroed memory while it looks for calloc: it gets none, which it can do without. */
@@ -60,12 +75,12 @@ void *calloc(size_t count, size_t size) {
         next_calloc = dlsym(RTLD_NEXT, "calloc");
         finding = 0;
     }
-    return is_next(&requests, refuse_memory) ? NULL : next_calloc(count, size);
+    return is_next(&requests, refuse_memory) ? none() : next_calloc(count, size);
 }
 
 void *realloc(void *old, size_t size) {
     if (!next_realloc) next_realloc = dlsym(RTLD_NEXT, "realloc");
-    return is_next(&requests, refuse_memory) ? NULL : next_realloc(old, size);
+    return is_next(&requests, refuse_memory) ? none() : next_realloc(old, size);
 }
 
 ssize_t read(int file, void *to, size_t most) {

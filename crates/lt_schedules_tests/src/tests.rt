@@ -4,8 +4,11 @@ use crate::schedule::{Schedule, random_schedule};
 use crate::steps::{Asked, Step};
 use lt_history::Entry;
 use lt_ids::{Access, Timestamp};
-use lt_plain::Call;
+use lt_plain::{Call, Reply};
 use lt_rules_tests::second::{Let, Time};
+use lt_table::ScanError;
+use lt_table_player::command::Told;
+use lt_table_player::desk::Line;
 use lt_table_player::run::{Ran, run};
 use std::alloc::{AllocError, Global};
 use std::process::Abort;
@@ -52,6 +55,18 @@ fn lets_of(alloc: Global, entry: &Entry) -> Result<Vec<Let>, AllocError> {
     Ok(lets)
 }
 
+/// Whether the line has these replies. After a scan that was refused memory and made again, the guard tells those of the
+/// further one alone, until it scans again or leaves.
+fn has_replies(ran: &Ran, line: &Line, wanted: &[Reply]) -> bool {
+    let is_aside = match line.told {
+        Told::Scanned(_) | Told::NotScanned(ScanError::HistoryFull) => false,
+        Told::NotScanned(ScanError::WaitsOut) | Told::Left | Told::NotLeft(_) => false,
+        _ => true,
+    };
+    let replies = line.replies.as_slice();
+    replies == wanted || ran.refused == 1 && is_aside && wanted.ends_with(replies)
+}
+
 /// Each command was told what the rules give, with the same replies and at the same place.
 fn compare_lines<R: Abort>(rt: &R, seed: u64, schedule: &Schedule, ran: &Ran) -> Result<(), Fail> {
     assert_eq!(rt; ran.lines.len(), schedule.lines.len());
@@ -64,7 +79,7 @@ fn compare_lines<R: Abort>(rt: &R, seed: u64, schedule: &Schedule, ran: &Ran) ->
             "the place, seed {seed}, command {number}"
         );
         assert!(rt;
-            line.replies == wanted.replies,
+            has_replies(ran, line, &wanted.replies),
             "the replies differ, seed {seed}, command {number}"
         );
         number = number.wrapping_add(1);

@@ -7,7 +7,7 @@ use crate::command::{Command, Row};
 use crate::desk::{Line, play};
 use crate::holds::Holds;
 use crate::seat::Seat;
-use lt_plain::KeyTable;
+use lt_plain::{KeyTable, Reply};
 use lt_table::{CloseError, CloseRefused, Config, Guard, Histories, Ready, Table, open, prepare};
 use lt_words::{Name, Pass};
 use std::alloc::{AllocError, Global};
@@ -79,9 +79,22 @@ pub fn close_all<N: Name, T: KeyTable + Drop, R: Wait>(
     }
 }
 
-/// Plays the command on the seat. A call that is refused memory is made again: the steps that it made before stand, and a
-/// further scan or leave makes the others. Where it is no scan and no leave, the guard still has the answers of its latest
-/// scan.
+/// The replies of a call that was refused memory and of the same call made again. The steps that a scan made before it was
+/// refused stand, and the further one makes the others; a guard that is leaving tells all answers of its leave; any other
+/// call leaves the guard with the answers of its latest scan. None where it is otherwise.
+fn joined(command: &Command, mut first: Vec<Reply>, again: Vec<Reply>) -> Option<Vec<Reply>> {
+    let is_right = match command {
+        Command::Scan => {
+            first.extend_from_slice(&again).ok()?;
+            return Some(first);
+        }
+        Command::Leave => again.starts_with(&first),
+        _ => first == again,
+    };
+    if is_right { Some(again) } else { None }
+}
+
+/// Plays the command on the seat, and once more where it is refused memory.
 fn play_through<N: Name, T: KeyTable, R: Wait>(
     rt: &R,
     alloc: Global,
@@ -90,20 +103,15 @@ fn play_through<N: Name, T: KeyTable, R: Wait>(
     command: &Command,
     refused: &mut usize,
 ) -> Option<(Seat<N>, Line)> {
-    let (seat, mut line) = play(rt, alloc, table, seat, command)?;
+    let (seat, line) = play(rt, alloc, table, seat, command)?;
     if !line.told.is_out_of_memory() {
         return Some((seat, line));
     }
     *refused = refused.saturating_add(1);
     let (seat, again) = play(rt, alloc, table, seat, command)?;
-    if let Command::Scan | Command::Leave = command {
-        line.replies.extend_from_slice(&again.replies).ok()?;
-    } else if line.replies != again.replies {
-        return None;
-    }
-    line.told = again.told;
-    line.at = again.at;
-    Some((seat, line))
+    let Line { told, replies, at } = again;
+    let replies = joined(command, line.replies, replies)?;
+    Some((seat, Line { told, replies, at }))
 }
 
 /// Plays the commands of the rows, each on the seat of the pass at its place, from 0, and closes the table.

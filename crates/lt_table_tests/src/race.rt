@@ -75,6 +75,24 @@ fn work<N: Name, T: KeyTable, R: Wait>(
     one(rt, alloc, table, worked, &Command::Leave)
 }
 
+/// Both workers at once.
+fn work_both<N: Name + Send + Sync, T: KeyTable + Send, R: Threads + Wait + Sync>(
+    rt: &R,
+    alloc: Global,
+    table: &Table<N, T>,
+    mut seats: Vec<Seat<N>>,
+    keys: (u8, u8),
+) -> Option<(Worked<N>, Worked<N>)> {
+    let two = seats.pop()?;
+    let one = seats.pop()?;
+    let (first, second) = join(
+        rt,
+        move || work(rt, alloc, table, one, keys.0),
+        move || work(rt, alloc, table, two, keys.1),
+    );
+    Some((first?, second?))
+}
+
 fn race_named<N: Name + Send + Sync, R: Threads + Wait + Sync>(
     rt: &R,
     alloc: Global,
@@ -84,24 +102,15 @@ fn race_named<N: Name + Send + Sync, R: Threads + Wait + Sync>(
     requires { ready.of ≡ N.of }
 {
     let (table, passes) = open::<N>(alloc, ready).ok()?;
-    let mut seats = seated::<N>(alloc, passes)?;
-    let two = seats.pop()?;
-    let one = seats.pop()?;
-    let inside = &table;
-    let (first, second) = join(
-        rt,
-        move || work(rt, alloc, inside, one, keys.0),
-        move || work(rt, alloc, inside, two, keys.1),
-    );
-    let first = first?;
-    let second = second?;
+    let seats = seated::<N>(alloc, passes)?;
+    let (one, two) = work_both(rt, alloc, &table, seats, keys)?;
     let mut seats = Vec::new(alloc);
-    seats.push(first.seat).ok()?;
-    seats.push(second.seat).ok()?;
+    seats.push(one.seat).ok()?;
+    seats.push(two.seat).ok()?;
     let histories = close_all(rt, alloc, table, seats)?;
     Some(Raced {
-        first: first.lines,
-        second: second.lines,
+        first: one.lines,
+        second: two.lines,
         histories,
     })
 }

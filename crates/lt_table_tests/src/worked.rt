@@ -182,6 +182,37 @@ fn a_shard_fills_in_the_middle_of_a_scan(rt: HostRuntime) -> Result<(), Fail> {
     Ok(())
 }
 
+/// The second key's shard is full in the middle of a leave: the step at the first key stands, and the request stays on its
+/// way.
+#[test]
+fn a_shard_is_full_in_the_middle_of_a_leave(rt: HostRuntime) -> Result<(), Fail> {
+    let alloc = rt.alloc();
+    let full = Told::NotLeft(StepError::HistoryFull);
+    let take = Command::Acquire {
+        txn: 9,
+        wall: 1,
+        key: b'b',
+    };
+    let rows = vec![in alloc;
+        (1, take, Told::Stepped(Reply::Taken)),
+        (0, enter(alloc, 1, 1, b"awbw")?, Told::Entered(1)),
+        (0, Command::Leave, full),
+        (0, Command::Leave, full),
+        (0, Command::Scan, Told::NotScanned(ScanError::Leaving)),
+    ]?;
+    let limits = Config {
+        max_steps: 1,
+        ..config(2, 2)
+    };
+    let ran = plays(&rt, alloc, limits, &rows)?;
+    let first: &[Reply] = &[Reply::Absent];
+    for place in 2..5 {
+        assert_eq!(rt; replies_at(&ran, place), Some(first));
+    }
+    assert_eq!(rt; steps_of(alloc, &ran)?.as_slice(), [1, 1].as_slice());
+    Ok(())
+}
+
 /// A key that is given to read and to write is visited once, as a write: the read alone would pass a later lock.
 #[test]
 fn a_request_names_1_to_256_accesses(rt: HostRuntime) -> Result<(), Fail> {
