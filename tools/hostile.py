@@ -10,6 +10,7 @@ The programs must have been built, as `rt ci` does. Each part prints what it tri
   refused, each read that fails, each write that fails, and each write that takes one byte. It must end as
   docs/FORMATS.md says: status 4 or 5 with its message and, but for a failed write, nothing written; a front of the
   output after a failed write; or just what it writes otherwise.
+- Scripts and histories of examples/, cut at every byte, are told as docs/FORMATS.md says.
 - `lockbench texts` tries scripts and histories that were changed by chance, N of them.
 - `lockbench soak` plays random requests on threads for S seconds.
 - tools/random_runs.py compares N random scripts with what the rules of a pass say.
@@ -120,9 +121,14 @@ def as_told(kind, ran, status, out):
     return kind == 'refuse_write' and got == 5 and out.startswith(wrote) and err == b'lockrun: write\n'
 
 
+def example_scripts():
+    found = glob.glob(os.path.join(os.path.dirname(HERE), 'examples', '*'))
+    return sorted(it for it in found if '.' not in os.path.basename(it))
+
+
 def refuse_in_program(report, shim, lanes):
     program = built('lockrun')
-    scripts = sorted(it for it in glob.glob(os.path.join(os.path.dirname(HERE), 'examples', '*')) if '.' not in it.rpartition('/')[2])
+    scripts = example_scripts()
     runs = [(['run'], open(it, 'rb').read()) for it in scripts] + [(['run'], APART), (['run', '--threads'], APART)]
     histories = [open(it + '.stdout', 'rb').read() for it in scripts]
     runs += [(['check'], it[it.index(b'locks 1\n'):]) for it in histories]
@@ -139,6 +145,102 @@ def refuse_in_program(report, shim, lanes):
             totals[kind] = totals.get(kind, 0) + count
     said = f"{totals['refuse_memory']} allocations, {totals['refuse_read']} reads and {totals['refuse_write']} writes"
     report.tell(f"lockrun: {said}, each refused once, and {totals['short_write']} writes that took one byte", faults)
+
+
+# The calls of a script's line with how many words they have; `open` has that many or more.
+CALLS = {b'open': 4, b'scan': 2, b'await': 2, b'look': 3, b'acquire': 5, b'update': 5, b'finish': 4, b'leave': 2}
+
+
+def is_number(word, least, below):
+    return re.fullmatch(rb'0|[1-9][0-9]*', word) is not None and least <= int(word) < below
+
+
+def is_time(word):
+    wall, dot, logical = word.partition(b'.')
+    return bool(dot) and is_number(wall, 0, 2 ** 64) and is_number(logical, 0, 2 ** 32)
+
+
+def is_key(word):
+    return re.fullmatch(rb'[!-~]{1,64}', word) is not None
+
+
+def line_fault(words):
+    """The first fault of a script's line by docs/FORMATS.md, or None."""
+    if not is_number(words[0], 1, 65):
+        return 'BadPass'
+    call = words[1] if len(words) > 1 else b''
+    if call not in CALLS:
+        return 'BadCall'
+    if len(words) != CALLS[call] and not (call == b'open' and len(words) > 4):
+        return 'BadWords'
+    rest = words[2:]
+    if call in (b'open', b'acquire', b'update', b'finish') and not is_number(rest.pop(0), 1, 2 ** 64):
+        return 'BadTxn'
+    if call in (b'open', b'acquire', b'update') and not is_time(rest.pop(0)):
+        return 'BadTime'
+    for word in rest:
+        if call == b'open':
+            if word[-2:] not in (b':r', b':w'):
+                return 'BadAccess'
+            word = word[:-2]
+        if not is_key(word):
+            return 'BadKey'
+    return None
+
+
+def script_told(text):
+    """What standard error has of this script."""
+    for number, line in enumerate(text.split(b'\n'), 1):
+        words = [word for word in line.split(b' ') if word]
+        fault = line_fault(words) if words and not line.startswith(b'#') else None
+        if fault:
+            return f'lockrun: line {number}: {fault}\n'.encode()
+    return b''
+
+
+def histories_told(text, n):
+    """What is written of the first n bytes of these histories, to standard output and to standard error."""
+    front = text[:n]
+    lines = front.count(b'\n')
+    if not lines:
+        return b'', b'lockrun: line 1: Header\n'
+    if not front.endswith(b'\n'):
+        return b'', f'lockrun: line {lines + 1}: Shape\n'.encode()
+    keys = {line.split(b' ')[0] for line in front.split(b'\n')[1:-1]}
+    return f'ok {len(keys)} keys {lines - 1} steps\n'.encode(), b''
+
+
+def cut_script(program, text, n):
+    """Whether the first n bytes of a script are refused for their fault, or run to histories that a check accepts."""
+    ran = subprocess.run([program], input=text[:n], capture_output=True)
+    told = script_told(text[:n])
+    if told:
+        return (ran.returncode, ran.stdout, ran.stderr) == (1, b'', told)
+    histories = ran.stdout[ran.stdout.find(b'locks 1\n'):]
+    answers = ran.stdout[:len(ran.stdout) - len(histories)].count(b'\n')
+    lines = [line for line in text[:n].split(b'\n') if line.strip(b' ') and not line.startswith(b'#')]
+    checked = subprocess.run([program, 'check'], input=histories, capture_output=True)
+    return (ran.returncode, ran.stderr, answers) == (0, b'', len(lines)) and checked.stdout.startswith(b'ok ')
+
+
+def cut_histories(program, text, n):
+    ran = subprocess.run([program, 'check'], input=text[:n], capture_output=True)
+    out, err = histories_told(text, n)
+    return (ran.returncode, ran.stdout, ran.stderr) == (1 if err else 0, out, err)
+
+
+def cut_everywhere(report, lanes):
+    """Each script of examples/, and the histories that it gives, cut at every byte."""
+    program = built('lockrun')
+    tried, faults = 0, []
+    for name in example_scripts():
+        script, output = open(name, 'rb').read(), open(name + '.stdout', 'rb').read()
+        for text, cut in ((script, cut_script), (output[output.index(b'locks 1\n'):], cut_histories)):
+            places = range(len(text) + 1)
+            ended = lanes.map(lambda n: (n, cut(program, text, n)), places)
+            faults += [f'{os.path.basename(name)}, {cut.__name__}: {n} bytes' for n, is_right in ended if not is_right]
+            tried += len(places)
+    report.tell(f'lockrun: scripts and histories cut at each of {tried} places', faults)
 
 
 def ends_with_none_wrong(report, words, folder):
@@ -160,9 +262,13 @@ def main():
         shim = Shim(folder)
         refuse_in_tests(report, shim, lanes)
         refuse_in_program(report, shim, lanes)
+        cut_everywhere(report, lanes)
         bench = built('lockbench')
         ends_with_none_wrong(report, [bench, 'texts', '--count', str(given.texts)], folder)
         ends_with_none_wrong(report, [bench, 'soak', '--seconds', str(given.seconds)], folder)
+        check = [built('lockrun'), 'check', 'lockbench.histories']
+        told = subprocess.run(check, capture_output=True, text=True, cwd=folder)
+        report.tell(f'lockrun check, of the soak\'s latest histories: {told.stdout.strip()}', [told.stderr] * (told.returncode != 0))
         compare = [sys.executable, os.path.join(HERE, 'random_runs.py'), '--runs', str(given.runs)]
         ends_with_none_wrong(report, compare, os.path.dirname(HERE))
     print(f'{report.passed} passed, {report.failed} failed')
