@@ -136,8 +136,8 @@ def refuse_in_program(report, shim, lanes):
     totals, faults = {}, []
     for words, text in runs:
         status, out, err, counts = shim.run([program, *words], text)
-        if status or err:
-            faults.append(f'{words}: status {status} without a refusal')
+        if status or err or 0 in (counts[0], counts[2]):
+            faults.append(f'{words}: without a refusal: status {status}, {counts} allocations, reads and writes')
         for kind, count in zip(('refuse_memory', 'refuse_read', 'refuse_write', 'short_write'), [*counts, counts[2]]):
             ended = lanes.map(lambda n: (n, shim.run([program, *words], text, **{kind: n})), range(1, count + 1))
             faults += [f'{words}: {kind} {n}: status {ran[0]}, {len(ran[1])} bytes, {ran[2]!r}' for n, ran in ended
@@ -240,7 +240,7 @@ def cut_everywhere(report, lanes):
             ended = lanes.map(lambda n: (n, cut(program, text, n)), places)
             faults += [f'{os.path.basename(name)}, {cut.__name__}: {n} bytes' for n, is_right in ended if not is_right]
             tried += len(places)
-    report.tell(f'lockrun: scripts and histories cut at each of {tried} places', faults)
+    report.tell(f'lockrun: scripts and histories cut at each of {tried} places', faults if tried else ['no examples'])
 
 
 def ends_with_none_wrong(report, words, folder):
