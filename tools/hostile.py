@@ -17,6 +17,7 @@ The programs must have been built, as `rt ci` does. Each part prints what it tri
 """
 
 import argparse
+import collections
 import glob
 import os
 import re
@@ -39,6 +40,13 @@ TESTS = [
     ('lt_tool_tests', 'scripts::'),
     ('lt_tool_tests', 'words::'),
 ]
+
+# The calls of a table that take memory, each of which must have been refused in the schedules. The table over plain tables
+# is opened by `open_with`, the other by `open`.
+CALLS_OF_BOTH = ['Prepare', 'Enter', 'Scan', 'Look', 'Leave', 'Acquire', 'AcquireIn', 'Update', 'UpdateIn', 'Finish', 'FinishIn',
+                 'Close']
+TABLE_CALLS = [f'{table} {call}' for table in ('linked', 'plain') for call in CALLS_OF_BOTH]
+TABLE_CALLS += ['linked Open', 'plain OpenWith']
 
 # This one needs two threads, which cannot be made where memory for one is refused: its passes then run in turn. That one
 # takes no memory.
@@ -104,9 +112,18 @@ def refuse_in_tests(report, shim, lanes):
         for name in names:
             status, _, err, (requests, _, _) = shim.run([program, name])
             faults = [f'without a refusal: status {status}'] if status else [] if requests else ['no allocation']
-            ended = lanes.map(lambda n: (n, shim.run([program, name], refuse_memory=n)), range(1, requests + 1))
+            ended = list(lanes.map(lambda n: (n, shim.run([program, name], refuse_memory=n)), range(1, requests + 1)))
             faults += [f'allocation {n}: status {status}, {err[-200:]!r}' for n, (status, _, err, _) in ended if status]
             report.tell(f'{crate}, {name}: {requests} allocations, each refused once', faults)
+            if crate == 'lt_schedules_tests':
+                tell_table_calls(report, [out for _, (_, out, _, _) in ended])
+
+
+def tell_table_calls(report, outputs):
+    """Whether each call of a table was refused: the schedules print which one was."""
+    refused = collections.Counter(call for out in outputs for call in re.findall(r'^refused: (.*)$', out.decode(), re.M))
+    said = ', '.join(f'{call} {refused[call]}' for call in TABLE_CALLS)
+    report.tell(f'calls of tables, each refused: {said}', [f'{call} never' for call in TABLE_CALLS if not refused[call]])
 
 
 def as_told(kind, ran, status, out):

@@ -204,6 +204,29 @@ fn run<R: Runtime, T: KeyTable>(
     Ok(spent.as_nanos() / batch as u128 / rounds as u128)
 }
 
+/// The median of some runs of calls of one kind.
+fn median_of<R: Runtime, T: KeyTable>(
+    rt: &R,
+    alloc: Global,
+    table: &mut T,
+    key: &Key,
+    kind: Kind,
+    line: &mut Line,
+    lets: &mut Vec<Through>,
+    batch: u64,
+    rounds: u64,
+) -> anyhow::Result<u128>
+    requires batch { 0 < batch }
+    requires rounds { 0 < rounds }
+{
+    let mut times = Vec::new(alloc);
+    for _ in 0..RUNS {
+        times.push(run(rt, table, key, kind, line, lets, batch, rounds)?)?;
+    }
+    times.sort()?;
+    Ok(times.get(times.len() / 2).copied().unwrap_or(0))
+}
+
 /// Prints the times of a table that has no key yet, with so many writers waiting.
 fn time<R: Runtime, T: KeyTable>(
     rt: &R,
@@ -237,14 +260,15 @@ fn time<R: Runtime, T: KeyTable>(
         (Kind::Raise, "update"),
         (Kind::HandOver, "finish and acquire"),
     ];
-    for (kind, what) in kinds {
-        let batch = if kind == Kind::HandOver { batch } else { BATCH };
-        let mut times = Vec::new(alloc);
-        for _ in 0..RUNS {
-            times.push(run(rt, table, &key, kind, &mut line, &mut lets, batch, rounds)?)?;
-        }
-        times.sort()?;
-        let median = times.get(times.len() / 2).copied().unwrap_or(0);
+    for (kind, what) in &kinds {
+        let batch = if *kind == Kind::HandOver {
+            batch
+        } else {
+            BATCH
+        };
+        let median = median_of(
+            rt, alloc, table, &key, *kind, &mut line, &mut lets, batch, rounds,
+        )?;
         println!(rt; "{name}, {size} waiting: {what} {median}")?;
     }
     Ok(())

@@ -4,7 +4,7 @@
 //! and must be answered alike, and whatever is accepted as histories must be what is composed of its own entries, which
 //! are read here word by word. What is wrong is counted; a call that crashes or hangs ends the program.
 ghost use Rattle.std.specs.Prelude.{◌<◌};
-ghost use Rattle.lt_tool.specs.Options.{AreInRange};
+ghost use Rattle.lt_command_line.specs.Options.{AreInRange};
 
 use anyhow::bail;
 use lt_history::{CheckError, Entry, Lets, Report, check, compose};

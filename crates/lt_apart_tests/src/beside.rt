@@ -96,7 +96,7 @@ fn shard_of<N: Name, T: KeyTable>(alloc: Global, table: &Table<N, T>, key: u8) -
     Some(table.shard_of(&key))
 }
 
-/// The first two seats.
+/// The last two seats, in their order.
 fn two_of<N: Name>(mut seats: Vec<Seat<N>>) -> Option<(Seat<N>, Seat<N>)> {
     let two = seats.pop()?;
     let one = seats.pop()?;
@@ -121,6 +121,42 @@ fn acquire_both<N: Name + Send + Sync, R: Threads + Wait + Sync>(
     Some((first?, second?))
 }
 
+/// A table over watched tables, with a seat for each pass.
+fn open_watched<'a, N: Name>(
+    alloc: Global,
+    ready: Ready,
+    shards: usize,
+    stop: &'a Stop,
+) -> Option<(Table<N, Watched<'a>>, Vec<Seat<N>>)>
+    requires named { ready.of ≡ N.of }
+    requires many { ready.of.shards ≡ shards }
+{
+    let tables = watched_tables(alloc, shards, stop).ok()?;
+    let (table, passes) = open_with::<N, Watched<'a>>(alloc, ready, tables).ok()?;
+    let seats = seated::<N>(alloc, passes)?;
+    Some((table, seats))
+}
+
+/// Both acquires on the table, and the shards of their keys.
+fn two_acquires_on<N: Name + Send + Sync, R: Threads + Wait + Sync>(
+    rt: &R,
+    alloc: Global,
+    table: &Table<N, Watched<'_>>,
+    stop: &Stop,
+    seats: Vec<Seat<N>>,
+    keys: (u8, u8),
+) -> Option<Apart> {
+    let of_first = shard_of(alloc, table, keys.0)?;
+    let of_second = shard_of(alloc, table, keys.1)?;
+    let (first, second) = acquire_both(rt, alloc, table, stop, two_of(seats)?, keys)?;
+    Some(Apart {
+        shards: (of_first, of_second),
+        first,
+        second,
+        is_apart: stop.gone.is_set(),
+    })
+}
+
 fn two_acquires_named<N: Name + Send + Sync, R: Threads + Wait + Sync>(
     rt: &R,
     alloc: Global,
@@ -132,21 +168,8 @@ fn two_acquires_named<N: Name + Send + Sync, R: Threads + Wait + Sync>(
     requires many { ready.of.shards ≡ shards }
 {
     let stop = Stop::at(keys.0);
-    let at = &stop;
-    let tables = watched_tables(alloc, shards, at).ok()?;
-    let (table, passes) = open_with::<N, Watched<'_>>(alloc, ready, tables).ok()?;
-    let shards = (
-        shard_of(alloc, &table, keys.0)?,
-        shard_of(alloc, &table, keys.1)?,
-    );
-    let seats = two_of(seated::<N>(alloc, passes)?)?;
-    let (first, second) = acquire_both(rt, alloc, &table, at, seats, keys)?;
-    Some(Apart {
-        shards,
-        first,
-        second,
-        is_apart: stop.gone.is_set(),
-    })
+    let (table, seats) = open_watched::<N>(alloc, ready, shards, &stop)?;
+    two_acquires_on(rt, alloc, &table, &stop, seats, keys)
 }
 
 fn config_of(shards: usize, passes: usize) -> Config
@@ -238,6 +261,26 @@ fn acquire_and_poll<N: Name + Send + Sync, R: Threads + Wait + Sync>(
     Some((first?, second?))
 }
 
+/// The wait and the poll on the table.
+fn poll_on<N: Name + Send + Sync, R: Threads + Wait + Sync>(
+    rt: &R,
+    alloc: Global,
+    table: &Table<N, Watched<'_>>,
+    stop: &Stop,
+    mut seats: Vec<Seat<N>>,
+    keys: (u8, u8),
+) -> Option<Polled> {
+    let three = seats.pop()?;
+    let (waiting, scan) = held_and_scanned(rt, alloc, table, two_of(seats)?, keys.1)?;
+    let (acquire, poll) = acquire_and_poll(rt, alloc, table, stop, (three, waiting), keys.0)?;
+    Some(Polled {
+        scan,
+        poll,
+        acquire,
+        is_apart: stop.gone.is_set(),
+    })
+}
+
 fn poll_named<N: Name + Send + Sync, R: Threads + Wait + Sync>(
     rt: &R,
     alloc: Global,
@@ -248,19 +291,8 @@ fn poll_named<N: Name + Send + Sync, R: Threads + Wait + Sync>(
     requires many { ready.of.shards ≡ 1 }
 {
     let stop = Stop::at(keys.0);
-    let at = &stop;
-    let tables = watched_tables(alloc, 1, at).ok()?;
-    let (table, passes) = open_with::<N, Watched<'_>>(alloc, ready, tables).ok()?;
-    let mut seats = seated::<N>(alloc, passes)?;
-    let three = seats.pop()?;
-    let (waiting, scan) = held_and_scanned(rt, alloc, &table, two_of(seats)?, keys.1)?;
-    let (acquire, poll) = acquire_and_poll(rt, alloc, &table, at, (three, waiting), keys.0)?;
-    Some(Polled {
-        scan,
-        poll,
-        acquire,
-        is_apart: stop.gone.is_set(),
-    })
+    let (table, seats) = open_watched::<N>(alloc, ready, 1, &stop)?;
+    poll_on(rt, alloc, &table, &stop, seats, keys)
 }
 
 /// A request waits for the second key, and while a thread is inside the one shard of both keys to take the lock of the

@@ -5,7 +5,7 @@ ghost use Rattle.std.specs.FinMap as finmap;
 
 use lt_plain::PlainTable;
 use lt_table::{Config, Ready, open_with, prepare};
-use lt_table_player::command::Row;
+use lt_table_player::command::{Row, TableCall};
 use lt_table_player::run::{Ran, play_all};
 use lt_table_player::tables::empty_tables;
 use lt_words::Name;
@@ -33,18 +33,29 @@ fn run_named<N: Name, R: Wait>(
     ready: Ready,
     tables: Vec<PlainTable>,
     rows: &[Row],
-) -> Option<Ran>
+) -> Result<Ran, TableCall>
     requires named { ready.of ≡ N.of }
     requires many { length tables.items ≡ N.of.shards }
     requires empty { All (λ t. t ≡ finmap.empty) tables.items }
 {
-    let (table, passes) = open_with::<N, PlainTable>(alloc, ready, tables).ok()?;
-    play_all(rt, alloc, table, passes, rows)
+    match open_with::<N, PlainTable>(alloc, ready, tables) {
+        Ok((table, passes)) => play_all(rt, alloc, table, passes, rows).ok_or(TableCall::Beside),
+        Err(_) => Err(TableCall::OpenWith),
+    }
 }
 
-/// A run over plain tables.
-pub fn run_plain<R: Wait>(rt: &R, alloc: Global, config: Config, rows: &[Row]) -> Option<Ran> {
-    let ready = prepare(alloc, config).ok()?;
-    let tables = plain_tables(alloc, config.shards).ok()?;
+/// A run over plain tables. An error is what was refused: `Prepare`, `OpenWith` or `Beside`.
+pub fn run_plain<R: Wait>(
+    rt: &R,
+    alloc: Global,
+    config: Config,
+    rows: &[Row],
+) -> Result<Ran, TableCall> {
+    let Ok(ready) = prepare(alloc, config) else {
+        return Err(TableCall::Prepare);
+    };
+    let Ok(tables) = plain_tables(alloc, config.shards) else {
+        return Err(TableCall::Beside);
+    };
     run_named::<Brand, R>(rt, alloc, ready, tables, rows)
 }

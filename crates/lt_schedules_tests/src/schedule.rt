@@ -69,8 +69,16 @@ fn random_place(random: &mut Random) -> u64
     limit - 1
 }
 
+/// A letter that names a key: A, b, C, d or E. The keys of capital letters lie on the heap, so that each call that stores a
+/// step of one takes memory.
 fn random_key(random: &mut Random) -> u8 {
-    b'a' + random_place(random) as u8
+    match random_place(random) {
+        0 => b'A',
+        1 => b'b',
+        2 => b'C',
+        3 => b'd',
+        _ => b'E',
+    }
 }
 
 /// One to three accesses, or none at all.

@@ -34,7 +34,7 @@ pub enum Asked {
     },
 }
 
-/// One step of a key, by plain numbers. Keys are one byte long.
+/// One step of a key, by plain numbers. A key is named by a byte.
 #[derive(Drop)]
 pub struct Step {
     pub pass: u32,
@@ -80,9 +80,11 @@ impl Steps {
         self.made.as_slice()
     }
 
-    /// The shard of a key: the sum of its bytes, of which it has one, modulo the number of shards.
+    /// The shard of a key: the sum of its bytes modulo the number of shards. The key of a capital letter has that 61 times, any
+    /// other once.
     pub fn shard_of(&self, key: u8) -> u64 {
-        u64::from(key) % self.shards
+        let times = if key.is_ascii_uppercase() { 61 } else { 1 };
+        u64::from(key).wrapping_mul(times) % self.shards
     }
 
     /// The transaction that holds the lock of this key.

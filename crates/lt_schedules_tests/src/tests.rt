@@ -2,15 +2,17 @@ use crate::cases::Counts;
 use crate::plain::run_plain;
 use crate::schedule::{Schedule, random_schedule};
 use crate::steps::{Asked, Step};
-use lt_history::Entry;
+use lt_history::{Entry, write_out};
 use lt_ids::{Access, Timestamp};
 use lt_plain::{Call, Reply};
 use lt_rules_tests::second::{Let, Time};
 use lt_table::ScanError;
-use lt_table_player::command::Told;
+use lt_table_player::command::{TableCall, Told};
 use lt_table_player::desk::Line;
+use lt_table_player::key::key_length;
 use lt_table_player::run::{Ran, run};
 use std::alloc::{AllocError, Global};
+use std::io::Write;
 use std::process::Abort;
 use std::sync::Wait;
 use std::test::Fail;
@@ -64,7 +66,7 @@ fn has_replies(ran: &Ran, line: &Line, wanted: &[Reply]) -> bool {
         _ => true,
     };
     let replies = line.replies.as_slice();
-    replies == wanted || ran.refused == 1 && is_aside && wanted.ends_with(replies)
+    replies == wanted || ran.refused.len() == 1 && is_aside && wanted.ends_with(replies)
 }
 
 /// Each command was told what the rules give, with the same replies and at the same place.
@@ -95,11 +97,11 @@ fn compare_entry<R: Abort>(
     entry: &Entry,
     step: &Step,
 ) -> Result<(), Fail> {
-    assert_eq!(rt;
-        entry.key.as_bytes(),
-        [step.key].as_slice(),
-        "the key, seed {seed}"
-    );
+    let bytes = entry.key.as_bytes();
+    assert_eq!(rt; bytes.len(), key_length(step.key), "the key, seed {seed}");
+    for byte in bytes {
+        assert_eq!(rt; *byte, step.key, "the key, seed {seed}");
+    }
     assert_eq!(rt; entry.pass, step.pass, "the pass, seed {seed}");
     assert_eq!(rt; asked_of(&entry.call), step.asked, "the call, seed {seed}");
     assert_eq!(rt; entry.reply, step.reply, "the reply, seed {seed}");
@@ -140,7 +142,7 @@ fn compare<R: Abort>(
     ran: &Ran,
 ) -> Result<(), Fail> {
     compare_lines(rt, seed, schedule, ran)?;
-    assert!(rt; ran.refused <= 1, "seed {seed}");
+    assert!(rt; ran.refused.len() <= 1, "seed {seed}");
     assert_eq!(rt;
         ran.histories.draws,
         schedule.second.draws(),
@@ -159,48 +161,68 @@ fn compare<R: Abort>(
     Ok(())
 }
 
-/// The schedule on linked tables.
-fn compare_linked<R: Abort + Wait>(
+/// The schedule, run by `make`, and once more where memory was refused outside of its rows. It tells the call that was
+/// refused.
+fn compare_run<R: Abort, F: Fn() -> Result<Ran, TableCall>>(
     rt: &R,
     alloc: Global,
     seed: u64,
     schedule: &Schedule,
-) -> Result<(), Fail> {
-    let mut ran = run(rt, alloc, schedule.config, &schedule.rows);
-    if ran.is_none() {
-        ran = run(rt, alloc, schedule.config, &schedule.rows);
+    make: F,
+) -> Result<Option<TableCall>, Fail>
+    requires { F.IsAlwaysCallable make }
+{
+    match make() {
+        Ok(ran) => {
+            compare(rt, alloc, seed, schedule, &ran)?;
+            Ok(ran.refused.first().copied())
+        }
+        Err(call) => {
+            let ran = make().ok().ok_or("the run")?;
+            compare(rt, alloc, seed, schedule, &ran)?;
+            Ok(Some(call))
+        }
     }
-    compare(rt, alloc, seed, schedule, &ran.ok_or("the linked tables")?)
 }
 
-/// The schedule on plain tables.
-fn compare_plain<R: Abort + Wait>(
-    rt: &R,
-    alloc: Global,
-    seed: u64,
-    schedule: &Schedule,
-) -> Result<(), Fail> {
-    let mut ran = run_plain(rt, alloc, schedule.config, &schedule.rows);
-    if ran.is_none() {
-        ran = run_plain(rt, alloc, schedule.config, &schedule.rows);
-    }
-    compare(rt, alloc, seed, schedule, &ran.ok_or("the plain tables")?)
-}
-
-/// One schedule on both tables. What was refused memory beside a call, as where a table is opened, is done again.
+/// One schedule on both tables. What was refused memory beside a call is done again. It tells the call of the linked table
+/// and that of the plain one that was refused.
 fn compare_both<R: Abort + Wait>(
     rt: &R,
     alloc: Global,
     seed: u64,
     counts: &mut Counts,
-) -> Result<(), Fail> {
+) -> Result<[Option<TableCall>; 2], Fail> {
     let mut schedule = random_schedule(alloc, seed, counts);
     if schedule.is_none() {
         schedule = random_schedule(alloc, seed, counts);
     }
     let schedule = schedule.ok_or("the schedule")?;
-    compare_linked(rt, alloc, seed, &schedule)?;
-    compare_plain(rt, alloc, seed, &schedule)
+    let config = schedule.config;
+    let rows = schedule.rows.as_slice();
+    let linked = compare_run(rt, alloc, seed, &schedule, || run(rt, alloc, config, rows))?;
+    let plain = compare_run(
+        rt,
+        alloc,
+        seed,
+        &schedule,
+        || run_plain(rt, alloc, config, rows),
+    )?;
+    Ok([linked, plain])
+}
+
+/// Says which call of which table was refused, if one was.
+fn tell<W: Write>(
+    alloc: Global,
+    writer: &mut W,
+    table: &str,
+    call: Option<TableCall>,
+) -> Option<()> {
+    let Some(call) = call else {
+        return Some(());
+    };
+    let line = format!(in alloc; "refused: {table} {call:?}\n").ok()?;
+    write_out(writer, line.as_bytes()).ok()
 }
 
 #[test]
@@ -214,12 +236,14 @@ fn both_tables_agree_with_the_rules_read_a_second_time(rt: HostRuntime) -> Resul
 }
 
 /// Few schedules, for whoever refuses each of their allocations in turn: a call that was refused is made again, and all
-/// comes out as ever.
+/// comes out as ever. It prints which call of which table was refused.
 #[test]
 fn schedules_come_out_alike_whatever_is_refused(rt: HostRuntime) -> Result<(), Fail> {
     let mut counts = Counts::new();
     for seed in 0..5 {
-        compare_both(&rt, rt.alloc(), seed, &mut counts)?;
+        let [linked, plain] = compare_both(&rt, rt.alloc(), seed, &mut counts)?;
+        tell(rt.alloc(), &mut rt.stdout(), "linked", linked).ok_or("a line")?;
+        tell(rt.alloc(), &mut rt.stdout(), "plain", plain).ok_or("a line")?;
     }
     Ok(())
 }

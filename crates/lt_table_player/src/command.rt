@@ -2,7 +2,7 @@ use lt_ids::Access;
 use lt_plain::Reply;
 use lt_table::{EnterError, Poll, Scan, ScanError, StepError};
 
-/// A call of the table by one pass. Keys are one byte long; times have the logical part 0.
+/// A call of the table by one pass. A key is named by a byte (`key`); times have the logical part 0.
 #[derive(Drop)]
 pub enum Command {
     Enter {
@@ -39,6 +39,28 @@ pub enum Command {
 
 /// A command of the pass at this place, from 0, and what it is to be told.
 pub type Row = (usize, Command, Told);
+
+/// A call of the table, as one of those that can be refused memory.
+#[derive(Clone, Copy, Debug, PartialEq, Eq)]
+pub enum TableCall {
+    Prepare,
+    Open,
+    OpenWith,
+    Enter,
+    Scan,
+    Poll,
+    Look,
+    Leave,
+    Acquire,
+    AcquireIn,
+    Update,
+    UpdateIn,
+    Finish,
+    FinishIn,
+    Close,
+    /// No call: memory beside the calls, or a call that was made again and answered otherwise.
+    Beside,
+}
 
 /// What a command was answered.
 #[derive(Clone, Copy, Debug, PartialEq, Eq)]

@@ -2,6 +2,7 @@ ghost use Rattle.std.specs.Prelude.{◌≡◌};
 
 use crate::command::{Command, Told};
 use crate::holds::Holds;
+use crate::key::key_of;
 use crate::seat::Seat;
 use lt_ids::{Access, Key, Timestamp, TxnId};
 use lt_plain::{KeyTable, Reply};
@@ -33,8 +34,7 @@ fn saying(told: Told) -> Said {
 fn keys_of(alloc: Global, accesses: &[(u8, Access)]) -> Option<Vec<(Key, Access)>> {
     let mut keys = Vec::new(alloc);
     for (byte, access) in accesses {
-        let key = Key::from_bytes(alloc, &[*byte]).ok()?;
-        keys.push((key, *access)).ok()?;
+        keys.push((key_of(alloc, *byte)?, *access)).ok()?;
     }
     Some(keys)
 }
@@ -80,30 +80,132 @@ fn named(alloc: Global, txn: u64, wall: u64, key: u8) -> Option<Names> {
     Some(Names {
         txn: TxnId::new(txn)?,
         ts: Timestamp { wall, logical: 0 },
-        key: Key::from_bytes(alloc, &[key]).ok()?,
+        key: key_of(alloc, key)?,
     })
 }
 
-/// A request enters.
+/// A request that is to enter.
+#[derive(Drop)]
+struct Entry {
+    txn: u64,
+    wall: u64,
+    keys: Vec<(Key, Access)>,
+}
+
+/// The request enters.
 fn enter<N: Name, T: KeyTable, R: Wait>(
     rt: &R,
     alloc: Global,
     table: &Table<N, T>,
     pass: Pass,
-    txn: u64,
-    wall: u64,
-    keys: &[(Key, Access)],
-) -> Option<(Seat<N>, Told)>
+    entry: &Entry,
+) -> Option<(Seat<N>, Said)>
     requires { pass.of ≡ N.of }
 {
-    let txn = TxnId::new(txn)?;
-    let ts = Timestamp { wall, logical: 0 };
-    match table.enter(rt, alloc, pass, txn, ts, keys) {
+    let txn = TxnId::new(entry.txn)?;
+    let ts = Timestamp {
+        wall: entry.wall,
+        logical: 0,
+    };
+    match table.enter(rt, alloc, pass, txn, ts, &entry.keys) {
         Ok(guard) => {
             let number = guard.number();
-            Some((Seat::open(guard), Told::Entered(number)))
+            Some((Seat::open(guard), saying(Told::Entered(number))))
         }
-        Err(refused) => Some((Seat::free(refused.pass), Told::NotEntered(refused.error))),
+        Err(refused) => Some((
+            Seat::free(refused.pass),
+            saying(Told::NotEntered(refused.error)),
+        )),
+    }
+}
+
+fn acquire<N: Name, T: KeyTable, R: Wait>(
+    rt: &R,
+    alloc: Global,
+    table: &Table<N, T>,
+    pass: &mut Pass,
+    txn: u64,
+    wall: u64,
+    key: u8,
+) -> Option<Said>
+    requires { pass.old.of ≡ N.of }
+    ensures { pass.new.of ≡ N.of }
+{
+    let n = named(alloc, txn, wall, key)?;
+    Some(stepped(table.acquire(rt, pass, &n.key, n.txn, n.ts)))
+}
+
+fn update<N: Name, T: KeyTable, R: Wait>(
+    rt: &R,
+    alloc: Global,
+    table: &Table<N, T>,
+    pass: &mut Pass,
+    txn: u64,
+    wall: u64,
+    key: u8,
+) -> Option<Said>
+    requires { pass.old.of ≡ N.of }
+    ensures { pass.new.of ≡ N.of }
+{
+    let n = named(alloc, txn, wall, key)?;
+    Some(stepped(table.update(rt, pass, &n.key, n.txn, n.ts)))
+}
+
+fn finish<N: Name, T: KeyTable, R: Wait>(
+    rt: &R,
+    alloc: Global,
+    table: &Table<N, T>,
+    pass: &mut Pass,
+    txn: u64,
+    key: u8,
+) -> Option<Said>
+    requires { pass.old.of ≡ N.of }
+    ensures { pass.new.of ≡ N.of }
+{
+    let n = named(alloc, txn, 0, key)?;
+    Some(stepped(table.finish(rt, pass, &n.key, n.txn)))
+}
+
+/// A call on a lock, by a pass that is in no guard.
+fn lock_call<N: Name, T: KeyTable, R: Wait>(
+    rt: &R,
+    alloc: Global,
+    table: &Table<N, T>,
+    pass: &mut Pass,
+    command: &Command,
+) -> Option<Said>
+    requires { pass.old.of ≡ N.of }
+    ensures { pass.new.of ≡ N.of }
+{
+    match command {
+        Command::Acquire { txn, wall, key } => {
+            acquire(rt, alloc, table, pass, *txn, *wall, *key)
+        }
+        Command::Update { txn, wall, key } => update(rt, alloc, table, pass, *txn, *wall, *key),
+        Command::Finish { txn, key } => finish(rt, alloc, table, pass, *txn, *key),
+        _ => Some(saying(Told::Nothing)),
+    }
+}
+
+/// The keys that a request of this command is to enter with. None where memory is refused; nothing inside for any other
+/// command.
+fn entry_of(alloc: Global, command: &Command) -> Option<Option<Entry>> {
+    match command {
+        Command::Enter {
+            txn,
+            wall,
+            accesses,
+        } => Some(Some(Entry {
+            txn: *txn,
+            wall: *wall,
+            keys: keys_of(alloc, accesses)?,
+        })),
+        Command::EnterMany { keys, twice } => Some(Some(Entry {
+            txn: 1,
+            wall: 0,
+            keys: many_keys(alloc, *keys, *twice)?,
+        })),
+        _ => Some(None),
     }
 }
 
@@ -117,36 +219,109 @@ fn by_pass<N: Name, T: KeyTable, R: Wait>(
 ) -> Option<(Seat<N>, Said)>
     requires { pass.of ≡ N.of }
 {
-    let said = match command {
-        Command::Enter {
-            txn,
-            wall,
-            accesses,
-        } => {
-            let keys = keys_of(alloc, accesses)?;
-            let (seat, told) = enter(rt, alloc, table, pass, *txn, *wall, &keys)?;
-            return Some((seat, saying(told)));
+    match entry_of(alloc, command)? {
+        Some(entry) => enter(rt, alloc, table, pass, &entry),
+        None => {
+            let said = lock_call(rt, alloc, table, &mut pass, command)?;
+            Some((Seat::free(pass), said))
         }
-        Command::EnterMany { keys, twice } => {
-            let keys = many_keys(alloc, *keys, *twice)?;
-            let (seat, told) = enter(rt, alloc, table, pass, 1, 0, &keys)?;
-            return Some((seat, saying(told)));
-        }
+    }
+}
+
+fn acquire_in<N: Name, T: KeyTable, R: Wait>(
+    rt: &R,
+    alloc: Global,
+    table: &Table<N, T>,
+    guard: &mut Guard,
+    txn: u64,
+    wall: u64,
+    key: u8,
+) -> Option<Said>
+    requires { guard.old.pass.of ≡ N.of }
+    ensures { guard.new.pass.of ≡ N.of }
+{
+    let n = named(alloc, txn, wall, key)?;
+    Some(stepped(table.acquire_in(rt, guard, &n.key, n.txn, n.ts)))
+}
+
+fn update_in<N: Name, T: KeyTable, R: Wait>(
+    rt: &R,
+    alloc: Global,
+    table: &Table<N, T>,
+    guard: &mut Guard,
+    txn: u64,
+    wall: u64,
+    key: u8,
+) -> Option<Said>
+    requires { guard.old.pass.of ≡ N.of }
+    ensures { guard.new.pass.of ≡ N.of }
+{
+    let n = named(alloc, txn, wall, key)?;
+    Some(stepped(table.update_in(rt, guard, &n.key, n.txn, n.ts)))
+}
+
+fn finish_in<N: Name, T: KeyTable, R: Wait>(
+    rt: &R,
+    alloc: Global,
+    table: &Table<N, T>,
+    guard: &mut Guard,
+    txn: u64,
+    key: u8,
+) -> Option<Said>
+    requires { guard.old.pass.of ≡ N.of }
+    ensures { guard.new.pass.of ≡ N.of }
+{
+    let n = named(alloc, txn, 0, key)?;
+    Some(stepped(table.finish_in(rt, guard, &n.key, n.txn)))
+}
+
+/// A call on a lock, through a guard.
+fn lock_call_in<N: Name, T: KeyTable, R: Wait>(
+    rt: &R,
+    alloc: Global,
+    table: &Table<N, T>,
+    guard: &mut Guard,
+    command: &Command,
+) -> Option<Said>
+    requires { guard.old.pass.of ≡ N.of }
+    ensures { guard.new.pass.of ≡ N.of }
+{
+    match command {
         Command::Acquire { txn, wall, key } => {
-            let n = named(alloc, *txn, *wall, *key)?;
-            stepped(table.acquire(rt, &mut pass, &n.key, n.txn, n.ts))
+            acquire_in(rt, alloc, table, guard, *txn, *wall, *key)
         }
-        Command::Update { txn, wall, key } => {
-            let n = named(alloc, *txn, *wall, *key)?;
-            stepped(table.update(rt, &mut pass, &n.key, n.txn, n.ts))
-        }
-        Command::Finish { txn, key } => {
-            let n = named(alloc, *txn, 0, *key)?;
-            stepped(table.finish(rt, &mut pass, &n.key, n.txn))
-        }
-        _ => saying(Told::Nothing),
-    };
-    Some((Seat::free(pass), said))
+        Command::Update { txn, wall, key } => update_in(rt, alloc, table, guard, *txn, *wall, *key),
+        Command::Finish { txn, key } => finish_in(rt, alloc, table, guard, *txn, *key),
+        _ => Some(saying(Told::Nothing)),
+    }
+}
+
+/// What a scan is told.
+fn scan<N: Name, T: KeyTable, R: Wait>(rt: &R, table: &Table<N, T>, guard: &mut Guard) -> Said
+    requires { guard.old.pass.of ≡ N.of }
+    ensures { guard.new.pass.of ≡ N.of }
+{
+    match table.scan(rt, guard) {
+        Ok(scan) => saying(Told::Scanned(scan)),
+        Err(error) => saying(Told::NotScanned(error)),
+    }
+}
+
+/// What a look at the key of this place is told, where there is one.
+fn look<N: Name, T: KeyTable, R: Wait>(
+    rt: &R,
+    table: &Table<N, T>,
+    guard: &mut Guard,
+    index: usize,
+) -> Said
+    requires { guard.old.pass.of ≡ N.of }
+    ensures { guard.new.pass.of ≡ N.of }
+{
+    if index < guard.keys().len() {
+        stepped(table.look(rt, guard, index))
+    } else {
+        saying(Told::Nothing)
+    }
 }
 
 /// A call through a guard that stays open.
@@ -161,33 +336,34 @@ fn by_guard<N: Name, T: KeyTable, R: Wait>(
     ensures { guard.new.pass.of ≡ N.of }
 {
     match command {
-        Command::Scan => match table.scan(rt, guard) {
-            Ok(scan) => Some(saying(Told::Scanned(scan))),
-            Err(error) => Some(saying(Told::NotScanned(error))),
-        },
+        Command::Scan => Some(scan(rt, table, guard)),
         Command::Poll => Some(saying(Told::Polled(table.poll(guard)))),
-        Command::Look { index } => {
-            if *index < guard.keys().len() {
-                Some(stepped(table.look(rt, guard, *index)))
-            } else {
-                Some(saying(Told::Nothing))
-            }
+        Command::Look { index } => Some(look(rt, table, guard, *index)),
+        _ => lock_call_in(rt, alloc, table, guard, command),
+    }
+}
+
+/// A guard leaves.
+fn leave<N: Name, T: KeyTable, R: Wait>(
+    rt: &R,
+    alloc: Global,
+    table: &Table<N, T>,
+    guard: Guard,
+) -> Option<(Seat<N>, Line)>
+    requires { guard.pass.of ≡ N.of }
+{
+    let at = None;
+    match table.leave(rt, guard) {
+        Ok(left) => {
+            let replies = replies_of(alloc, &left.answers)?;
+            let told = Told::Left;
+            Some((Seat::free(left.pass), Line { told, replies, at }))
         }
-        Command::Acquire { txn, wall, key } => {
-            let n = named(alloc, *txn, *wall, *key)?;
-            Some(stepped(table.acquire_in(rt, guard, &n.key, n.txn, n.ts)))
+        Err(stopped) => {
+            let replies = replies_of(alloc, stopped.guard.answers())?;
+            let told = Told::NotLeft(stopped.error);
+            Some((Seat::open(stopped.guard), Line { told, replies, at }))
         }
-        Command::Update { txn, wall, key } => {
-            let n = named(alloc, *txn, *wall, *key)?;
-            Some(stepped(table.update_in(rt, guard, &n.key, n.txn, n.ts)))
-        }
-        Command::Finish { txn, key } => {
-            let n = named(alloc, *txn, 0, *key)?;
-            Some(stepped(table.finish_in(rt, guard, &n.key, n.txn)))
-        }
-        Command::Enter { .. } | Command::EnterMany { .. } | Command::Leave => Some(saying(
-            Told::Nothing,
-        )),
     }
 }
 
@@ -202,20 +378,7 @@ fn in_guard<N: Name, T: KeyTable, R: Wait>(
     requires { guard.pass.of ≡ N.of }
 {
     if let Command::Leave = command {
-        return match table.leave(rt, guard) {
-            Ok(left) => {
-                let replies = replies_of(alloc, &left.answers)?;
-                let told = Told::Left;
-                let at = None;
-                Some((Seat::free(left.pass), Line { told, replies, at }))
-            }
-            Err(stopped) => {
-                let replies = replies_of(alloc, stopped.guard.answers())?;
-                let told = Told::NotLeft(stopped.error);
-                let at = None;
-                Some((Seat::open(stopped.guard), Line { told, replies, at }))
-            }
-        };
+        return leave(rt, alloc, table, guard);
     }
     let Said { told, at } = by_guard(rt, alloc, table, &mut guard, command)?;
     let replies = replies_of(alloc, guard.answers())?;

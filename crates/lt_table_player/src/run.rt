@@ -3,7 +3,7 @@ ghost use Rattle.std.specs.Prelude.{◌≡◌, IfOk};
 ghost use Rattle.std.specs.List.{All};
 ghost use Rattle.lt_words.specs.Row.{Opening};
 
-use crate::command::{Command, Row};
+use crate::command::{Command, Row, TableCall};
 use crate::desk::{Line, play};
 use crate::holds::Holds;
 use crate::seat::Seat;
@@ -14,12 +14,12 @@ use std::alloc::{AllocError, Global};
 use std::marker::Brand;
 use std::sync::Wait;
 
-/// What came of a run: a line for each command, the histories, and how many calls were refused memory and made again.
+/// What came of a run: a line for each command, the histories, and the calls that were refused memory and made again.
 #[derive(Drop)]
 pub struct Ran {
     pub lines: Vec<Line>,
     pub histories: Histories,
-    pub refused: usize,
+    pub refused: Vec<TableCall>,
 }
 
 /// A seat for each pass.
@@ -52,12 +52,14 @@ pub fn gather<N: Name>(
     Ok((passes, guards))
 }
 
-/// Closes the table with all that the seats hold. Where memory is refused, all came back, and is closed once more.
-pub fn close_all<N: Name, T: KeyTable + Drop, R: Wait>(
+/// Closes the table with all that the seats hold. Where memory is refused, all came back, and is closed once more; the refusal
+/// is noted.
+fn close_through<N: Name, T: KeyTable + Drop, R: Wait>(
     rt: &R,
     alloc: Global,
     table: Table<N, T>,
     seats: Vec<Seat<N>>,
+    refusals: &mut Vec<TableCall>,
 ) -> Option<Histories> {
     let Ok((passes, guards)) = gather(alloc, seats) else {
         return None;
@@ -68,6 +70,7 @@ pub fn close_all<N: Name, T: KeyTable + Drop, R: Wait>(
             if refused.error != CloseError::Memory {
                 return None;
             }
+            refusals.push(TableCall::Close).ok()?;
             let CloseRefused {
                 table,
                 passes,
@@ -76,6 +79,34 @@ pub fn close_all<N: Name, T: KeyTable + Drop, R: Wait>(
             } = refused;
             table.close(rt, alloc, passes, guards).ok()
         }
+    }
+}
+
+/// Closes the table with all that the seats hold.
+pub fn close_all<N: Name, T: KeyTable + Drop, R: Wait>(
+    rt: &R,
+    alloc: Global,
+    table: Table<N, T>,
+    seats: Vec<Seat<N>>,
+) -> Option<Histories> {
+    close_through(rt, alloc, table, seats, &mut Vec::new(alloc))
+}
+
+/// The call that the command makes on the seat.
+fn call_of<N: Name>(seat: &Seat<N>, command: &Command) -> TableCall {
+    let is_open = seat.is_open();
+    match command {
+        Command::Enter { .. } | Command::EnterMany { .. } => TableCall::Enter,
+        Command::Scan => TableCall::Scan,
+        Command::Poll => TableCall::Poll,
+        Command::Look { .. } => TableCall::Look,
+        Command::Leave => TableCall::Leave,
+        Command::Acquire { .. } if is_open => TableCall::AcquireIn,
+        Command::Acquire { .. } => TableCall::Acquire,
+        Command::Update { .. } if is_open => TableCall::UpdateIn,
+        Command::Update { .. } => TableCall::Update,
+        Command::Finish { .. } if is_open => TableCall::FinishIn,
+        Command::Finish { .. } => TableCall::Finish,
     }
 }
 
@@ -94,20 +125,20 @@ fn joined(command: &Command, mut first: Vec<Reply>, again: Vec<Reply>) -> Option
     if is_right { Some(again) } else { None }
 }
 
-/// Plays the command on the seat, and once more where it is refused memory.
+/// Plays the command on the seat, and once more where it is refused memory; the refusal is noted.
 fn play_through<N: Name, T: KeyTable, R: Wait>(
     rt: &R,
     alloc: Global,
     table: &Table<N, T>,
     seat: Seat<N>,
     command: &Command,
-    refused: &mut usize,
+    refusals: &mut Vec<TableCall>,
 ) -> Option<(Seat<N>, Line)> {
     let (seat, line) = play(rt, alloc, table, seat, command)?;
     if !line.told.is_out_of_memory() {
         return Some((seat, line));
     }
-    *refused = refused.saturating_add(1);
+    refusals.push(call_of(&seat, command)).ok()?;
     let (seat, again) = play(rt, alloc, table, seat, command)?;
     let Line { told, replies, at } = again;
     let replies = joined(command, line.replies, replies)?;
@@ -126,7 +157,7 @@ pub fn play_all<N: Name, T: KeyTable + Drop, R: Wait>(
 {
     let mut seats = seated::<N>(alloc, passes)?;
     let mut lines = Vec::new(alloc);
-    let mut refused = 0;
+    let mut refused = Vec::new(alloc);
     for (place, command, _) in rows {
         if *place >= seats.len() {
             return None;
@@ -136,7 +167,7 @@ pub fn play_all<N: Name, T: KeyTable + Drop, R: Wait>(
         seats.insert(*place, seat).ok()?;
         lines.push(line).ok()?;
     }
-    let histories = close_all(rt, alloc, table, seats)?;
+    let histories = close_through(rt, alloc, table, seats, &mut refused)?;
     Some(Ran {
         lines,
         histories,
@@ -144,15 +175,24 @@ pub fn play_all<N: Name, T: KeyTable + Drop, R: Wait>(
     })
 }
 
-fn run_named<N: Name, R: Wait>(rt: &R, alloc: Global, ready: Ready, rows: &[Row]) -> Option<Ran>
+fn run_named<N: Name, R: Wait>(
+    rt: &R,
+    alloc: Global,
+    ready: Ready,
+    rows: &[Row],
+) -> Result<Ran, TableCall>
     requires { ready.of ≡ N.of }
 {
-    let (table, passes) = open::<N>(alloc, ready).ok()?;
-    play_all(rt, alloc, table, passes, rows)
+    match open::<N>(alloc, ready) {
+        Ok((table, passes)) => play_all(rt, alloc, table, passes, rows).ok_or(TableCall::Beside),
+        Err(_) => Err(TableCall::Open),
+    }
 }
 
-/// A run over linked tables.
-pub fn run<R: Wait>(rt: &R, alloc: Global, config: Config, rows: &[Row]) -> Option<Ran> {
-    let ready = prepare(alloc, config).ok()?;
-    run_named::<Brand, R>(rt, alloc, ready, rows)
+/// A run over linked tables. An error is what was refused: `Prepare`, `Open` or `Beside`.
+pub fn run<R: Wait>(rt: &R, alloc: Global, config: Config, rows: &[Row]) -> Result<Ran, TableCall> {
+    match prepare(alloc, config) {
+        Ok(ready) => run_named::<Brand, R>(rt, alloc, ready, rows),
+        Err(_) => Err(TableCall::Prepare),
+    }
 }

@@ -35,6 +35,14 @@ impl<N: Name> Seat<N> {
         }
     }
 
+    /// Whether its pass is in a guard.
+    pub fn is_open(&self) -> bool {
+        match &self.holds {
+            Holds::Open(_) => true,
+            Holds::Free(_) => false,
+        }
+    }
+
     /// What it holds.
     pub fn into_holds(self) -> Holds
         ensures { of_holds result ≡ N.of }

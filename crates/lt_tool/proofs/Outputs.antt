@@ -4,7 +4,7 @@ use Rattle.lt_script.specs.declared.command.Command.{Command}
 use Rattle.lt_desk.specs.declared.outcome.Finish.{Finish}
 use Rattle.lt_desk.specs.declared.outcome.Ran.{Ran}
 use Rattle.lt_desk.specs.Ran.{IsRan, joined}
-use Rattle.lt_tool.specs.declared.run.Options.{Options}
+use Rattle.lt_command_line.specs.declared.options.Options.{Options}
 use Rattle.lt_tool.specs.Output.{IsComposed, IsOutput, rules_of, turns_of}
 
 written : (options : Options) (always : Bool) (commands : List Command) (ran : Ran) (text : List ℕ) (finish : Finish) → IsRan (rules_of options) always options.shards commands ran → IsComposed ran text finish

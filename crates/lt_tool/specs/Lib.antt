@@ -3,6 +3,4 @@ pub mod Input
 pub mod Output
 pub mod Check
 pub mod Program
-pub mod Options
-pub mod Words
 pub mod Work

@@ -17,7 +17,7 @@ use Rattle.lt_desk.specs.Machine.{Rules}
 use Rattle.lt_desk.specs.Ran.{IsRan, joined}
 use Rattle.lt_tool.specs.declared.input.Unread.{Unread}
 use Rattle.lt_tool.specs.declared.input.Unread.TheVariants as inputs
-use Rattle.lt_tool.specs.declared.run.Options.{Options}
+use Rattle.lt_command_line.specs.declared.options.Options.{Options}
 use Rattle.lt_tool.specs.declared.run.RunError.{RunError}
 use Rattle.lt_tool.specs.declared.run.RunError.TheVariants as errors
 use Rattle.lt_tool.specs.Answers.{answers_text}

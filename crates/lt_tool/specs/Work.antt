@@ -9,15 +9,15 @@ use Rattle.lt_tool.specs.declared.run.RunError.TheVariants as runs
 use Rattle.lt_history.specs.declared.checker.Report.{Report}
 use Rattle.lt_desk.specs.declared.outcome.Finish.{Finish}
 use Rattle.lt_desk.specs.declared.outcome.Finish.TheVariants.{Done}
-use Rattle.lt_tool.specs.declared.run.Options.{Options}
+use Rattle.lt_command_line.specs.declared.options.Options.{Options}
 use Rattle.lt_tool.specs.Check.{IsChecked, IsUnchecked, ToldInPart, report_line}
-use Rattle.lt_tool.specs.declared.words.Job.{Job}
-use Rattle.lt_tool.specs.declared.words.Job.TheVariants as jobs
-use Rattle.lt_tool.specs.declared.words.WordsError.{WordsError}
-use Rattle.lt_tool.specs.declared.words.WordsError.TheVariants as errors
+use Rattle.lt_command_line.specs.declared.words.Job.{Job}
+use Rattle.lt_command_line.specs.declared.words.Job.TheVariants as jobs
+use Rattle.lt_command_line.specs.declared.words.WordsError.{WordsError}
+use Rattle.lt_command_line.specs.declared.words.WordsError.TheVariants as errors
 use Rattle.lt_history.specs.Print.{AppendsFront}
 use Rattle.lt_tool.specs.Output.{IsRefused, Writes, WritesInPart}
-use Rattle.lt_tool.specs.Words.{IsReadOf}
+use Rattle.lt_command_line.specs.Words.{IsReadOf}
 
 -- The text is legal, and the writer holds its line more, and nothing else.
 pub record Told (source old new : Option (List ℕ)) : Type 0 where

@@ -21,12 +21,11 @@ mod input;
 mod output;
 mod program;
 mod run;
-mod words;
 mod work;
 
 pub use check::{CheckTextError, check_text};
+pub use lt_command_line::{Job, Options, WordsError, read_words};
 pub use lt_desk::{Finish, Gate, OpenGate};
 pub use program::{Failure, complain, status};
-pub use run::{Options, RunError, run_script, run_script_with};
-pub use words::{Job, WordsError, read_words};
+pub use run::{RunError, run_script, run_script_with};
 pub use work::perform;

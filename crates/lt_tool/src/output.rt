@@ -1,9 +1,9 @@
 ghost use Rattle.std.specs.Prelude.{◌≡◌, IfOk};
-ghost use Rattle.lt_tool.specs.Options.{AreInRange};
+ghost use Rattle.lt_command_line.specs.Options.{AreInRange};
 ghost use Rattle.lt_tool.specs.Output.{IsComposed, IsOutput, turns_of};
 
-use crate::Options;
 use crate::answer::put_answers;
+use lt_command_line::Options;
 use lt_desk::{Finish, Gate, Ran, RunFault, run};
 use lt_history::put_histories;
 use lt_script::Script;

@@ -1,9 +1,10 @@
-ghost use Rattle.std.specs.Prelude.{◌≡◌, ◌≢◌, true, false, IfOk, IfErr};
-ghost use Rattle.lt_tool.specs.Options.{AreInRange};
+ghost use Rattle.std.specs.Prelude.{◌≡◌, ◌≢◌, true, IfOk, IfErr};
+ghost use Rattle.lt_command_line.specs.Options.{AreInRange};
 ghost use Rattle.lt_tool.specs.Output.{Writes, WritesInPart, IsRefused, AreOf, unread, unscripted, unfinished};
 
 use crate::input::{Unread, read_text};
 use crate::output::run_commands;
+use lt_command_line::Options;
 use lt_desk::{Finish, Gate, OpenGate, RunFault};
 use lt_history::write_out;
 use lt_script::{Fault, Script, ScriptError, read_script};
@@ -12,33 +13,6 @@ use std::io::{Read, Write};
 use std::sync::Wait;
 use std::thread::Threads;
 use thiserror::Error;
-
-/// How a script is run. Shards are from 1 to 64, steps from 1 to 2^32, turns from 1 to 1,000,000,000.
-#[derive(Clone, Copy, Debug, PartialEq, Eq)]
-pub struct Options {
-    /// Shards of the table.
-    pub shards: usize,
-    /// Key steps that each shard can hold.
-    pub steps: u64,
-    /// Whether each pass runs on a thread of its own.
-    pub threads: bool,
-    /// Polls of one `await` with threads.
-    pub turns: u64,
-}
-
-impl Default for Options {
-    ghost is_default = { λ o. o ≡ record { shards = 4; steps = 1000000; threads = false; turns = 1000000 } };
-
-    /// 4 shards, 1,000,000 steps for each, no threads, 1,000,000 turns.
-    fn default() -> Options {
-        Options {
-            shards: 4,
-            steps: 1_000_000,
-            threads: false,
-            turns: 1_000_000,
-        }
-    }
-}
 
 /// Why a script was not run, or its output not written.
 #[derive(Clone, Copy, Debug, PartialEq, Eq, Drop, Error)]

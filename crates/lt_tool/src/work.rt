@@ -1,15 +1,13 @@
 ghost use Rattle.std.specs.Prelude.{◌≡◌, None, true, IfOk, IfErr};
 ghost use Rattle.std.specs.Io.KnownBytes.{Appends};
 ghost use Rattle.lt_history.specs.Print.{AppendsFront};
-ghost use Rattle.lt_tool.specs.Options.{AreInRange};
+ghost use Rattle.lt_command_line.specs.Options.{AreInRange};
 ghost use Rattle.lt_tool.specs.Output.{Writes};
-ghost use Rattle.lt_tool.specs.Words.{HasOptionsInRange, texts};
+ghost use Rattle.lt_command_line.specs.Words.{HasOptionsInRange, texts};
 ghost use Rattle.lt_tool.specs.Work.{IsFailedRun, IsFailedCheck, Told, LeavesOutput, IsDone, IsFailed, ReadsInput, AskForInput, Performs, Fails};
 
-use crate::{
-    CheckTextError, Failure, Finish, Job, Options, RunError, WordsError, check_text, read_words,
-    run_script,
-};
+use crate::{CheckTextError, Failure, Finish, RunError, check_text, run_script};
+use lt_command_line::{Job, Options, WordsError, read_words};
 use lt_history::write_out;
 use std::alloc::Global;
 use std::fs::{File, Files};

@@ -1,4 +1,4 @@
-ghost use Rattle.lt_tool.specs.Options.{AreInRange};
+ghost use Rattle.lt_command_line.specs.Options.{AreInRange};
 
 use crate::gates::{Crossed, Until};
 use crate::options::options;

@@ -1,0 +1,4 @@
+pub mod Commands
+pub mod Ranges
+pub mod Literals
+pub mod Told

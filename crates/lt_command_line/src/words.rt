@@ -1,0 +1,316 @@
+ghost use Rattle.std.specs.Prelude.{◌≡◌, ◌<◌, ◌≤◌, ◌^◌, [], ◌∷◌, ℕ, List, None, Some, true, false, IfOk, IfSome, codes, decimal, option_map};
+ghost use Rattle.clap.specs.Words.{Text, app_of, found_of, new_app, rows_of, rule_of, kind_of, subcommand_rows_of, with_rule};
+ghost use Rattle.clap.specs.declared.builder.command.Command.TheViews.{out-Command};
+ghost use Rattle.lt_command_line.specs.Options.{AreInRange, default_options, is_set, joined, number_or, options_of};
+ghost use Rattle.lt_command_line.specs.Words.{file_rule, number_rule, threads_rule, program, reader, runner, lockrun, order, order_of, run_of, chosen_of, IsToldBy, run as runs, check as checks, texts, HasOptionsInRange, IsReadOf, is_option, HasMost, IsOutOfRange, IsCommand, IsStray, Gives, Helps, Refuses};
+
+use crate::Options;
+use clap::error::ErrorKind;
+use clap::{Arg, ArgAction, ArgMatches, Command, Error};
+use lt_text::number::number;
+use std::alloc::{AllocError, Global};
+
+/// What the program is asked to do, and with which file: without a file it reads standard input.
+#[derive(Clone, Copy, Debug, PartialEq, Eq)]
+pub enum Job<'a> {
+    /// To run a script.
+    Run(Option<&'a str>, Options),
+    /// To check a text of histories.
+    Check(Option<&'a str>),
+}
+
+/// Why the words name no job.
+#[derive(Debug, Drop)]
+pub enum WordsError {
+    /// They ask for help. This is its text.
+    Help(String),
+    /// They are none of the program's.
+    Refused,
+    /// Memory ran out.
+    Memory,
+}
+
+/// The file that a command reads.
+fn file<'a>(alloc: Global, name: &'a str, help: &'a str) -> Arg<'a>
+    ensures rule { rule_of result ≡ file_rule }
+    ensures alone { result.global ≡ false }
+{
+    Arg::new(alloc, "file").value_name(name).help(help)
+}
+
+/// A command that reads a file.
+fn reader<'a>(
+    alloc: Global,
+    name: &'a str,
+    about: &'a str,
+    file: Arg<'a>,
+) -> Result<Command<'a>, AllocError>
+    requires rule { rule_of file ≡ file_rule }
+    requires alone { file.global ≡ false }
+    ensures reads { IfOk result (λ c. app_of c ≡ reader name.now) }
+    ensures alone { IfOk result (λ c. (out-Command c).has_globals ≡ false) }
+{
+    Command::new(alloc, name).about(about).arg(file)
+}
+
+/// An option that bears a number.
+fn number_option<'a>(alloc: Global, name: &'a str, help: &'a str) -> Arg<'a>
+    ensures rule { rule_of result ≡ number_rule name.now }
+    ensures alone { result.global ≡ false }
+{
+    Arg::new(alloc, name).long(name).value_name("N").help(help)
+}
+
+/// The option that asks for threads.
+fn threads_option<'a>(alloc: Global) -> Arg<'a>
+    ensures rule { rule_of result ≡ threads_rule }
+    ensures alone { result.global ≡ false }
+{
+    Arg::new(alloc, "threads")
+        .long("threads")
+        .action(ArgAction::SetTrue)
+        .help("Run each pass on a thread of its own")
+}
+
+/// The command that runs a script, without its options.
+fn script_reader<'a>(alloc: Global) -> Result<Command<'a>, AllocError>
+    ensures reads { IfOk result (λ c. app_of c ≡ reader (codes "run")) }
+    ensures alone { IfOk result (λ c. (out-Command c).has_globals ≡ false) }
+{
+    reader(
+        alloc,
+        "run",
+        "Runs a script and writes its answers and the histories of its keys",
+        file(
+            alloc,
+            "SCRIPT",
+            "The script; standard input where none is named",
+        ),
+    )
+}
+
+/// The command that runs a script.
+fn runner<'a>(alloc: Global) -> Result<Command<'a>, AllocError>
+    ensures reads { IfOk result (λ c. app_of c ≡ runner) }
+    ensures alone { IfOk result (λ c. (out-Command c).has_globals ≡ false) }
+{
+    let shards = number_option(alloc, "shards", "Shards of the table, 1 to 64");
+    let steps = number_option(
+        alloc,
+        "steps",
+        "Key steps that each shard can hold, 1 to 4294967296",
+    );
+    let turns = number_option(
+        alloc,
+        "turns",
+        "Polls of one `await` with threads, 1 to 1000000000",
+    );
+    script_reader(alloc)?
+        .arg(shards)?
+        .arg(steps)?
+        .arg(threads_option(alloc))?
+        .arg(turns)
+}
+
+/// The program without its commands.
+fn program<'a>(alloc: Global) -> Result<Command<'a>, AllocError>
+    ensures { IfOk result (λ c. app_of c ≡ program) }
+{
+    Command::new(alloc, "lockrun")
+        .no_binary_name(true)
+        .about(
+            "Runs scripts of calls of a lock table, and checks histories of its keys. Without a word it is `run`.",
+        )
+        .bin_name("lockrun")
+}
+
+/// The program's command line.
+fn command<'a>(alloc: Global) -> Result<Command<'a>, AllocError>
+    ensures { IfOk result (λ c. app_of c ≡ lockrun) }
+{
+    let run = runner(alloc)?;
+    let check = reader(
+        alloc,
+        "check",
+        "Checks whether a text tells legal histories of keys",
+        file(
+            alloc,
+            "FILE",
+            "The text; standard input where none is named",
+        ),
+    )?;
+    program(alloc)?.subcommand(run)?.subcommand(check)
+}
+
+/// The number that an option's word spells, if it is from 1 to `most`; where there is no word, the default.
+fn number_or(default: u64, most: u64, word: Option<&str>) -> Option<u64>
+    requires some { 1 ≤ default }
+    requires few { default ≤ most }
+    ensures spelt { result ≡ number_or default most (option_map (λ s. s.now) word.entry) }
+    ensures range { IfSome result (λ n. (1 ≤ n) × (n ≤ most)) }
+{
+    let Some(word) = word else {
+        return Some(default);
+    };
+    let n = number(word.as_bytes())?;
+    if 1 <= n && n <= most { Some(n) } else { None }
+}
+
+/// Whether a flag is given: its value is `true` then.
+fn is_set(value: Option<&str>) -> bool
+    ensures { result ≡ is_set (option_map (λ s. s.now) value.entry) }
+{
+    match value {
+        Some(value) => value == "true",
+        None => false,
+    }
+}
+
+/// Options of which each number is there.
+fn joined(
+    shards: Option<u64>,
+    steps: Option<u64>,
+    threads: bool,
+    turns: Option<u64>,
+) -> Option<Options>
+    requires shards { IfSome shards (λ n. (1 ≤ n) × (n ≤ 64)) }
+    requires steps { IfSome steps (λ n. (1 ≤ n) × (n ≤ 2 ^ 32)) }
+    requires turns { IfSome turns (λ n. (1 ≤ n) × (n ≤ 1000000000)) }
+    ensures joined { result ≡ joined shards steps threads turns }
+    ensures range { IfSome result AreInRange }
+{
+    let shards = shards? as usize;
+    let steps = steps?;
+    let turns = turns?;
+    Some(Options {
+        shards,
+        steps,
+        threads,
+        turns,
+    })
+}
+
+/// What the words of the options say together, if each number is in its range.
+fn options_of(
+    shards: Option<&str>,
+    steps: Option<&str>,
+    threads: Option<&str>,
+    turns: Option<&str>,
+) -> Option<Options>
+    ensures said { result ≡ options_of (option_map (λ s. s.now) shards.entry) (option_map (λ s. s.now) steps.entry) (option_map (λ s. s.now) threads.entry) (option_map (λ s. s.now) turns.entry) }
+    ensures range { IfSome result AreInRange }
+{
+    let usual = Options::default();
+    joined(
+        number_or(usual.shards as u64, 64, shards),
+        number_or(usual.steps, 4_294_967_296, steps),
+        is_set(threads),
+        number_or(usual.turns, 1_000_000_000, turns),
+    )
+}
+
+/// What the options of `run` say, if their numbers are in range.
+fn chosen_of(matches: &ArgMatches<'_>) -> Option<Options>
+    ensures said { result ≡ chosen_of (rows_of (found_of matches.now)) }
+    ensures range { IfSome result AreInRange }
+{
+    options_of(
+        matches.get_str("shards"),
+        matches.get_str("steps"),
+        matches.get_str("threads"),
+        matches.get_str("turns"),
+    )
+}
+
+/// The job that `run` asks for, if its numbers are in range.
+fn run_of<'a>(matches: &ArgMatches<'a>) -> Option<Job<'a>>
+    ensures named { option_map order result ≡ run_of (rows_of (found_of matches.now)) }
+    ensures options { IfSome result HasOptionsInRange }
+{
+    let options = chosen_of(matches)?;
+    Some(Job::Run(matches.get_str("file"), options))
+}
+
+/// The job that the matches name.
+fn job_of<'a>(matches: &ArgMatches<'a>) -> Option<Job<'a>>
+    ensures named { option_map order result ≡ order_of (subcommand_rows_of matches.now) }
+    ensures options { IfSome result HasOptionsInRange }
+{
+    let Some((name, inner)) = matches.subcommand() else {
+        return Some(Job::Run(None, Options::default()));
+    };
+    if name == "run" {
+        return run_of(inner);
+    }
+    if name == "check" {
+        return Some(Job::Check(inner.get_str("file")));
+    }
+    None
+}
+
+/// What clap's error comes to.
+fn told(alloc: Global, error: &Error) -> WordsError
+    ensures { IsToldBy (kind_of error.now) result }
+{
+    match error.kind() {
+        ErrorKind::DisplayHelp => match format!(in alloc; "{error}") {
+            Ok(text) => WordsError::Help(text),
+            Err(_) => WordsError::Memory,
+        },
+        ErrorKind::OutOfMemory => WordsError::Memory,
+        _ => WordsError::Refused,
+    }
+}
+
+/// The job that clap finds in the words.
+fn parsed<'a>(alloc: Global, words: &'a [&'a str]) -> Result<Job<'a>, WordsError>
+    ensures read { IsReadOf (texts words.now) result }
+    ensures options { IfOk result HasOptionsInRange }
+{
+    let Ok(command) = command(alloc) else {
+        return Err(WordsError::Memory);
+    };
+    match command.try_get_matches_from(words) {
+        Ok(matches) => match job_of(&matches) {
+            Some(job) => Ok(job),
+            None => Err(WordsError::Refused),
+        },
+        Err(error) => Err(told(alloc, &error)),
+    }
+}
+
+/// Reads the words behind the program's name: `run` or `check`, and a file's name or none, and behind `run` its options. Without
+/// a word it is `run`.
+///
+/// An option's number is decimal digits alone, as `lt_text` reads numbers: no sign, and no zero before other digits. A number
+/// that is out of its range, or a word that spells none, is refused as the command line.
+pub fn read_words<'a>(alloc: Global, words: &'a [&'a str]) -> Result<Job<'a>, WordsError>
+    // It is what clap's rules find in the words, where the numbers are in range.
+    ensures read { IsReadOf (texts words.now) result }
+    ensures options { IfOk result HasOptionsInRange }
+
+    ensures none { texts words.now ≡ [] → Gives result (runs None default_options) }
+    ensures run { texts words.now ≡ codes "run" ∷ [] → Gives result (runs None default_options) }
+    ensures script { (file : Text) → is_option file ≡ false → texts words.now ≡ codes "run" ∷ file ∷ [] → Gives result (runs (Some file) default_options) }
+    ensures check { texts words.now ≡ codes "check" ∷ [] → Gives result (checks None) }
+    ensures histories { (file : Text) → is_option file ≡ false → texts words.now ≡ codes "check" ∷ file ∷ [] → Gives result (checks (Some file)) }
+
+    // Each option says what it says, and those that are left out have their defaults.
+    ensures threads { texts words.now ≡ codes "run" ∷ codes "--threads" ∷ [] → Gives result (runs None (record default_options { threads = true })) }
+    ensures shards { (n : ℕ) → 1 ≤ n → n ≤ 64 → texts words.now ≡ codes "run" ∷ codes "--shards" ∷ decimal n ∷ [] → Gives result (runs None (record default_options { shards = n })) }
+    ensures steps { (n : ℕ) → 1 ≤ n → n ≤ 2 ^ 32 → texts words.now ≡ codes "run" ∷ codes "--steps" ∷ decimal n ∷ [] → Gives result (runs None (record default_options { steps = n })) }
+    ensures turns { (n : ℕ) → 1 ≤ n → n ≤ 1000000000 → texts words.now ≡ codes "run" ∷ codes "--turns" ∷ decimal n ∷ [] → Gives result (runs None (record default_options { turns = n })) }
+    ensures together { (file : Text) → is_option file ≡ false → texts words.now ≡ codes "run" ∷ file ∷ codes "--shards" ∷ codes "1" ∷ codes "--steps" ∷ codes "2" ∷ [] → Gives result (runs (Some file) (record default_options { shards = 1; steps = 2 })) }
+
+    ensures help { texts words.now ≡ codes "--help" ∷ [] → Helps result }
+    ensures help_of { (name : Text) → IsCommand name → texts words.now ≡ name ∷ codes "--help" ∷ [] → Helps result }
+
+    // A first word that is no command and no option, two files, an option of check, and a number of run that is out of its
+    // range, or no number, are refused.
+    ensures stray { (word : Text) (rest : List Text) → IsStray word → texts words.now ≡ word ∷ rest → Refuses result }
+    ensures two { (name first second : Text) → IsCommand name → is_option first ≡ false → is_option second ≡ false → texts words.now ≡ name ∷ first ∷ second ∷ [] → Refuses result }
+    ensures out_of_range { (name word : Text) (most : ℕ) → HasMost name most → is_option word ≡ false → IsOutOfRange word most → texts words.now ≡ codes "run" ∷ name ∷ word ∷ [] → Refuses result }
+    ensures option_of_check { (name word : Text) (most : ℕ) → HasMost name most → texts words.now ≡ codes "check" ∷ name ∷ word ∷ [] → Refuses result }
+{
+    parsed(alloc, words)
+}
