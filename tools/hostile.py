@@ -148,7 +148,7 @@ def refuse_in_program(report, shim, lanes):
     scripts = example_scripts()
     runs = [(['run'], open(it, 'rb').read()) for it in scripts] + [(['run'], APART), (['run', '--threads'], APART)]
     histories = [open(it + '.stdout', 'rb').read() for it in scripts]
-    runs += [(['check'], it[it.index(b'locks 1\n'):]) for it in histories]
+    runs += [(['check'], it[it.index(b'locks 2\n'):]) for it in histories]
     runs += [(['run', scripts[0]], b''), (['--help'], b''), (['run', '--help'], b'')]
     totals, faults = {}, []
     for words, text in runs:
@@ -191,10 +191,15 @@ def line_fault(words):
     if len(words) != CALLS[call] and not (call == b'open' and len(words) > 4):
         return 'BadWords'
     rest = words[2:]
-    if call in (b'open', b'acquire', b'update', b'finish') and not is_number(rest.pop(0), 1, 2 ** 64):
-        return 'BadTxn'
+    if call in (b'open', b'acquire', b'update', b'finish'):
+        owner = rest.pop(0)
+        if not is_number(owner, 1, 2 ** 64) and (call, owner) != (b'open', b'-'):
+            return 'BadTxn'
     if call in (b'open', b'acquire', b'update') and not is_time(rest.pop(0)):
         return 'BadTime'
+    if call == b'open' and rest and rest[0].startswith(b'max=') and rest[0][-2:] not in (b':r', b':w'):
+        if not is_number(rest.pop(0)[4:], 1, 2 ** 32):
+            return 'BadMax'
     for word in rest:
         if call == b'open':
             if word[-2:] not in (b':r', b':w'):
@@ -233,7 +238,7 @@ def cut_script(program, text, n):
     told = script_told(text[:n])
     if told:
         return (ran.returncode, ran.stdout, ran.stderr) == (1, b'', told)
-    histories = ran.stdout[ran.stdout.find(b'locks 1\n'):]
+    histories = ran.stdout[ran.stdout.find(b'locks 2\n'):]
     answers = ran.stdout[:len(ran.stdout) - len(histories)].count(b'\n')
     lines = [line for line in text[:n].split(b'\n') if line.strip(b' ') and not line.startswith(b'#')]
     checked = subprocess.run([program, 'check'], input=histories, capture_output=True)
@@ -252,7 +257,7 @@ def cut_everywhere(report, lanes):
     tried, faults = 0, []
     for name in example_scripts():
         script, output = open(name, 'rb').read(), open(name + '.stdout', 'rb').read()
-        for text, cut in ((script, cut_script), (output[output.index(b'locks 1\n'):], cut_histories)):
+        for text, cut in ((script, cut_script), (output[output.index(b'locks 2\n'):], cut_histories)):
             places = range(len(text) + 1)
             ended = lanes.map(lambda n: (n, cut(program, text, n)), places)
             faults += [f'{os.path.basename(name)}, {cut.__name__}: {n} bytes' for n, is_right in ended if not is_right]

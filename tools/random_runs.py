@@ -43,7 +43,9 @@ def script(rng):
         if call == 'open':
             many = rng.choices([0, 1, 2, 3, 257], [1, 20, 15, 10, 1])[0]
             accesses = [f'{rng.choice(keys)}:{rng.choice("rw")}' for _ in range(many)]
-            lines.append([number, call, txn, ts] + accesses)
+            owner = txn if rng.random() < 0.75 else '-'
+            bound = [f'max={rng.randint(1, 3)}'] if rng.random() < 0.3 else []
+            lines.append([number, call, owner, ts] + bound + accesses)
         elif call in ('acquire', 'update'):
             lines.append([number, call, txn, ts, key])
         elif call == 'finish':
@@ -56,11 +58,11 @@ def script(rng):
 
 
 class Request:
-    def __init__(self, number, txn, ts, accesses):
+    def __init__(self, number, txn, ts, bound, accesses):
         written = {a[:-2] for a in accesses if a.endswith(':w')}
         read = {a[:-2] for a in accesses} - written
         self.keys = [(k, 'w') for k in sorted(written)] + [(k, 'r') for k in sorted(read)]
-        self.number, self.txn, self.ts = number, txn, ts
+        self.number, self.txn, self.ts, self.bound = number, txn, ts, bound
         self.place, self.waits, self.waited, self.mode = 0, 0, False, 'free'
 
 
@@ -70,8 +72,8 @@ class Output:
     def __init__(self, text):
         ask(text.endswith('\n'), 'the last line has no end')
         lines = text.split('\n')[:-1]
-        ask('locks 1' in lines, 'no histories')
-        cut = lines.index('locks 1')
+        ask('locks 2' in lines, 'no histories')
+        cut = lines.index('locks 2')
         self.histories = ''.join(line + '\n' for line in lines[cut:])
         self.answers, self.total = collections.defaultdict(list), cut
         last = (0, 0)
@@ -114,7 +116,7 @@ class Machine:
     def open(self, words, answer):
         if self.request:
             return ask(answer == 'busy', 'open', answer)
-        accesses = words[4:]
+        bound, accesses = (words[4:5], words[5:]) if words[4:] and words[4].startswith('max=') else ([], words[4:])
         if not accesses:
             return ask(answer == 'refused NoKeys', 'open of nothing', answer)
         if len(accesses) > 256:
@@ -123,7 +125,7 @@ class Machine:
         ask(word == 'request', 'open', answer)
         ask(number not in self.numbers, 'a number twice', answer)
         self.numbers.add(number)
-        self.request = Request(number, words[2], words[3], accesses)
+        self.request = Request(number, words[2], words[3], bound, accesses)
 
     def scan(self, _words, answer):
         r = self.request
@@ -136,12 +138,17 @@ class Machine:
             r.place, r.mode = r.place + 1, 'free'
         while r.place < len(r.keys):
             key, access = r.keys[r.place]
-            reply = self.step(key, f'visit {r.number}.{r.waits + 1} {r.txn} {r.ts} {access}')
+            call = ' '.join([f'visit {r.number}.{r.waits + 1} {r.txn} {r.ts} {access}'] + r.bound)
+            reply = self.step(key, call)
             if reply is None:
                 return ask(answer == 'refused HistoryFull', 'a visit is missing at', key, answer)
             if reply == 'wait':
                 r.waits, r.waited, r.mode = r.waits + 1, True, 'waiting'
                 return ask(answer == f'waiting {key}', 'scan', answer)
+            if reply == 'long':
+                ask(r.bound and access == 'w', 'long without a bound', answer)
+                r.place, r.waited = 0, False
+                return ask(answer == f'long {key}', 'scan', answer)
             ask(reply == 'pass', 'visit', reply)
             r.place += 1
         wanted = 'rescan' if r.waited else 'proceed'
@@ -228,7 +235,7 @@ def changed(rng, text):
     """The output with one answer or one step changed, left out or told twice."""
     lines = text.split('\n')[:-1]
     at = rng.randrange(len(lines))
-    cut = lines.index('locks 1')
+    cut = lines.index('locks 2')
     if at == cut:
         return None
     kind = rng.randrange(3)
@@ -239,7 +246,7 @@ def changed(rng, text):
     elif at < cut:
         number, place, words = lines[at].split(' ', 2)
         other = rng.choice([w for w in ('busy', 'proceed', 'rescan', 'idle', 'none', 'done', 'taken', 'freed', 'left',
-                                        'request 99', 'refused Leaving', 'stranger', 'waiting zz') if w != words])
+                                        'request 99', 'refused Leaving', 'stranger', 'waiting zz', 'long zz') if w != words])
         lines[at] = f'{number} {place} {other}'
     else:
         key, index, number, rest = lines[at].split(' ', 3)

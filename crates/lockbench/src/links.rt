@@ -140,7 +140,7 @@ fn time<R: Runtime>(rt: &R, alloc: Global, size: u64, numbers: u64) -> anyhow::R
     };
     let stand = Stand {
         number: 0,
-        txn,
+        txn: Some(txn),
         ts: Timestamp {
             wall: 1,
             logical: 0,

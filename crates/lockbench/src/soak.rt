@@ -110,9 +110,10 @@ fn random_enter(alloc: Global, random: &mut Random) -> Result<Command, AllocErro
         accesses.push((random_key(random), access))?;
     }
     Ok(Command::Enter {
-        txn: random_txn(random),
+        txn: Some(random_txn(random)),
         wall: random.below(9),
         accesses,
+        longest: 0,
     })
 }
 
@@ -157,6 +158,7 @@ fn next_command(alloc: Global, random: &mut Random, told: Told) -> Option<Comman
         Told::Left => random_enter(alloc, random).ok(),
         Told::Scanned(Scan::Waiting(_)) | Told::Polled(Poll::Waiting) => Some(waiting_call(random)),
         Told::Entered(_) | Told::Scanned(Scan::Rescan) | Told::Polled(_) => Some(Command::Scan),
+        Told::Scanned(Scan::TooLong(_)) => Some(Command::Leave),
         Told::NotScanned(_) | Told::NotStepped(_) => Some(Command::Leave),
         Told::Scanned(Scan::Proceed) | Told::Stepped(_) | Told::Nothing => Some(random_call(
             random,
@@ -175,6 +177,8 @@ fn is_possible(before: Told, line: &Line) -> bool {
             Some((last, others)) => *last == Reply::MustWait && are_passed(others),
             None => false,
         },
+        // No request has a bound.
+        Told::Scanned(Scan::TooLong(_)) => false,
         Told::Scanned(_) => are_passed(&line.replies),
         Told::NotScanned(ScanError::HistoryFull) => are_passed(&line.replies),
         Told::NotScanned(ScanError::WaitsOut) => are_passed(&line.replies),

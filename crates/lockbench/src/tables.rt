@@ -58,7 +58,7 @@ fn visit<T: KeyTable>(
     let Some(txn) = TxnId::new(number.wrapping_add(1)) else {
         return Ok(false);
     };
-    let Some(request) = Request::new(number, txn, at(1), 1) else {
+    let Some(request) = Request::new(number, Some(txn), at(1), 1, 0) else {
         return Ok(false);
     };
     lets.clear();

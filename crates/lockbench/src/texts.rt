@@ -31,9 +31,9 @@ const SCRIPTS: [&[u8]; 4] = [
 
 /// Histories of each call and each reply.
 const HISTORIES: [&[u8]; 3] = [
-    b"locks 1\na 1 4 acquire 9 10.0 = taken\na 2 1 visit 1.1 1 12.0 r = wait\na 3 2 visit 2.1 2 15.0 r = wait\na 4 3 visit 3.1 3 1.0 w = wait\na 5 4 update 9 13.0 = raised let 1.1\na 6 4 finish 9 = freed let 2.1 3.1\na 7 3 look 3 = reserved\nb 1 3 leave 3 = absent\n",
-    b"locks 1\na 1 3 acquire 9 10.0 = taken\na 2 2 visit 2.1 2 10.0 w = wait\na 3 3 finish 9 = freed let 2.1\na 4 1 visit 1.1 1 10.0 w = pass\na 5 2 look 2 = idle\na 6 1 look 1 = reserved\na 7 1 acquire 1 11.0 = taken\na 8 1 finish 1 = freed\na 9 2 look 2 = reserved\na 10 2 leave 2 = left\n",
-    b"locks 1\na 1 1 acquire 7 20.0 = taken\na 2 1 acquire 7 5.0 = kept\na 3 2 acquire 8 30.0 = other\nb 1 2 look 5 = nothing\nc 1 2 finish 8 = other\n",
+    b"locks 2\na 1 4 acquire 9 10.0 = taken\na 2 1 visit 1.1 1 12.0 r = wait\na 3 2 visit 2.1 2 15.0 r = wait\na 4 3 visit 3.1 3 1.0 w = wait\na 5 4 update 9 13.0 = raised let 1.1\na 6 4 finish 9 = freed let 2.1 3.1\na 7 3 look 3 = reserved\nb 1 3 leave 3 = absent\n",
+    b"locks 2\na 1 3 acquire 9 10.0 = taken\na 2 2 visit 2.1 2 10.0 w = wait\na 3 3 finish 9 = freed let 2.1\na 4 1 visit 1.1 1 10.0 w = pass\na 5 2 look 2 = idle\na 6 1 look 1 = reserved\na 7 1 acquire 1 11.0 = taken\na 8 1 finish 1 = freed\na 9 2 look 2 = reserved\na 10 2 leave 2 = left\n",
+    b"locks 2\na 1 1 acquire 7 20.0 = taken\na 2 1 acquire 7 5.0 = kept\na 3 2 acquire 8 30.0 = other\nb 1 2 look 5 = nothing\nc 1 2 finish 8 = other\n",
 ];
 
 /// What was counted.
@@ -117,7 +117,7 @@ fn try_histories(alloc: Global, text: &[u8], tally: &mut Tally) {
     }
 }
 
-/// The histories in an output: from the line `locks 1` on.
+/// The histories in an output: from the line `locks 2` on.
 fn histories_in(output: &[u8]) -> &[u8] {
     let mut rest = output;
     for _ in 0..u64::MAX {

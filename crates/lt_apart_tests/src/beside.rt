@@ -223,7 +223,7 @@ fn scanned<N: Name, T: KeyTable, R: Wait>(
     let txn = TxnId::new(txn)?;
     let mut accesses = Vec::new(alloc);
     accesses.push((key, Access::Write)).ok()?;
-    let Ok(mut guard) = table.enter(rt, alloc, pass, txn, TIME, &accesses) else {
+    let Ok(mut guard) = table.enter(rt, alloc, pass, Some(txn), TIME, &accesses, 0) else {
         return None;
     };
     let scan = table.scan(rt, &mut guard).ok()?;

@@ -103,10 +103,11 @@ look_at keys place key old new number answered there ok = IfOk-weaker answered _
 
 -- ---- open
 
-pub is_entered : (w : WalkState) (number txn : ℕ) (ts : Timestamp) → number ≡ w.asked.number → w.asked.txn ≡ txn → w.asked.ts ≡ ts → w.progress ≡ at_start → w.answers ≡ [] → w ≡ entered w.asked.keys number txn ts
-is_entered w number txn ts n t s p a =
+pub is_entered : (w : WalkState) (number : ℕ) (txn : Option ℕ) (ts : Timestamp) (longest : ℕ) → number ≡ w.asked.number → w.asked.txn ≡ txn → w.asked.ts ≡ ts → w.asked.longest ≡ longest → w.progress ≡ at_start → w.answers ≡ [] → w ≡ entered w.asked.keys number txn ts longest
+is_entered w number txn ts longest n t s l p a =
     ap (λ (x : ℕ). record w { asked = record w.asked { number = x } }) (sym n)
-    ∙ (ap (λ (x : ℕ). record w { asked = record w.asked { number = number; txn = x } }) t
+    ∙ (ap (λ (x : Option ℕ). record w { asked = record w.asked { number = number; txn = x } }) t
     ∙ (ap (λ (x : Timestamp). record w { asked = record w.asked { number = number; txn = txn; ts = x } }) s
-    ∙ (ap (λ (x : Progress). record w { asked = record w.asked { number = number; txn = txn; ts = ts }; progress = x }) p
-    ∙ ap (λ (x : List Answer). record w { asked = record w.asked { number = number; txn = txn; ts = ts }; progress = at_start; answers = x }) a)))
+    ∙ (ap (λ (x : ℕ). record w { asked = record w.asked { number = number; txn = txn; ts = ts; longest = x } }) l
+    ∙ (ap (λ (x : Progress). record w { asked = record w.asked { number = number; txn = txn; ts = ts; longest = longest }; progress = x }) p
+    ∙ ap (λ (x : List Answer). record w { asked = record w.asked { number = number; txn = txn; ts = ts; longest = longest }; progress = at_start; answers = x }) a))))

@@ -20,7 +20,7 @@ use Rattle.lt_desk.specs.declared.answer.LineAnswer.{LineAnswer}
 use Rattle.lt_desk.specs.declared.answer.LineAnswer.TheVariants as answers
 use Rattle.lt_desk.specs.declared.answer.Refusal.{Refusal}
 use Rattle.lt_desk.specs.declared.answer.Refusal.TheVariants as refusals
-use Rattle.lt_desk.specs.Machine.{Rules, Deed, Runs, IsDone, IsNone, IsEntering, IsWaitingAt, IsScanAnswer, poll_answer, IsReplied, IsLookAt, IsLeaveOf}
+use Rattle.lt_desk.specs.Machine.{Rules, Deed, Runs, IsDone, IsNone, IsEntering, IsToldAt, IsScanAnswer, poll_answer, IsReplied, IsLookAt, IsLeaveOf}
 use Rattle.lt_desk.specs.Laws.{latest, HasNumber, HaveLatest, NumbersAreLatest}
 
 -- the answer names no new number, and the request is as before
@@ -30,34 +30,36 @@ keeps o answer before after l a h = rw (l, a) h
 none_next : (o : Option ℕ) (answer : LineAnswer) (steps : List Step) (after : Option WalkState) → IsNone answer steps after → HasNumber (latest o answer) after
 none_next o answer steps after h = rw h.2 tt
 
-enters : (o : Option ℕ) (txn : ℕ) (ts : Timestamp) (accesses : List (List ℕ × Access)) (answer : LineAnswer) (after : Option WalkState) → IsEntering txn ts accesses answer after → HasNumber (latest o answer) after
-enters o txn ts accesses (answers.Request n) after h = rw h.state refl
-enters o txn ts accesses (answers.Refused r) after h = rw h.1 tt
-enters o txn ts accesses answers.Busy after h = absurd h
-enters o txn ts accesses answers.Proceed after h = absurd h
-enters o txn ts accesses answers.Rescan after h = absurd h
-enters o txn ts accesses (answers.WaitingAt k) after h = absurd h
-enters o txn ts accesses answers.Let after h = absurd h
-enters o txn ts accesses answers.Waiting after h = absurd h
-enters o txn ts accesses answers.Idle after h = absurd h
-enters o txn ts accesses answers.Turns after h = absurd h
-enters o txn ts accesses (answers.Replied r) after h = absurd h
-enters o txn ts accesses answers.Stranger after h = absurd h
-enters o txn ts accesses answers.Done after h = absurd h
-enters o txn ts accesses answers.NoRequest after h = absurd h
+enters : (o : Option ℕ) (txn : Option ℕ) (ts : Timestamp) (accesses : List (List ℕ × Access)) (longest : ℕ) (answer : LineAnswer) (after : Option WalkState) → IsEntering txn ts accesses longest answer after → HasNumber (latest o answer) after
+enters o txn ts accesses longest (answers.Request n) after h = rw h.state refl
+enters o txn ts accesses longest (answers.Refused r) after h = rw h.1 tt
+enters o txn ts accesses longest answers.Busy after h = absurd h
+enters o txn ts accesses longest answers.Proceed after h = absurd h
+enters o txn ts accesses longest answers.Rescan after h = absurd h
+enters o txn ts accesses longest (answers.WaitingAt k) after h = absurd h
+enters o txn ts accesses longest (answers.TooLongAt k) after h = absurd h
+enters o txn ts accesses longest answers.Let after h = absurd h
+enters o txn ts accesses longest answers.Waiting after h = absurd h
+enters o txn ts accesses longest answers.Idle after h = absurd h
+enters o txn ts accesses longest answers.Turns after h = absurd h
+enters o txn ts accesses longest (answers.Replied r) after h = absurd h
+enters o txn ts accesses longest answers.Stranger after h = absurd h
+enters o txn ts accesses longest answers.Done after h = absurd h
+enters o txn ts accesses longest answers.NoRequest after h = absurd h
 
 pub scan_asked : (r : Result Progress ScanError) (max_waits : ℕ) (s : WalkState) (steps : List Step) (result : Result Scan ScanError) (after : WalkState) → IsScanBegun r max_waits s steps result after → after.asked ≡ s.asked
 scan_asked (Err e) max_waits s steps result after h = ap (λ (x : WalkState). x.asked) h.2
 scan_asked (Ok p) max_waits s steps result after h = h.stays
 
-waiting_next : (o : Option ℕ) (k : Option (List ℕ × Access)) (answer : LineAnswer) → IsWaitingAt k answer → latest o answer ≡ o
-waiting_next o None answer h = absurd h
-waiting_next o (Some k) answer h = rw h refl
+key_next : (told : List ℕ → LineAnswer) (o : Option ℕ) (k : Option (List ℕ × Access)) (answer : LineAnswer) → ((key : List ℕ) → latest o (told key) ≡ o) → IsToldAt told k answer → latest o answer ≡ o
+key_next told o None answer same h = absurd h
+key_next told o (Some k) answer same h = ap (latest o) h ∙ same k.0
 
 scan_next : (o : Option ℕ) (keys : List (List ℕ × Access)) (result : Result Scan ScanError) (answer : LineAnswer) → IsScanAnswer keys result answer → latest o answer ≡ o
 scan_next o keys (Ok scans.Proceed) answer h = rw h refl
 scan_next o keys (Ok scans.Rescan) answer h = rw h refl
-scan_next o keys (Ok (scans.Waiting place)) answer h = waiting_next o (slice_get keys place) answer h
+scan_next o keys (Ok (scans.Waiting place)) answer h = key_next (λ key. answers.WaitingAt key) o (slice_get keys place) answer (λ key. refl) h
+scan_next o keys (Ok (scans.TooLong place)) answer h = key_next (λ key. answers.TooLongAt key) o (slice_get keys place) answer (λ key. refl) h
 scan_next o keys (Err refused.Leaving) answer h = rw h refl
 scan_next o keys (Err refused.StillWaiting) answer h = rw h refl
 scan_next o keys (Err refused.WaitsOut) answer h = rw h refl
@@ -80,6 +82,7 @@ replied_next o key call answers.Busy steps h = refl
 replied_next o key call answers.Proceed steps h = refl
 replied_next o key call answers.Rescan steps h = refl
 replied_next o key call (answers.WaitingAt k) steps h = refl
+replied_next o key call (answers.TooLongAt k) steps h = refl
 replied_next o key call answers.Let steps h = refl
 replied_next o key call answers.Waiting steps h = refl
 replied_next o key call answers.Idle steps h = refl
@@ -110,6 +113,7 @@ leaves o s answers.Busy steps after h n = absurd h
 leaves o s answers.Proceed steps after h n = absurd h
 leaves o s answers.Rescan steps after h n = absurd h
 leaves o s (answers.WaitingAt k) steps after h n = absurd h
+leaves o s (answers.TooLongAt k) steps after h n = absurd h
 leaves o s answers.Let steps after h n = absurd h
 leaves o s answers.Waiting steps after h n = absurd h
 leaves o s answers.Idle steps after h n = absurd h
@@ -119,8 +123,8 @@ leaves o s answers.Stranger steps after h n = absurd h
 leaves o s answers.NoRequest steps after h n = absurd h
 
 next : (rules : Rules) (o : Option ℕ) (action : Action) (before : Option WalkState) (word : ℕ) (answer : LineAnswer) (steps : List Step) (after : Option WalkState) → IsDone rules action before word answer steps after → HasNumber o before → HasNumber (latest o answer) after
-next rules o (acts.Open txn ts accesses) None word answer steps after h n = enters o txn ts accesses answer after h.1
-next rules o (acts.Open txn ts accesses) (Some s) word answer steps after h n = rw (h.0, h.2) n
+next rules o (acts.Open txn ts accesses longest) None word answer steps after h n = enters o txn ts accesses longest answer after h.1
+next rules o (acts.Open txn ts accesses longest) (Some s) word answer steps after h n = rw (h.0, h.2) n
 next rules o acts.Scan None word answer steps after h n = none_next o answer steps after h
 next rules o acts.Scan (Some s) word answer steps after h n = same_asked o s h.state answer after (scan_next o s.asked.keys h.result answer h.told) h.goes_on (scan_asked (scan_start (heard s.asked.number s.progress word)) rules.max_waits s steps h.result h.state h.scan) n
 next rules o acts.Await None word answer steps after h n = none_next o answer steps after h

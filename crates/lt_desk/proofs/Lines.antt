@@ -53,6 +53,7 @@ turns_are answers.Busy e = cc
 turns_are answers.Proceed e = cc
 turns_are answers.Rescan e = cc
 turns_are (answers.WaitingAt k) e = cc
+turns_are (answers.TooLongAt k) e = cc
 turns_are answers.Let e = cc
 turns_are answers.Waiting e = cc
 turns_are answers.Idle e = cc

@@ -1,5 +1,5 @@
 -- Answers that are replies, and lets.
-use Rattle.std.proofs.Common.{◌≡◌, ℕ, List, [], ◌∷◌, Option, Some, None, Result, Ok, Err, refl}
+use Rattle.std.proofs.Common.{◌≡◌, ◌≢◌, ℕ, List, [], ◌∷◌, Option, Some, None, Result, Ok, Err, refl}
 use Rattle.std.specs.Prelude.{slice_get}
 use Rattle.lt_ids.specs.Ticket.{Wait}
 use Rattle.lt_ids.specs.declared.request.Access.{Access}
@@ -20,8 +20,9 @@ use Rattle.lt_table.specs.Reported.{wait_of}
 use Rattle.lt_table.specs.Runs.{WalkState}
 use Rattle.lt_script.specs.declared.command.Action.{Action}
 use Rattle.lt_script.specs.declared.command.Action.TheVariants as acts
+use Rattle.lt_desk.specs.declared.answer.LineAnswer.{LineAnswer}
 use Rattle.lt_desk.specs.declared.answer.LineAnswer.TheVariants as answers
-use Rattle.lt_desk.specs.Machine.{let_in_mode, IsStep, IsLookAt, IsWaitingAt, IsScanAnswer, poll_answer, place_of}
+use Rattle.lt_desk.specs.Machine.{let_in_mode, IsStep, IsLookAt, IsToldAt, IsScanAnswer, poll_answer, place_of}
 use Rattle.lt_desk.specs.Laws.{IsCallOf, HasStep, LetHasTicket, ReplyHasStep}
 
 let_mode : (turns : Option ℕ) (m : Mode) (t : Wait) → answers.Let ≡ poll_answer turns (polled_in m) → let_in_mode m t ≡ t ∷ []
@@ -29,6 +30,7 @@ let_mode turns modes.Let t e = refl
 let_mode None modes.Awaiting t e = cc
 let_mode (Some n) modes.Awaiting t e = cc
 let_mode turns modes.Free t e = cc
+let_mode turns modes.Stopped t e = cc
 let_mode turns modes.Leaving t e = cc
 
 pub let_ticket : LetHasTicket
@@ -40,14 +42,15 @@ no_poll None polls.Waiting r e = cc
 no_poll (Some n) polls.Waiting r e = cc
 no_poll turns polls.Idle r e = cc
 
-no_wait : (k : Option (List ℕ × Access)) (r : Reply) → IsWaitingAt k (answers.Replied r) → ⊥
-no_wait None r h = h
-no_wait (Some k) r h = cc
+no_key : (told : List ℕ → LineAnswer) (k : Option (List ℕ × Access)) (r : Reply) → ((key : List ℕ) → answers.Replied r ≢ told key) → IsToldAt told k (answers.Replied r) → ⊥
+no_key told None r never h = h
+no_key told (Some k) r never h = never k.0 h
 
 no_scan : (keys : List (List ℕ × Access)) (result : Result Scan ScanError) (r : Reply) → IsScanAnswer keys result (answers.Replied r) → ⊥
 no_scan keys (Ok scans.Proceed) r h = cc
 no_scan keys (Ok scans.Rescan) r h = cc
-no_scan keys (Ok (scans.Waiting place)) r h = no_wait (slice_get keys place) r h
+no_scan keys (Ok (scans.Waiting place)) r h = no_key (λ key. answers.WaitingAt key) (slice_get keys place) r (λ key e. cc) h
+no_scan keys (Ok (scans.TooLong place)) r h = no_key (λ key. answers.TooLongAt key) (slice_get keys place) r (λ key e. cc) h
 no_scan keys (Err refused.Leaving) r h = cc
 no_scan keys (Err refused.StillWaiting) r h = cc
 no_scan keys (Err refused.WaitsOut) r h = cc
@@ -68,8 +71,8 @@ none : (r : Reply) → answers.Replied r ≡ answers.NoRequest → ⊥
 none r e = cc
 
 pub reply_step : ReplyHasStep
-reply_step rules (acts.Open txn ts accesses) None word r steps after h = absurd h.1
-reply_step rules (acts.Open txn ts accesses) (Some s) word r steps after h = absurd (let e = h.0 in cc e)
+reply_step rules (acts.Open txn ts accesses longest) None word r steps after h = absurd h.1
+reply_step rules (acts.Open txn ts accesses longest) (Some s) word r steps after h = absurd (let e = h.0 in cc e)
 reply_step rules acts.Scan None word r steps after h = absurd (none r h.0)
 reply_step rules acts.Scan (Some s) word r steps after h = absurd (no_scan s.asked.keys h.result r h.told)
 reply_step rules acts.Await None word r steps after h = absurd (none r h.0)

@@ -9,7 +9,7 @@ use Rattle.lt_words.specs.History.{LetIn}
 use Rattle.lt_shard.specs.declared.answer.StepError.{StepError}
 use Rattle.lt_shard.specs.declared.answer.StepError.TheVariants as steps
 use Rattle.lt_table.specs.declared.progress.Mode.{Mode}
-use Rattle.lt_table.specs.declared.progress.Mode.TheVariants.{Free, Awaiting, Let, Leaving}
+use Rattle.lt_table.specs.declared.progress.Mode.TheVariants.{Free, Awaiting, Let, Stopped, Leaving}
 use Rattle.lt_table.specs.declared.progress.Progress.{Progress}
 use Rattle.lt_table.specs.declared.scan.Scan.{Scan}
 use Rattle.lt_table.specs.declared.scan.Scan.TheVariants as scans
@@ -17,12 +17,13 @@ use Rattle.lt_table.specs.declared.scan.ScanError.{ScanError}
 use Rattle.lt_table.specs.declared.scan.ScanError.TheVariants as refused
 use Rattle.lt_table.specs.declared.scan.Poll.{Poll}
 use Rattle.lt_table.specs.declared.scan.Poll.TheVariants as polls
-use Rattle.lt_table.specs.Machine.{heard, mode_heard, polled, polled_in, scan_start_in, scan_end, is_awaiting, next_visit}
+use Rattle.lt_table.specs.Machine.{heard, mode_heard, polled, polled_in, scan_start_in, scan_end, is_awaiting, is_stopped, next_visit}
 use Rattle.lt_table.specs.Runs.{WalkState, Step, Ends, IsScanBegun, of_step}
 use Rattle.lt_table.specs.Reported.{GuardState, IsScan, IsPoll, wait_of}
 use Rattle.lt_desk.specs.Told.{Tells}
 use Rattle.lt_desk.specs.declared.answer.LineAnswer.{LineAnswer}
-use Rattle.lt_desk.specs.Machine.{let_in_mode, let_from, let_read, let_gone_on, state_heard, numbers_of, IsScanAnswer, IsWaitingAt}
+use Rattle.lt_desk.specs.declared.answer.LineAnswer.TheVariants as answers
+use Rattle.lt_desk.specs.Machine.{let_in_mode, let_from, let_read, let_gone_on, state_heard, numbers_of, IsScanAnswer, IsToldAt}
 use Rattle.lt_desk.specs.Doing.{Polls}
 use Rattle.lt_desk.proofs.Telling.{tells_more, tells_then, tells_steps, tells_let}
 
@@ -36,11 +37,14 @@ by_test P false t f = f refl
 pub end_waits : (keys : ℕ) (p : Progress) → is_awaiting p.mode ≡ true → (scan_end keys p).result ≡ Ok (scans.Waiting p.place)
 end_waits keys p w = rw w refl
 
-pub end_out : (keys : ℕ) (p : Progress) → is_awaiting p.mode ≡ false → nat_lt p.place keys ≡ true → (scan_end keys p).result ≡ Err refused.WaitsOut
-end_out keys p w m = rw (w, m) refl
+pub end_stops : (keys : ℕ) (p : Progress) → is_awaiting p.mode ≡ false → is_stopped p.mode ≡ true → (scan_end keys p).result ≡ Ok (scans.TooLong p.place)
+end_stops keys p w s = rw (w, s) refl
 
-pub end_done : (keys : ℕ) (p : Progress) → is_awaiting p.mode ≡ false → nat_lt p.place keys ≡ false → (scan_end keys p).result ≡ Ok (cond p.waited scans.Rescan scans.Proceed)
-end_done keys p w m = rw (w, m) refl
+pub end_out : (keys : ℕ) (p : Progress) → is_awaiting p.mode ≡ false → is_stopped p.mode ≡ false → nat_lt p.place keys ≡ true → (scan_end keys p).result ≡ Err refused.WaitsOut
+end_out keys p w s m = rw (w, s, m) refl
+
+pub end_done : (keys : ℕ) (p : Progress) → is_awaiting p.mode ≡ false → is_stopped p.mode ≡ false → nat_lt p.place keys ≡ false → (scan_end keys p).result ≡ Ok (cond p.waited scans.Rescan scans.Proceed)
+end_done keys p w s m = rw (w, s, m) refl
 
 abbrev failed : ScanError → Result Scan ScanError
 failed e = Err e
@@ -48,9 +52,11 @@ failed e = Err e
 ended_so : (keys : ℕ) (p : Progress) → (scan_end keys p).result ≢ Err refused.StillWaiting
 ended_so keys p = by_test ((scan_end keys p).result ≢ Err refused.StillWaiting) (is_awaiting p.mode)
     (λ w e. absurd (let never : Ok (scans.Waiting p.place) ≡ Err refused.StillWaiting = sym (end_waits keys p w) ∙ e in cc))
-    (λ w. by_test ((scan_end keys p).result ≢ Err refused.StillWaiting) (nat_lt p.place keys)
-    (λ m e. absurd (let never : failed refused.WaitsOut ≡ failed refused.StillWaiting = sym (end_out keys p w m) ∙ e in cc))
-    (λ m e. absurd (let never : Ok (cond p.waited scans.Rescan scans.Proceed) ≡ Err refused.StillWaiting = sym (end_done keys p w m) ∙ e in cc)))
+    (λ w. by_test ((scan_end keys p).result ≢ Err refused.StillWaiting) (is_stopped p.mode)
+    (λ s e. absurd (let never : Ok (scans.TooLong p.place) ≡ Err refused.StillWaiting = sym (end_stops keys p w s) ∙ e in cc))
+    (λ s. by_test ((scan_end keys p).result ≢ Err refused.StillWaiting) (nat_lt p.place keys)
+    (λ m e. absurd (let never : failed refused.WaitsOut ≡ failed refused.StillWaiting = sym (end_out keys p w s m) ∙ e in cc))
+    (λ m e. absurd (let never : Ok (cond p.waited scans.Rescan scans.Proceed) ≡ Err refused.StillWaiting = sym (end_done keys p w s m) ∙ e in cc))))
 
 refused_so : (e : StepError) → failed (of_step e) ≢ failed refused.StillWaiting
 refused_so steps.HistoryFull = λ e. cc
@@ -64,6 +70,7 @@ goes_on : (m : Mode) (p : Progress) (max_waits : ℕ) (old : WalkState) (xs : Li
 goes_on Let p max_waits old xs result after e s = ends_so (next_visit old.asked max_waits s.last) (length old.asked.keys) s.last after.progress result s.ends
 goes_on Free p max_waits old xs result after e s = absurd cc
 goes_on Awaiting p max_waits old xs result after e s = absurd cc
+goes_on Stopped p max_waits old xs result after e s = absurd cc
 goes_on Leaving p max_waits old xs result after e s = absurd cc
 
 -- The ticket with which a scan goes on, if it goes on by its own reading of the word.
@@ -71,9 +78,11 @@ lets_in : (m n : Mode) (P : Wait → Type 0) (t : Wait) → (m ≡ Awaiting → 
 lets_in Awaiting Let P t f = (f refl refl, tt)
 lets_in Awaiting Free P t f = tt
 lets_in Awaiting Awaiting P t f = tt
+lets_in Awaiting Stopped P t f = tt
 lets_in Awaiting Leaving P t f = tt
 lets_in Free n P t f = tt
 lets_in Let n P t f = tt
+lets_in Stopped n P t f = tt
 lets_in Leaving n P t f = tt
 
 pub tells_scan : (max_waits : ℕ) (old new : GuardState) (result : Result Scan ScanError) → (s : IsScan max_waits old new result) → new.pass.number ≡ old.pass.number
@@ -91,6 +100,7 @@ through : (m : Mode) (P : Wait → Type 0) (t : Wait) → (polled_in m ≡ polls
 through Let P t f = (f refl, tt)
 through Free P t f = tt
 through Awaiting P t f = tt
+through Stopped P t f = tt
 through Leaving P t f = tt
 
 pub one_poll : (old new : GuardState) (found : Poll) → IsPoll old new found → (found ≡ polls.Through → LetIn new.pass.seen new.pass.number (wait_of new.walk)) → Polls old found new
@@ -115,6 +125,8 @@ still Awaiting true e = cc
 still Awaiting false e = refl
 still Let true e = refl
 still Let false e = refl
+still Stopped true e = refl
+still Stopped false e = refl
 still Leaving true e = refl
 still Leaving false e = refl
 
@@ -122,6 +134,7 @@ no_let : (m : Mode) (t : Wait) → polls.Waiting ≡ polled_in m → let_in_mode
 no_let Free t e = refl
 no_let Awaiting t e = refl
 no_let Let t e = cc
+no_let Stopped t e = refl
 no_let Leaving t e = refl
 
 -- Who waits still is as before.
@@ -144,14 +157,15 @@ polls_then a b c r p q =
     }
 
 -- A scan draws no number.
-waits_draw_none : (k : Option (List ℕ × Access)) (answer : LineAnswer) → IsWaitingAt k answer → numbers_of answer ≡ []
-waits_draw_none None answer h = absurd h
-waits_draw_none (Some k) answer h = ap numbers_of h
+told_draws_none : (told : List ℕ → LineAnswer) (k : Option (List ℕ × Access)) (answer : LineAnswer) → ((key : List ℕ) → numbers_of (told key) ≡ []) → IsToldAt told k answer → numbers_of answer ≡ []
+told_draws_none told None answer none h = absurd h
+told_draws_none told (Some k) answer none h = ap numbers_of h ∙ none k.0
 
 pub scans_draw_none : (keys : List (List ℕ × Access)) (result : Result Scan ScanError) (answer : LineAnswer) → IsScanAnswer keys result answer → numbers_of answer ≡ []
 scans_draw_none keys (Ok scans.Proceed) answer h = ap numbers_of h
 scans_draw_none keys (Ok scans.Rescan) answer h = ap numbers_of h
-scans_draw_none keys (Ok (scans.Waiting place)) answer h = waits_draw_none (slice_get keys place) answer h
+scans_draw_none keys (Ok (scans.Waiting place)) answer h = told_draws_none (λ key. answers.WaitingAt key) (slice_get keys place) answer (λ key. refl) h
+scans_draw_none keys (Ok (scans.TooLong place)) answer h = told_draws_none (λ key. answers.TooLongAt key) (slice_get keys place) answer (λ key. refl) h
 scans_draw_none keys (Err refused.Leaving) answer h = ap numbers_of h
 scans_draw_none keys (Err refused.StillWaiting) answer h = ap numbers_of h
 scans_draw_none keys (Err refused.WaitsOut) answer h = ap numbers_of h

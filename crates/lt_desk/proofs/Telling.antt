@@ -1,5 +1,5 @@
 -- Calls of a pass, one after the other.
-use Rattle.std.proofs.Common.{◌≡◌, ℕ, ◌+◌, ◌<◌, ◌≤◌, List, [], ◌∷◌, ◌++◌, length, inl, inr, refl, ap, sym, subst, ◌∙◌, arith}
+use Rattle.std.proofs.Common.{◌≡◌, ℕ, ◌+◌, ◌<◌, ◌≤◌, Option, List, [], ◌∷◌, ◌++◌, length, inl, inr, refl, ap, sym, subst, ◌∙◌, arith}
 use Rattle.std.specs.List.{AllByRecursion}
 use Rattle.std.proofs.lemmas.Option.{slice_get_within}
 use mathlib.Core.List.{IsPrefix}
@@ -160,8 +160,8 @@ pub tells_steps : (a : Seer) (xs : List runs.Step) (b : Seer) → AreReported a 
 tells_steps a [] b r = subst (λ (p : Seer). Tells a p [] [] []) (sym r) (tells_none a)
 tells_steps a (x ∷ xs) b r = tells_then a r.0 b (x ∷ []) xs [] [] [] [] (tells_step a r.0 x r.1) (tells_steps r.0 xs b r.2)
 
-pub tells_entered : (a : Seer) (given : List (List ℕ × Access)) (txn : ℕ) (ts : Timestamp) (max : ℕ) (g : GuardState) → IsEntered a given txn ts max g → Tells a g.pass [] (g.walk.asked.number ∷ []) []
-tells_entered a given txn ts max g e = record {
+pub tells_entered : (a : Seer) (given : List (List ℕ × Access)) (txn : Option ℕ) (ts : Timestamp) (longest max : ℕ) (g : GuardState) → IsEntered a given txn ts longest max g → Tells a g.pass [] (g.walk.asked.number ∷ []) []
+tells_entered a given txn ts longest max g e = record {
   of = e.more.of;
   number = e.more.number;
   seen = e.more.seen;

@@ -2,7 +2,7 @@
 use Rattle.std.specs.Prelude.{ℕ, ◌≡◌, List, [], ◌∷◌, ◌++◌, Option, Some, None}
 use Rattle.lt_plain.specs.declared.call.Call.{Call}
 use Rattle.lt_plain.specs.declared.call.Call.TheVariants.{Visit}
-use Rattle.lt_plain.specs.declared.call.Reply.TheVariants.{MustWait}
+use Rattle.lt_plain.specs.declared.call.Reply.TheVariants.{MustWait, TooLong}
 use Rattle.lt_table.specs.Runs.{WalkState, Step}
 use Rattle.lt_script.specs.declared.command.Action.TheVariants as acts
 use Rattle.lt_desk.specs.declared.answer.LineAnswer.{LineAnswer}
@@ -32,22 +32,27 @@ abbrev pub NumbersAreLatest : Type 0
 NumbersAreLatest = (rules : Rules) (ds : List Deed) (after : Option WalkState) → Runs rules None ds after → HaveLatest None ds
 
 abbrev pub IsVisitOf : ℕ → Call → Type 0
-IsVisitOf number (Visit ticket txn ts access) = ticket.number ≡ number
+IsVisitOf number (Visit ticket txn ts access longest) = ticket.number ≡ number
 IsVisitOf number _ = ⊥
 
--- The last step is a visit of the key by the request of this number, which has to wait.
-pub record EndsInWait (number : ℕ) (key : List ℕ) (steps : List Step) : Type 0 where
+-- The last step is a visit of the key by the request of this number, which had this reply.
+pub record EndsInVisit (number : ℕ) (key : List ℕ) (reply : Reply) (steps : List Step) : Type 0 where
   pub front : List Step
   pub last : Step
   pub all : steps ≡ front ++ last ∷ []
   pub key_is : last.key ≡ key
   pub visit : IsVisitOf number last.call
-  pub waits : last.answer.reply ≡ MustWait
+  pub replied : last.answer.reply ≡ reply
 
--- A line that is answered `waiting KEY` has made such a visit.
+-- A line that is answered `waiting KEY` has made a visit there that has to wait.
 abbrev pub WaitingHasVisit : Type 0
 WaitingHasVisit = (rules : Rules) (s : WalkState) (word : ℕ) (key : List ℕ) (steps : List Step) (after : Option WalkState) →
-    IsDone rules acts.Scan (Some s) word (answers.WaitingAt key) steps after → EndsInWait s.asked.number key steps
+    IsDone rules acts.Scan (Some s) word (answers.WaitingAt key) steps after → EndsInVisit s.asked.number key MustWait steps
+
+-- A line that is answered `long KEY` has made a visit there that was told so.
+abbrev pub LongHasVisit : Type 0
+LongHasVisit = (rules : Rules) (s : WalkState) (word : ℕ) (key : List ℕ) (steps : List Step) (after : Option WalkState) →
+    IsDone rules acts.Scan (Some s) word (answers.TooLongAt key) steps after → EndsInVisit s.asked.number key TooLong steps
 
 -- A line `let` goes on with the ticket of its request's latest wait.
 abbrev pub LetHasTicket : Type 0

@@ -41,16 +41,16 @@ IsNone answer steps after = (answer ≡ answers.NoRequest) × (steps ≡ []) × 
 -- ---- open
 
 -- a request that has just entered
-abbrev pub entered : List (List ℕ × Access) → ℕ → ℕ → Timestamp → WalkState
-entered keys number txn ts = record { asked = record { keys = keys; number = number; txn = txn; ts = ts }; progress = at_start; answers = [] }
+abbrev pub entered : List (List ℕ × Access) → ℕ → Option ℕ → Timestamp → ℕ → WalkState
+entered keys number txn ts longest = record { asked = record { keys = keys; number = number; txn = txn; ts = ts; longest = longest }; progress = at_start; answers = [] }
 
 -- A request entered, with this number.
-pub record IsEntered (txn : ℕ) (ts : Timestamp) (accesses : List (List ℕ × Access)) (number : ℕ) (after : Option WalkState) : Type 0 where
+pub record IsEntered (txn : Option ℕ) (ts : Timestamp) (accesses : List (List ℕ × Access)) (longest number : ℕ) (after : Option WalkState) : Type 0 where
   pub some : accesses ≢ []
   pub few : length accesses ≤ 256
   pub keys : List (List ℕ × Access)
   pub list : IsKeyList accesses keys
-  pub state : after ≡ Some (entered keys number txn ts)
+  pub state : after ≡ Some (entered keys number txn ts longest)
 
 abbrev pub IsEnterRefused : List (List ℕ × Access) → Refusal → Type 0
 IsEnterRefused accesses refusals.NoKeys = accesses ≡ []
@@ -58,28 +58,29 @@ IsEnterRefused accesses refusals.TooManyKeys = 256 < length accesses
 IsEnterRefused accesses refusals.NumbersOut = (accesses ≢ []) × (length accesses ≤ 256)
 IsEnterRefused accesses _ = ⊥
 
-abbrev pub IsEntering : ℕ → Timestamp → List (List ℕ × Access) → LineAnswer → Option WalkState → Type 0
-IsEntering txn ts accesses (answers.Request number) after = IsEntered txn ts accesses number after
-IsEntering txn ts accesses (answers.Refused refusal) after = IsEnterRefused accesses refusal × (after ≡ None)
-IsEntering txn ts accesses _ after = ⊥
+abbrev pub IsEntering : Option ℕ → Timestamp → List (List ℕ × Access) → ℕ → LineAnswer → Option WalkState → Type 0
+IsEntering txn ts accesses longest (answers.Request number) after = IsEntered txn ts accesses longest number after
+IsEntering txn ts accesses longest (answers.Refused refusal) after = IsEnterRefused accesses refusal × (after ≡ None)
+IsEntering txn ts accesses longest _ after = ⊥
 
 -- With a request it is busy, and nothing is called.
-abbrev pub IsOpened : ℕ → Timestamp → List (List ℕ × Access) → Option WalkState → ℕ → LineAnswer → List Step → Option WalkState → Type 0
-IsOpened txn ts accesses None word answer steps after = (steps ≡ []) × IsEntering txn ts accesses answer after
-IsOpened txn ts accesses (Some s) word answer steps after = (answer ≡ answers.Busy) × (steps ≡ []) × (after ≡ Some s)
+abbrev pub IsOpened : Option ℕ → Timestamp → List (List ℕ × Access) → ℕ → Option WalkState → ℕ → LineAnswer → List Step → Option WalkState → Type 0
+IsOpened txn ts accesses longest None word answer steps after = (steps ≡ []) × IsEntering txn ts accesses longest answer after
+IsOpened txn ts accesses longest (Some s) word answer steps after = (answer ≡ answers.Busy) × (steps ≡ []) × (after ≡ Some s)
 
 -- ---- scan
 
--- It waits at the key of this place.
-abbrev pub IsWaitingAt : Option (List ℕ × Access) → LineAnswer → Type 0
-IsWaitingAt None answer = ⊥
-IsWaitingAt (Some k) answer = answer ≡ answers.WaitingAt k.0
+-- The answer is this one of the key.
+abbrev pub IsToldAt : (List ℕ → LineAnswer) → Option (List ℕ × Access) → LineAnswer → Type 0
+IsToldAt told None answer = ⊥
+IsToldAt told (Some k) answer = answer ≡ told k.0
 
 -- what is answered where a scan ended so
 abbrev pub IsScanAnswer : List (List ℕ × Access) → Result Scan ScanError → LineAnswer → Type 0
 IsScanAnswer keys (Ok scans.Proceed) answer = answer ≡ answers.Proceed
 IsScanAnswer keys (Ok scans.Rescan) answer = answer ≡ answers.Rescan
-IsScanAnswer keys (Ok (scans.Waiting place)) answer = IsWaitingAt (slice_get keys place) answer
+IsScanAnswer keys (Ok (scans.Waiting place)) answer = IsToldAt (λ key. answers.WaitingAt key) (slice_get keys place) answer
+IsScanAnswer keys (Ok (scans.TooLong place)) answer = IsToldAt (λ key. answers.TooLongAt key) (slice_get keys place) answer
 IsScanAnswer keys (Err refused.Leaving) answer = answer ≡ answers.Refused refusals.Leaving
 IsScanAnswer keys (Err refused.StillWaiting) answer = answer ≡ answers.Refused refusals.StillWaiting
 IsScanAnswer keys (Err refused.WaitsOut) answer = answer ≡ answers.Refused refusals.WaitsOut
@@ -178,7 +179,7 @@ IsLeave (Some s) word answer steps after = IsLeaveOf s answer steps after
 
 -- The line does this: with the status word that was read it is answered so, makes these steps, and leaves this request.
 abbrev pub IsDone : Rules → Action → Option WalkState → ℕ → LineAnswer → List Step → Option WalkState → Type 0
-IsDone rules (acts.Open txn ts accesses) before word answer steps after = IsOpened txn ts accesses before word answer steps after
+IsDone rules (acts.Open txn ts accesses longest) before word answer steps after = IsOpened txn ts accesses longest before word answer steps after
 IsDone rules acts.Scan before word answer steps after = IsScanned rules.max_waits before word answer steps after
 IsDone rules acts.Await before word answer steps after = IsAwaited rules.turns before word answer steps after
 IsDone rules (acts.Look key) before word answer steps after = IsLooked key before word answer steps after

@@ -1,7 +1,7 @@
 //! One line of a script, done by calls of the table: a function for each kind of line.
 ghost use Rattle.std.specs.Prelude.{◌≡◌, ◌<◌, ℕ, IfOk, length, Ok};
 ghost use Rattle.lt_plain.specs.declared.call.Call.TheVariants.{Acquire, Update, Finish};
-ghost use Rattle.lt_table.specs.declared.scan.Scan.TheVariants.{Waiting};
+ghost use Rattle.lt_table.specs.declared.scan.Scan.TheVariants.{Waiting, TooLong};
 ghost use Rattle.lt_desk.specs.Desks.{pass_of};
 ghost use Rattle.lt_desk.specs.Machine.{IsOpened, IsScanned, IsScanAnswer, IsAwaited, IsLooked, IsMade, IsLeave, IsDone, let_read, let_gone_on, lets_of, poll_answer};
 ghost use Rattle.lt_desk.specs.Doing.{Does, IsTold, Polls, no_lets};
@@ -34,14 +34,15 @@ fn enter<N: Name, T: KeyTable, R: Wait>(
     alloc: Global,
     table: &Table<N, T>,
     pass: Pass,
-    txn: TxnId,
+    txn: Option<TxnId>,
     ts: Timestamp,
     accesses: &[(Key, Access)],
+    longest: u32,
 ) -> Result<Told, OutOfMemory>
     requires { pass.of ≡ N.of }
-    ensures { IfOk result (λ told. Does (IsOpened txn ts accesses.now) no_lets (Desk.Free pass) told.answer told.desk) }
+    ensures { IfOk result (λ told. Does (IsOpened txn ts accesses.now longest) no_lets (Desk.Free pass) told.answer told.desk) }
 {
-    match table.enter(rt, alloc, pass, txn, ts, accesses) {
+    match table.enter(rt, alloc, pass, txn, ts, accesses, longest) {
         Ok(guard) => {
             let number = guard.number();
             Ok(Told {
@@ -69,15 +70,16 @@ fn open<N: Name, T: KeyTable, R: Wait>(
     alloc: Global,
     table: &Table<N, T>,
     desk: Desk,
-    txn: TxnId,
+    txn: Option<TxnId>,
     ts: Timestamp,
     accesses: &[(Key, Access)],
+    longest: u32,
 ) -> Result<Told, OutOfMemory>
     requires { (pass_of desk).of ≡ N.of }
-    ensures { IfOk result (λ told. Does (IsOpened txn ts accesses.now) no_lets desk told.answer told.desk) }
+    ensures { IfOk result (λ told. Does (IsOpened txn ts accesses.now longest) no_lets desk told.answer told.desk) }
 {
     match desk {
-        Desk::Free(pass) => enter(rt, alloc, table, pass, txn, ts, accesses),
+        Desk::Free(pass) => enter(rt, alloc, table, pass, txn, ts, accesses, longest),
         Desk::Open(guard) => Ok(Told {
             desk: Desk::Open(guard),
             answer: LineAnswer::Busy,
@@ -89,7 +91,8 @@ fn scan_answer(
     keys: &[(Key, Access)],
     ended: Result<Scan, ScanError>,
 ) -> Result<LineAnswer, OutOfMemory>
-    requires { (place : ℕ) → ended ≡ Ok (Waiting place) → place < length keys.now }
+    requires waiting { (place : ℕ) → ended ≡ Ok (Waiting place) → place < length keys.now }
+    requires stopped { (place : ℕ) → ended ≡ Ok (TooLong place) → place < length keys.now }
     ensures { IfOk result (λ answer. IsScanAnswer keys.now ended answer) }
 {
     match ended {
@@ -97,6 +100,10 @@ fn scan_answer(
         Ok(Scan::Rescan) => Ok(LineAnswer::Rescan),
         Ok(Scan::Waiting(place)) => match keys[place].0.copy() {
             Ok(key) => Ok(LineAnswer::WaitingAt(key)),
+            Err(_) => Err(OutOfMemory),
+        },
+        Ok(Scan::TooLong(place)) => match keys[place].0.copy() {
+            Ok(key) => Ok(LineAnswer::TooLongAt(key)),
             Err(_) => Err(OutOfMemory),
         },
         Err(ScanError::Leaving) => Ok(LineAnswer::Refused(Refusal::Leaving)),
@@ -358,9 +365,21 @@ pub(crate) fn act<N: Name, T: KeyTable, R: Wait>(
     ensures { IfOk result (λ told. Does (IsDone (record { max_waits = table.now.max_waits; turns = turns }) action.now) (lets_of action.now) desk told.answer told.desk) }
 {
     match action {
-        Action::Open { txn, ts, accesses } => {
-            open(rt, alloc, table, desk, *txn, *ts, accesses.as_slice())
-        }
+        Action::Open {
+            txn,
+            ts,
+            accesses,
+            longest,
+        } => open(
+            rt,
+            alloc,
+            table,
+            desk,
+            *txn,
+            *ts,
+            accesses.as_slice(),
+            *longest,
+        ),
         Action::Scan => scan(rt, table, desk),
         Action::Await => Ok(await_let(table, desk, turns)),
         Action::Look { key } => look(rt, table, desk, key),

@@ -15,10 +15,10 @@ use Rattle.lt_plain.specs.declared.call.Call.{Call}
 use Rattle.lt_plain.specs.declared.call.Call.TheVariants.{Visit, Acquire, Update, Finish, Leave, Look}
 use Rattle.lt_plain.specs.declared.call.Reply.{Reply}
 use Rattle.lt_plain.specs.declared.call.Reply.TheVariants.{Other, Nothing, Reserved, Idle, WaitOwn}
-use Rattle.lt_plain.specs.Record.{Record, number_of, writer_number}
-use Rattle.lt_plain.specs.Step.{step, look, look_waiter, look_reader, look_writer, waits_for}
+use Rattle.lt_plain.specs.Record.{Record, number_of, writer_number, is_txn}
+use Rattle.lt_plain.specs.Step.{step, look, look_waiter, look_reader, look_writer, look_behind, waits_for, waits_for_reserved}
 use Rattle.lt_plain.specs.Rules.{Outcome, unchanged, raise, acquire_from, update_from, finish_from, leave, is_reserved_by, is_waiting, stop_reading}
-use Rattle.lt_plain.specs.Visit.{visit_lock, visit_held, visit_reserved, wait_to_read, wait_to_write, pass, displace, is_queued}
+use Rattle.lt_plain.specs.Visit.{visit_lock, visit_held, visit_reserved, wait_to_read, is_too_long, join_writers, pass, displace, is_queued}
 use Rattle.lt_text.specs.Replies.{is_visit_reply, is_acquire_reply, is_update_reply, is_finish_reply, is_leave_reply, is_look_reply, is_reply_of}
 
 abbrev Has : (Reply → Bool) → Outcome → Type 0
@@ -47,18 +47,25 @@ ordered Less x y z p q s = p
 ordered Equal x y z p q s = q
 ordered Greater x y z p q s = s
 
-held_fits : (r : Record) (h : Holder) (q : QueuedRequest) (a : Access) → Has is_visit_reply (visit_held r h q a)
-held_fits r h q Read = either is_visit_reply (is_below q.ts h.ts) (pass r) (wait_to_read r q) refl (either is_visit_reply (is_queued r.writers (number_of q)) _ _ refl refl)
-held_fits r h q Write = refl
+join_fits : (r : Record) (q : QueuedRequest) (longest : ℕ) → Has is_visit_reply (join_writers r q longest)
+join_fits r q longest = either is_visit_reply (is_too_long r.writers q longest) _ _ refl refl
 
-reserved_fits : (r : Record) (s q : QueuedRequest) (a : Access) → Has is_visit_reply (visit_reserved r s q a)
-reserved_fits r s q Read = refl
-reserved_fits r s q Write = ordered (nat_cmp (number_of q) (number_of s)) (displace r s q) (pass r) (wait_to_write r q) refl refl refl
+held_fits : (r : Record) (h : Holder) (q : QueuedRequest) (longest : ℕ) (a : Access) → Has is_visit_reply (visit_held r h q longest a)
+held_fits r h q longest Read = either is_visit_reply (is_below q.ts h.ts) (pass r) (wait_to_read r q) refl (either is_visit_reply (is_queued r.writers (number_of q)) _ _ refl refl)
+held_fits r h q longest Write = join_fits r q longest
 
-lock_fits : (h : Option Holder) (s : Option QueuedRequest) (r : Record) (q : QueuedRequest) (a : Access) → Has is_visit_reply (visit_lock h s r q a)
-lock_fits None None r q a = refl
-lock_fits None (Some s) r q a = reserved_fits r s q a
-lock_fits (Some h) s r q a = either is_visit_reply (eqb h.txn q.txn) (pass r) (visit_held r h q a) refl (held_fits r h q a)
+displace_fits : (txn : Option ℕ) (r : Record) (s q : QueuedRequest) → Has is_visit_reply (displace txn r s q)
+displace_fits None r s q = refl
+displace_fits (Some txn) r s q = refl
+
+reserved_fits : (r : Record) (s q : QueuedRequest) (longest : ℕ) (a : Access) → Has is_visit_reply (visit_reserved r s q longest a)
+reserved_fits r s q longest Read = refl
+reserved_fits r s q longest Write = ordered (nat_cmp (number_of q) (number_of s)) (displace q.txn r s q) (pass r) (join_writers r q longest) (displace_fits q.txn r s q) refl (join_fits r q longest)
+
+lock_fits : (h : Option Holder) (s : Option QueuedRequest) (r : Record) (q : QueuedRequest) (longest : ℕ) (a : Access) → Has is_visit_reply (visit_lock h s r q longest a)
+lock_fits None None r q longest a = refl
+lock_fits None (Some s) r q longest a = reserved_fits r s q longest a
+lock_fits (Some h) s r q longest a = either is_visit_reply (is_txn q.txn h.txn) (pass r) (visit_held r h q longest a) refl (held_fits r h q longest a)
 
 leave_fits : (r : Record) (n : ℕ) → Has is_leave_reply (leave r n)
 leave_fits r n = either is_leave_reply (is_reserved_by r.reservation n) _ _ refl (either is_leave_reply (is_waiting r n) _ _ refl refl)
@@ -74,14 +81,22 @@ waits_fits : (first : Option ℕ) (n txn : ℕ) (held : Bool) → IsLook (waits_
 waits_fits None n txn held = refl
 waits_fits (Some first) n txn held = one_of (eqb first n) _ _ refl refl
 
+behind_fits : (first : Option ℕ) (n : ℕ) (txn : Option ℕ) → IsLook (waits_for_reserved first n txn)
+behind_fits first n None = refl
+behind_fits first n (Some txn) = waits_fits first n txn false
+
 reader_fits : (r : Record) (n : ℕ) (h : Option Holder) (s : Option QueuedRequest) → IsLook (look_reader r n h s)
 reader_fits r n None None = refl
-reader_fits r n None (Some s) = waits_fits r.distinguished n s.txn false
+reader_fits r n None (Some s) = behind_fits r.distinguished n s.txn
 reader_fits r n (Some h) s = waits_fits r.distinguished n h.txn true
+
+own_fits : (first : Option ℕ) (q : QueuedRequest) (txn : Option ℕ) → IsLook (look_behind first q txn)
+own_fits first q None = refl
+own_fits first q (Some txn) = one_of (is_txn q.txn txn) (WaitOwn txn) (waits_for first (number_of q) txn false) refl (waits_fits first (number_of q) txn false)
 
 writer_fits : (r : Record) (q : QueuedRequest) (h : Option Holder) (s : Option QueuedRequest) → IsLook (look_writer r q h s)
 writer_fits r q None None = refl
-writer_fits r q None (Some s) = one_of (eqb q.txn s.txn) (WaitOwn s.txn) (waits_for r.distinguished (number_of q) s.txn false) refl (waits_fits r.distinguished (number_of q) s.txn false)
+writer_fits r q None (Some s) = own_fits r.distinguished q s.txn
 writer_fits r q (Some h) s = waits_fits r.distinguished (number_of q) h.txn true
 
 waiter_fits : (r : Record) (n : ℕ) (w : Option QueuedWriter) → IsLook (look_waiter r n w)
@@ -94,9 +109,9 @@ look_fits r n =
     one_of (is_reserved_by r.reservation n) Reserved (look_waiter r n w) refl (waiter_fits r n w)
 
 pub step_fits : (r : Record) (pass : ℕ) (call : Call) → is_reply_of call (step r pass call).reply ≡ true
-step_fits r pass (Visit ticket txn ts access) =
+step_fits r pass (Visit ticket txn ts access longest) =
     let q : QueuedRequest = record { ticket = ticket; txn = txn; ts = ts; pass = pass } in
-    lock_fits r.holder r.reservation (stop_reading r (number_of q)) q access
+    lock_fits r.holder r.reservation (stop_reading r (number_of q)) q longest access
 step_fits r pass (Acquire txn ts) = acquire_fits r.holder r (record { txn = txn; ts = ts })
 step_fits r pass (Update txn ts) = update_fits r.holder r txn ts
 step_fits r pass (Finish txn) = finish_fits r.holder r txn

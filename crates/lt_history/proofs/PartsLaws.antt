@@ -19,8 +19,8 @@ use Rattle.lt_text.specs.Calls.{call_words, field_at, call_at}
 use Rattle.lt_text.specs.Replies.{reply_words, is_reply_of, reply_at}
 use Rattle.lt_history.specs.Lines.{Parts, IsLine, IsStep, step_words, lets_words, line_words, if_no_fault, key_of, key_at, equals_of, step_at, lets_of, parts_at}
 use Rattle.lt_text.proofs.Plain.{above, ArePlain}
-use Rattle.lt_text.proofs.FieldLaws.{bind_some, IsField, IsWithin, number_field, field_takes, field_again}
-use Rattle.lt_text.proofs.CallLaws.{txn_field, call_takes, call_again, call_plain}
+use Rattle.lt_text.proofs.FieldLaws.{bind_some, IsField, IsWithin, number_field, txn_field, field_takes, field_again}
+use Rattle.lt_text.proofs.CallLaws.{call_takes, call_again, call_plain}
 use Rattle.lt_text.proofs.ReplyLaws.{reply_takes, reply_again, reply_plain}
 use Rattle.lt_history.proofs.LetsLaws.{lets_takes, lets_again, lets_plain}
 
@@ -127,7 +127,7 @@ regroup s rest = append_assoc (call_words s.call) (codes "=" ∷ reply_words s.r
 step_again : (s : Step) (rest : List (List ℕ)) → IsStep s → step_at (step_words s ++ rest) ≡ Some (s, rest)
 unfolding step_at
 step_again s rest h =
-    rw (field_again txn_field s.index (decimal s.pass ∷ ((call_words s.call ++ codes "=" ∷ reply_words s.reply) ++ rest)) h.index, field_again pass_field s.pass ((call_words s.call ++ codes "=" ∷ reply_words s.reply) ++ rest) (h.pass.0, omega (arith, h.pass.1)), regroup s rest, call_again s.call (codes "=" ∷ (reply_words s.reply ++ rest)) h.call, field_again equals_field tt (reply_words s.reply ++ rest) tt, reply_again s.reply rest h.reply, h.fits) refl
+    rw (field_again txn_field s.index (decimal s.pass ∷ ((call_words s.call ++ codes "=" ∷ reply_words s.reply) ++ rest)) h.index, field_again pass_field s.pass ((call_words s.call ++ codes "=" ∷ reply_words s.reply) ++ rest) (h.pass.0, omega (arith, h.pass.1)), regroup s rest, call_again s.call (codes "=" ∷ (reply_words s.reply ++ rest)) h.call refl, field_again equals_field tt (reply_words s.reply ++ rest) tt, reply_again s.reply rest h.reply, h.fits) refl
 
 plain_more : (a b : List (List ℕ)) → ArePlain a → ArePlain b → ArePlain (a ++ b)
 plain_more [] b p q = q

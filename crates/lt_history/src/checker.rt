@@ -23,7 +23,7 @@ pub enum CheckError {
     /// The first line with a fault, from 1, and the first fault in it.
     #[error("line {line}: {fault}")]
     Refused { line: usize, fault: Fault },
-    /// Memory ran out before the check had come to its end. The first line is `locks 1` and the text goes on after it;
+    /// Memory ran out before the check had come to its end. The first line is `locks 2` and the text goes on after it;
     /// whether it is legal is not known.
     #[error("out of memory")]
     Memory,
@@ -94,7 +94,7 @@ fn check_lines(alloc: Global, lines: &[u8]) -> Result<Report, CheckError>
 fn judge(alloc: Global, text: &[u8]) -> Result<Report, CheckError>
     ensures { Judges text.now result }
 {
-    match text.strip_prefix(b"locks 1\n") {
+    match text.strip_prefix(b"locks 2\n") {
         None => Err(CheckError::Refused {
             line: 1,
             fault: Fault::Header,

@@ -182,7 +182,7 @@ fn put_lines(out: &mut Vec<u8>, entries: &[Ranked]) -> Result<(), AllocError>
     Ok(())
 }
 
-/// Puts the text of the histories of some shards at the end: `locks 1`, and then key after key, rising, each key's
+/// Puts the text of the histories of some shards at the end: `locks 2`, and then key after key, rising, each key's
 /// entries in the order in which they stand, shard after shard. It takes 16 bytes for each entry and as many for
 /// the sort, and time for one sort of these.
 pub fn put_histories(out: &mut Vec<u8>, shards: &[Vec<Entry>]) -> Result<(), AllocError>
@@ -191,7 +191,7 @@ pub fn put_histories(out: &mut Vec<u8>, shards: &[Vec<Entry>]) -> Result<(), All
     ensures alone { OnOk result ((other : List ℕ) → IsTextOf other (flat_map (λ shard. shard.items) shards.now) → out.new.items ≡ out.old.items ++ other) }
 {
     let entries = by_key(*out.allocator(), shards)?;
-    out.extend_from_slice(b"locks 1\n")?;
+    out.extend_from_slice(b"locks 2\n")?;
     put_lines(out, &entries)?;
     Ok(())
 }

@@ -61,7 +61,7 @@ pub fn write_out<W: Write>(writer: &mut W, text: &[u8]) -> Result<(), PrintError
     Ok(())
 }
 
-/// Writes the text of the histories: `locks 1`, and then key after key, rising, each key's entries in their order.
+/// Writes the text of the histories: `locks 2`, and then key after key, rising, each key's entries in their order.
 /// The text is composed before the first write, and then written by as many writes as it takes; a write that fails,
 /// is interrupted or takes no byte ends the print.
 pub fn print<W: Write>(

@@ -1,7 +1,7 @@
 //! The names that every layer of the lock table speaks of.
 //!
 //! A [`Key`] is what is locked. A [`TxnId`] is a transaction, which reads and writes at a [`Timestamp`]. A
-//! [`Request`] is one attempt of a transaction to get at some keys, for reading or for writing ([`Access`]); its
+//! [`Request`] is one attempt to get at some keys, for reading or for writing ([`Access`]), mostly of a transaction; its
 //! number decides who goes first. Each time that a request has to wait, the wait is named by a [`Ticket`], and a
 //! [`Through`] lets that wait go on.
 //!

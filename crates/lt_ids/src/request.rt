@@ -10,25 +10,34 @@ pub enum Access {
     Write,
 }
 
-/// A request of a transaction. Its number says how early it came, and the pass who makes its calls.
+/// A request, of a transaction or of none. Its number says how early it came, and the pass who makes its calls.
 #[derive(Clone, Copy, Debug, PartialEq, Eq)]
 pub struct Request {
     pub number: u64,
-    pub txn: TxnId,
+    pub txn: Option<TxnId>,
     pub ts: Timestamp,
     pub pass: u32,
+    /// How many may wait to write at a key before the request would rather be told so than join them; 0 is no bound.
+    pub longest: u32,
     pub ghost number_in_range: { IsNumber number },
     pub ghost pass_in_range: { (1 ≤ pass) × (pass ≤ 1024) },
 }
 
 impl Request {
     /// The request, or `None` unless its number is 1 to 2^40 - 1 and its pass 1 to 1024.
-    pub fn new(number: u64, txn: TxnId, ts: Timestamp, pass: u32) -> Option<Request>
+    pub fn new(
+        number: u64,
+        txn: Option<TxnId>,
+        ts: Timestamp,
+        pass: u32,
+        longest: u32,
+    ) -> Option<Request>
         ensures some { IsSome result ↔ (IsNumber number × (1 ≤ pass) × (pass ≤ 1024)) }
         ensures number { IfSome result (λ r. r.number ≡ number) }
         ensures txn { IfSome result (λ r. r.txn ≡ txn) }
         ensures ts { IfSome result (λ r. r.ts ≡ ts) }
         ensures pass { IfSome result (λ r. r.pass ≡ pass) }
+        ensures longest { IfSome result (λ r. r.longest ≡ longest) }
     {
         if number == 0 || number >= 1 << 40 || pass == 0 || pass > 1024 {
             return None;
@@ -38,6 +47,7 @@ impl Request {
             txn,
             ts,
             pass,
+            longest,
         })
     }
 }

@@ -255,7 +255,10 @@ impl Links {
         self.nodes.reserve(1)?;
         let key = self.nodes.vacant_key();
         let last = push_owner(&mut self.owners, stand.number, key)?;
-        self.nodes.insert_reserved(Node::new(queue, stand));
+        // The type of a stand's transaction has to be named where a whole node is handed on.
+        let txn = stand.txn;
+        self.nodes
+            .insert_reserved(Node::new(queue, Stand { txn, ..stand }));
         let next = queued(&self.nodes, &self.heads, queue, at).next;
         link(&mut self.heads, &mut self.nodes, queue, at, next, key);
         follow_last(&mut self.nodes, last, key);

@@ -1,16 +1,16 @@
 -- What freeing, raising and taking a lock make of a row's record.
-use Rattle.std.proofs.Common.{◌≡◌, ◌≢◌, ◌≤◌, ℕ, Bool, true, false, not, cond, List, [], ◌∷◌, ◌++◌, length, map, filter, Some, None, slice_get, refl, sym, ap, ◌∙◌, subst, arith, nat_eq, append-nil, ◌&&◌}
+use Rattle.std.proofs.Common.{◌≡◌, ◌≢◌, ◌≤◌, ℕ, suc, Bool, true, false, not, cond, List, [], ◌∷◌, ◌++◌, length, map, filter, Some, None, slice_get, refl, sym, ap, ◌∙◌, subst, arith, ◌&&◌}
 use Rattle.std.specs.Prelude.{drop, take}
 use Rattle.lt_ids.specs.declared.ticket.Through.{Through}
 use Rattle.lt_ids.specs.declared.timestamp.Timestamp.{Timestamp}
 use Rattle.lt_ids.specs.Timestamp.{is_below}
-use Rattle.std.specs.List.{AllByRecursion}
+use Rattle.std.specs.List.{AllByRecursion, find}
 use Rattle.std.specs.Option.{option_map}
 use Rattle.std.proofs.lemmas.List.{map-append}
 use Rattle.std.proofs.lemmas.List.Elements.{filter-append}
 use Rattle.lt_links.specs.declared.ids.Queue.{Queue}
-use Rattle.lt_plain.specs.Record.{Record, through_of}
-use Rattle.lt_plain.specs.Rules.{active_requests, is_of, set_back}
+use Rattle.lt_plain.specs.Record.{Record, through_of, is_txn, has_txn}
+use Rattle.lt_plain.specs.Rules.{active_requests, is_of, leading, set_back}
 use Rattle.lt_plain.proofs.Orderly.{all_filter}
 use Rattle.lt_links.specs.declared.stand.Stand.{Stand}
 use Rattle.lt_links.specs.declared.ids.QueueKind.{QueueKind}
@@ -19,10 +19,11 @@ use Rattle.lt_links.specs.Maps.{Maps, queue, stand, is_kind, IsSound}
 use Rattle.lt_lock.specs.declared.row.Row.{Row}
 use Rattle.lt_lock.specs.declared.walk.Who.TheVariants.{All, Below, Of}
 use Rattle.lt_lock.specs.Linked.{stand_at, stands_at, line, queue_at, record_of, request_of, writer_of, IsNamed, IsLinked}
-use Rattle.lt_lock.specs.Found.{leaves, goes_on, Writes, Brings}
+use Rattle.lt_lock.specs.Found.{leaves, goes_on, waiting_lets, front, from_txn, Writes, Brings}
 use Rattle.lt_lock.specs.Went.{KeepsOthers, IsRewritten}
 use Rattle.lt_lock.proofs.Rows.{record_by, record_lines, line_written, linked_written, others_written, others_twice, others_same}
 use Rattle.lt_lock.proofs.Written.{stand_is}
+use Rattle.lt_lock.proofs.Fronts.{front_lets_of, next_of, behind_front, all_from_txn}
 
 -- ---- who goes on when a lock comes free
 
@@ -32,17 +33,10 @@ through_all (s ∷ l) = ap (λ ts. through_of (request_of s) ∷ ts) (through_al
 
 -- whom a free lock lets through, by who stands among the readers and among the writers
 abbrev pub freed_lets : List Stand → List Stand → List Through
-freed_lets rs ws = map through_of (map request_of rs ++ active_requests (take 1 (map writer_of ws)))
+freed_lets rs ws = map through_of (map request_of rs ++ active_requests (take (suc (leading (map writer_of ws))) (map writer_of ws)))
 
-pub lets_without_writers : (rs ws : List Stand) → None ≡ slice_get ws 0 → freed_lets rs ws ≡ map through_of (map request_of rs)
-lets_without_writers rs [] e = ap (map through_of) (append-nil (map request_of rs))
-lets_without_writers rs (s ∷ ws) e = cc
-
-pub lets_of_idle : (rs ws more : List Stand) (s : Stand) → ws ≡ s ∷ more → s.active ≡ false → freed_lets rs ws ≡ map through_of (map request_of rs)
-lets_of_idle rs ws more s e idle = rw (e, idle) (ap (map through_of) (append-nil (map request_of rs)))
-
-pub lets_of_active : (rs ws more : List Stand) (s : Stand) → ws ≡ s ∷ more → s.active ≡ true → freed_lets rs ws ≡ map through_of (map request_of rs) ++ through_of (request_of s) ∷ []
-lets_of_active rs ws more s e active = rw (e, active) (map-append through_of (map request_of rs) (request_of s ∷ []))
+pub lets_in_front : (rs ws : List Stand) → freed_lets rs ws ≡ map through_of (map request_of rs) ++ waiting_lets (front ws)
+lets_in_front rs ws = map-append through_of (map request_of rs) _ ∙ ap (λ l. map through_of (map request_of rs) ++ l) (sym (front_lets_of ws))
 
 -- what the walk of a row's readers has put behind nothing
 pub filled : (m : Maps) (q : Queue) (id : ℕ) (old new : List Through) → old ≡ [] → q ≡ queue_at id Readers → new ≡ old ++ map (λ s. through_of (request_of s)) (filter (goes_on All) (line m q)) → new ≡ map through_of (map request_of (line m (queue_at id Readers)))
@@ -110,7 +104,12 @@ module _ (old new : Maps) (r : Row) (linked : IsLinked old r.id) (none : (record
       let ws = no_stands (line old (queue_at r.id Writers)) (ap (option_map request_of) (sym none_first)) in
       rewritten_by old old r (with_first (record_of old r)) [] (line old (queue_at r.id Readers)) [] ws refl (no_stands (line old (queue_at r.id Reservation)) none) linked.sound (others_same old r.id) linked (omega arith) tt (linked.named Readers) tt (rw ws refl)
 
--- ---- the readers leave, and a reservation goes
+-- ---- the readers leave, a reservation goes, and so do the writers without a transaction in front
+
+pub few_others : (kind : QueueKind) (l : List Stand) → kind ≢ Reservation → length (cond (is_kind Reservation kind) l []) ≤ 1
+few_others Writers l o = omega arith
+few_others Readers l o = omega arith
+few_others Reservation l o = absurd (o refl)
 
 none_left : (l : List Stand) → filter (λ s. not (leaves All s)) l ≡ []
 none_left [] = refl
@@ -138,19 +137,36 @@ module _ (old mid new last : Maps) (r : Row) (readers : Writes old mid (queue_at
   no_reservation : line new (queue_at r.id Reservation) ≡ []
   no_reservation = line_written mid new r.id Reservation [] reservation Reservation
 
-  -- who waited to read and who had the lock reserved are gone
-  left_record : record_of new r ≡ record (record_of old r) { reservation = None; readers = [] }
-  left_record = record_lines new r (line old (queue_at r.id Writers)) [] [] same_writers no_readers no_reservation
+  emptied_others : KeepsOthers old new r.id
+  emptied_others = others_twice old mid new r.id (others_written old mid r.id Readers [] readers) (others_written mid new r.id Reservation [] reservation)
 
-  pub none_reserved : (record_of new r).reservation ≡ None
-  none_reserved = ap (λ (x : Record). x.reservation) left_record
+  -- the writers without a transaction in front go too
+  module _ (led : Maps) (q : Queue) (is : q ≡ queue_at r.id Writers) (leads : Writes new led q (from_txn (line new q))) where
+    led_here : Writes new led (queue_at r.id Writers) (from_txn (line new (queue_at r.id Writers)))
+    led_here = subst (λ p. Writes new led p (from_txn (line new p))) is leads
 
-  pub handed_on : IsRewritten new last r (with_first (record_of new r)) → IsRewritten old last r (record (with_first (record_of old r)) { readers = [] })
-  handed_on first = record {
-    is = first.is ∙ ap with_first left_record;
-    linked = first.linked;
-    others = others_twice old new last r.id (others_twice old mid new r.id (others_written old mid r.id Readers [] readers) (others_written mid new r.id Reservation [] reservation)) first.others;
-  }
+    pub led_linked : IsLinked new r.id → IsLinked led r.id
+    led_linked linked = linked_written new led r.id Writers (from_txn (line new (queue_at r.id Writers))) led_here linked (few_others Writers (from_txn (line new (queue_at r.id Writers))) (λ e. cc)) (all_from_txn IsNamed (line new (queue_at r.id Writers)) (linked.named Writers))
+
+    led_record : record_of led r ≡ record (record_of old r) { reservation = None; writers = map writer_of (from_txn (line old (queue_at r.id Writers))); readers = [] }
+    led_record =
+        record_lines led r (from_txn (line old (queue_at r.id Writers))) [] []
+        (led_here.here ∙ ap from_txn same_writers)
+        (line_written new led r.id Writers _ led_here Readers ∙ no_readers)
+        (line_written new led r.id Writers _ led_here Reservation ∙ no_reservation)
+
+    pub none_reserved : (record_of led r).reservation ≡ None
+    none_reserved = ap (λ (x : Record). x.reservation) led_record
+
+    pub handed_on : IsRewritten led last r (with_first (record_of led r)) → IsRewritten old last r (record (record_of old r) { reservation = option_map (λ w. w.request) (find has_txn (record_of old r).writers); writers = drop (suc (leading (record_of old r).writers)) (record_of old r).writers; readers = [] })
+    handed_on first = record {
+      is =
+          first.is ∙ ap with_first led_record
+          ∙ ap (λ w. record (record_of old r) { reservation = option_map (λ w. w.request) w; writers = drop 1 (map writer_of (from_txn (line old (queue_at r.id Writers)))); readers = [] }) (sym (next_of (line old (queue_at r.id Writers))))
+          ∙ ap (λ ws. record (record_of old r) { reservation = option_map (λ w. w.request) (find has_txn (record_of old r).writers); writers = ws; readers = [] }) (sym (behind_front (line old (queue_at r.id Writers))));
+      linked = first.linked;
+      others = others_twice old led last r.id (others_twice old new led r.id emptied_others (others_written new led r.id Writers _ led_here)) first.others;
+    }
 
 -- ---- some of a queue leave
 
@@ -169,11 +185,6 @@ map_twice f g (x ∷ xs) = ap (λ ys. g (f x) ∷ ys) (map_twice f g xs)
 -- what is put behind nothing, of a queue that has a name
 pub put_behind_none : (f : List Stand → List Through) (m : Maps) (q p : Queue) (old new : List Through) → old ≡ [] → q ≡ p → new ≡ old ++ f (line m q) → new ≡ f (line m p)
 put_behind_none f m q p old new none is e = e ∙ ap (λ l. l ++ f (line m q)) none ∙ ap (λ x. f (line m x)) is
-
-pub few_others : (kind : QueueKind) (l : List Stand) → kind ≢ Reservation → length (cond (is_kind Reservation kind) l []) ≤ 1
-few_others Writers l o = omega arith
-few_others Readers l o = omega arith
-few_others Reservation l o = absurd (o refl)
 
 -- of a queue of waiters
 module _ (old new : Maps) (r : Row) (kind : QueueKind) (waits : kind ≢ Reservation) (p : Stand → Bool) (q : Queue) (is : q ≡ queue_at r.id kind) (w : Writes old new q (filter p (line old q))) where
@@ -209,7 +220,7 @@ module _ (old new : Maps) (r : Row) (txn : ℕ) (q : Queue) (is : q ≡ queue_at
 
 pub lets_own : (txn : ℕ) (l : List Stand) → map (λ s. through_of (request_of s)) (filter (goes_on (Of txn)) l) ≡ map through_of (active_requests (filter (is_of txn) (map writer_of l)))
 lets_own txn [] = refl
-lets_own txn (s ∷ l) = elim (nat_eq s.txn txn) as (λ b. map (λ s. through_of (request_of s)) (cond (b && s.active) (s ∷ filter (goes_on (Of txn)) l) (filter (goes_on (Of txn)) l)) ≡ map through_of (active_requests (cond b (writer_of s ∷ filter (is_of txn) (map writer_of l)) (filter (is_of txn) (map writer_of l))))) [
+lets_own txn (s ∷ l) = elim (is_txn s.txn txn) as (λ b. map (λ s. through_of (request_of s)) (cond (b && s.active) (s ∷ filter (goes_on (Of txn)) l) (filter (goes_on (Of txn)) l)) ≡ map through_of (active_requests (cond b (writer_of s ∷ filter (is_of txn) (map writer_of l)) (filter (is_of txn) (map writer_of l))))) [
   | true ↦ elim s.active as (λ b. map (λ s. through_of (request_of s)) (cond b (s ∷ filter (goes_on (Of txn)) l) (filter (goes_on (Of txn)) l)) ≡ map through_of (map (λ w. w.request) (cond b (writer_of s ∷ filter (λ w. w.active) (filter (is_of txn) (map writer_of l))) (filter (λ w. w.active) (filter (is_of txn) (map writer_of l)))))) [
     | true ↦ ap (λ ts. through_of (request_of s) ∷ ts) (lets_own txn l)
     | false ↦ lets_own txn l
@@ -237,7 +248,7 @@ module _ (old : Maps) (r : Row) (txn : ℕ) (linked : IsLinked old r.id) where
     reserved_line : line old (queue_at r.id Reservation) ≡ s ∷ []
     reserved_line = first_line old q (queue_at r.id Reservation) node ys s is cut at ∙ ap (λ l. s ∷ stands_at old l) one
 
-    pub own_dropped : nat_eq s.txn txn ≡ true → Writes old new q (stands_at old ys) → IsRewritten old new r (without_reservation txn (record_of old r))
+    pub own_dropped : is_txn s.txn txn ≡ true → Writes old new q (stands_at old ys) → IsRewritten old new r (without_reservation txn (record_of old r))
     own_dropped own w =
         let here : Writes old new (queue_at r.id Reservation) [] = subst (λ x. Writes old new x []) is (subst (λ l. Writes old new q (stands_at old l)) one w) in
         rewritten_by old new r (without_reservation txn (record_of old r)) (line old (queue_at r.id Writers)) (line old (queue_at r.id Readers)) []
@@ -246,7 +257,7 @@ module _ (old : Maps) (r : Row) (txn : ℕ) (linked : IsLinked old r.id) where
         (rw (reserved_line, own) refl)
 
     -- one of another transaction is written at its node, and brought to the front of the writers
-    pub other_set_back : (mid : Maps) (to : Queue) (back : Stand) → to ≡ queue_at r.id Writers → nat_eq s.txn txn ≡ false → writer_of back ≡ record { request = request_of s; active = false } →
+    pub other_set_back : (mid : Maps) (to : Queue) (back : Stand) → to ≡ queue_at r.id Writers → is_txn s.txn txn ≡ false → writer_of back ≡ record { request = request_of s; active = false } →
         ((p : Queue) → queue mid p ≡ queue old p) → Writes old mid q (back ∷ stands_at old ys) → Brings mid new q to (stand_at mid node) (stands_at mid ys) → IsRewritten old new r (without_reservation txn (record_of old r))
     other_set_back mid to back is_to other is_back queues w brings =
         let over = brings.over (λ e. let k : Reservation ≡ Writers = ap (λ (p : Queue). p.kind) (sym is ∙ e ∙ is_to) in cc) in

@@ -3,6 +3,7 @@ pub mod Written
 pub mod Walks
 pub mod Searches
 pub mod Rows
+pub mod Fronts
 pub mod Acts
 pub mod Enqueued
 pub mod Leaves

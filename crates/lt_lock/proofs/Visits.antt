@@ -6,8 +6,8 @@ use Rattle.lt_plain.specs.declared.call.Call.TheVariants.{Visit}
 use Rattle.lt_plain.specs.declared.call.Reply.{Reply}
 use Rattle.lt_plain.specs.declared.call.Reply.TheVariants.{Passed}
 use Rattle.lt_plain.specs.Record.{Record}
-use Rattle.lt_plain.specs.Rules.{stop_reading, without_reader}
-use Rattle.lt_plain.specs.Visit.{displace, visit_lock}
+use Rattle.lt_plain.specs.Rules.{set_back, stop_reading, without_reader}
+use Rattle.lt_plain.specs.Visit.{pass, visit_lock}
 use Rattle.lt_plain.specs.Lawful.{numbers}
 use Rattle.lt_plain.proofs.Lawfulness.{step_keeps_lawful}
 use Rattle.lt_links.specs.declared.stand.Stand.{Stand}
@@ -23,10 +23,10 @@ use Rattle.lt_lock.proofs.Acts.{rewritten_by}
 
 -- ---- after the visit the numbers still differ
 
-pub visited_distinct : (old new : Maps) (r : Row) (s : Stand) (access : Access) (reply : Reply) → IsRow old r → Went old new r r.id (visit_lock r.holder (record_of old r).reservation (stop_reading (record_of old r) s.number) (request_of s) access) reply [] →
+pub visited_distinct : (old new : Maps) (r : Row) (s : Stand) (longest : ℕ) (access : Access) (reply : Reply) → IsRow old r → Went old new r r.id (visit_lock r.holder (record_of old r).reservation (stop_reading (record_of old r) s.number) (request_of s) longest access) reply [] →
     IsDistinct nat_eq (numbers (record_of new r))
-visited_distinct old new r s access reply row went =
-    let lawful = step_keeps_lawful (record_of old r) s.pass (Visit (request_of s).ticket s.txn s.ts access) row.lawful in
+visited_distinct old new r s longest access reply row went =
+    let lawful = step_keeps_lawful (record_of old r) s.pass (Visit (request_of s).ticket s.txn s.ts access longest) row.lawful in
     subst (IsDistinct nat_eq) (sym (ap (λ (x : Record). numbers x) went.is_outcome.moved)) lawful.numbers_differ
 
 -- ---- a reservation is displaced
@@ -83,7 +83,7 @@ module _ (old mid : Maps) (r : Row) (s t : Stand) (row : IsRow old r) (reserved 
     pub displaced : (set new : Maps) (to : Queue) (found back : Stand) → r.holder ≡ None → IsNamed s → to ≡ queue_at r.id Writers → stand mid node ≡ Some found → back ≡ record found { active = false } →
         ((p : Queue) → queue set p ≡ queue mid p) → ((xs ys : List ℕ) → queue mid q ≡ xs ++ node ∷ ys → Writes mid set q (stands_at mid xs ++ back ∷ stands_at mid ys)) →
         ((xs ys : List ℕ) → queue set q ≡ xs ++ node ∷ ys → Brings set new q to (stand_at set node) (stands_at set xs ++ stands_at set ys)) →
-        Went old new r r.id (displace (stop_reading (record_of old r) s.number) (request_of t) (request_of s)) Passed []
+        Went old new r r.id (pass (record (stop_reading (record_of old r) s.number) { reservation = Some (request_of s); writers = set_back (Some (request_of t)) ++ (record_of old r).writers })) Passed []
     displaced set new to found back unheld named is_to at is_back queues writes brings =
         let kind_of = λ (p : Queue). p.kind in
         let id_of = λ (p : Queue). p.id in
@@ -100,7 +100,7 @@ module _ (old mid : Maps) (r : Row) (s t : Stand) (row : IsRow old r) (reserved 
         let idle : back ≡ record t { active = false } = is_back ∙ ap (λ (x : Stand). record x { active = false }) was in
         let reserved_named : AllByRecursion IsNamed (t ∷ []) = subst (AllByRecursion IsNamed) (only (line old (queue_at r.id Reservation)) t row.linked.one_reservation reserved) (row.linked.named Reservation) in
         let back_named : IsNamed back = subst IsNamed (sym idle) reserved_named.0 in
-        let after = (displace (stop_reading (record_of old r) s.number) (request_of t) (request_of s)).after in
+        let after : Record = record (stop_reading (record_of old r) s.number) { reservation = Some (request_of s); writers = set_back (Some (request_of t)) ++ (record_of old r).writers } in
         let no_readers : (record_of old r).readers ≡ [] = row.lawful.unheld_has_no_readers (ap is_some unheld) in
         let readers_stay : (record_of old r).readers ≡ without_reader (record_of old r).readers s.number = no_readers ∙ ap (λ l. without_reader l s.number) (sym no_readers) in
         let written = rewritten_by old new r after (back ∷ line old (queue_at r.id Writers)) (line old (queue_at r.id Readers)) (s ∷ [])
@@ -115,7 +115,7 @@ module _ (old mid : Maps) (r : Row) (s t : Stand) (row : IsRow old r) (reserved 
           records = λ i. over.records i ∙ w.records i ∙ put.records i;
         })
         row.linked (omega arith) (back_named, row.linked.named Writers) (row.linked.named Readers) (named, tt)
-        (rw idle (ap (λ qs. record { holder = r.holder; reservation = Some (request_of s); writers = (displace (record_of old r) (request_of t) (request_of s)).after.writers; readers = qs; distinguished = r.distinguished }) readers_stay)) in
+        (rw idle (ap (λ qs. record { holder = r.holder; reservation = Some (request_of s); writers = set_back (Some (request_of t)) ++ (record_of old r).writers; readers = qs; distinguished = r.distinguished }) readers_stay)) in
         record {
           same_id = refl;
           is_outcome = record { moved = written.is; replied = refl; let_through = refl };

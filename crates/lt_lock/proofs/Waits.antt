@@ -5,10 +5,11 @@ use Rattle.std.proofs.lemmas.List.{map-append}
 use Rattle.std.proofs.lemmas.Bool.Decides.{nat_tests}
 use Rattle.lt_plain.specs.declared.queued.QueuedRequest.{QueuedRequest}
 use Rattle.lt_plain.specs.declared.queued.QueuedWriter.{QueuedWriter}
-use Rattle.lt_plain.specs.declared.call.Reply.TheVariants.{MustWait, Passed}
-use Rattle.lt_plain.specs.Record.{number_of, writer_number}
-use Rattle.lt_plain.specs.Rules.{Outcome, stop_reading, without_reader}
-use Rattle.lt_plain.specs.Visit.{pass, enqueue, waiting, is_queued, wait_to_write, wait_to_read}
+use Rattle.lt_plain.specs.declared.call.Reply.{Reply}
+use Rattle.lt_plain.specs.declared.call.Reply.TheVariants.{MustWait}
+use Rattle.lt_plain.specs.Record.{Record, number_of, writer_number}
+use Rattle.lt_plain.specs.Rules.{unchanged, stop_reading, without_reader}
+use Rattle.lt_plain.specs.Visit.{enqueue, waiting, is_queued, wait_to_write, wait_to_read}
 use Rattle.lt_plain.specs.Lawful.{Rises, numbers}
 use Rattle.lt_plain.proofs.Cases.{all_append, all_front, all_back}
 use Rattle.lt_links.specs.declared.stand.Stand.{Stand}
@@ -19,18 +20,26 @@ use Rattle.lt_links.specs.Maps.{Maps, queue}
 use Rattle.lt_lock.specs.declared.row.Row.{Row}
 use Rattle.lt_lock.specs.Linked.{stand_at, stands_at, line, queue_at, record_of, request_of, writer_of, IsNamed, IsLinked}
 use Rattle.lt_lock.specs.Found.{IsFound, IsMissing, Writes, PutsWriter, Brings}
-use Rattle.lt_lock.specs.Went.{KeepsOthers, Went}
+use Rattle.lt_lock.specs.Went.{KeepsOthers, IsRewritten, Went}
 use Rattle.lt_lock.proofs.Rows.{HasNot, StandsAlone, found_alone, none_among, one_among, without_none, record_lines, line_written, linked_written, others_written, others_twice, others_same}
 use Rattle.lt_lock.proofs.Acts.{few_others}
 use Rattle.lt_lock.proofs.Leaves.{left, left_row, left_linked, other_readers, other_writers, left_readers}
 
--- the links stay, and the outcome says so
-pub went_nowhere : (m : Maps) (r : Row) (o : Outcome) → IsLinked m r.id → o.after ≡ record_of m r → Went m m r r.id o o.reply o.lets
-went_nowhere m r o linked e = record {
-  same_id = refl;
-  is_outcome = record { moved = sym e; replied = refl; let_through = refl };
+-- the links stay, and are this record
+rewritten_nowhere : (m : Maps) (r : Row) (is : Record) → IsLinked m r.id → is ≡ record_of m r → IsRewritten m m r is
+rewritten_nowhere m r is linked e = record {
+  is = sym e;
   linked = linked;
   others = others_same m r.id;
+}
+
+-- a row that is rewritten went by the outcome that is this record, with any reply
+pub went_rewritten : (old new : Maps) (r : Row) (is : Record) (reply : Reply) → IsRewritten old new r is → Went old new r r.id (unchanged is reply) reply []
+went_rewritten old new r is reply written = record {
+  same_id = refl;
+  is_outcome = record { moved = written.is; replied = refl; let_through = refl };
+  linked = written.linked;
+  others = written.others;
 }
 
 -- two lists of nodes with the same stands, by their parts
@@ -98,8 +107,8 @@ module _ (m : Maps) (r : Row) (n : ℕ) (none : IsMissing m r.id n) where
   pub missing_writers : is_queued (record_of m r).writers n ≡ false
   missing_writers = none_among writer_of writer_number (λ s. refl) n (line m (queue_at r.id Writers)) (none Writers)
 
-  pub missing_passes : IsLinked m r.id → Went m m r r.id (pass (stop_reading (record_of m r) n)) Passed []
-  missing_passes linked = went_nowhere m r (pass (stop_reading (record_of m r) n)) linked (ap (λ rs. record (record_of m r) { readers = rs }) missing_readers)
+  pub missing_stops : IsLinked m r.id → IsRewritten m m r (stop_reading (record_of m r) n)
+  missing_stops linked = rewritten_nowhere m r (stop_reading (record_of m r) n) linked (ap (λ rs. record (record_of m r) { readers = rs }) missing_readers)
 
 -- ---- one that stands there
 
@@ -107,8 +116,14 @@ module _ (old : Maps) (r : Row) (n : ℕ) (linked : IsLinked old r.id) (distinct
   alone : StandsAlone old r n kind (stands_at old found.before) (stand_at old node) (stands_at old found.after)
   alone = found_alone old r n linked distinct kind node found
 
-  pub found_passes : kind ≢ Readers → Went old old r r.id (pass (stop_reading (record_of old r) n)) Passed []
-  found_passes o = went_nowhere old r (pass (stop_reading (record_of old r) n)) linked (ap (λ rs. record (record_of old r) { readers = rs }) (other_readers old r n linked distinct kind node found o))
+  pub found_stops : kind ≢ Readers → IsRewritten old old r (stop_reading (record_of old r) n)
+  found_stops o = rewritten_nowhere old r (stop_reading (record_of old r) n) linked (ap (λ rs. record (record_of old r) { readers = rs }) (other_readers old r n linked distinct kind node found o))
+
+  -- whether it stands among the writers
+  pub found_queued : kind ≡ Writers → is_queued (record_of old r).writers n ≡ true
+  found_queued e =
+      let cut = rw e at alone.cut in
+      ap (λ l. list_any (λ w. nat_eq (writer_number w) n) (map writer_of l)) cut ∙ one_among writer_of writer_number (λ s. refl) n (stands_at old found.before) (stands_at old found.after) (stand_at old node) alone.number_is
 
   pub unqueued : kind ≢ Writers → is_queued (record_of old r).writers n ≡ false
   unqueued o = none_among writer_of writer_number (λ s. refl) n (line old (queue_at r.id Writers)) (alone.elsewhere Writers (λ e. o (sym e)))
@@ -117,14 +132,9 @@ module _ (old : Maps) (r : Row) (n : ℕ) (linked : IsLinked old r.id) (distinct
   none_in = alone.elsewhere
 
   module _ (new : Maps) where
-    pub reader_passes : kind ≡ Readers → Writes old new (queue_at r.id kind) (left old r n linked distinct kind node found) → Went old new r r.id (pass (stop_reading (record_of old r) n)) Passed []
-    reader_passes e w = record {
-      same_id = refl;
-      is_outcome = record {
-        moved = left_row old r n linked distinct kind node found new w (λ f. cc) ∙ ap (λ ws. record (record_of old r) { writers = ws; readers = without_reader (record_of old r).readers n }) (other_writers old r n linked distinct kind node found (λ f. cc));
-        replied = refl;
-        let_through = refl;
-      };
+    pub reader_stops : kind ≡ Readers → Writes old new (queue_at r.id kind) (left old r n linked distinct kind node found) → IsRewritten old new r (stop_reading (record_of old r) n)
+    reader_stops e w = record {
+      is = left_row old r n linked distinct kind node found new w (λ f. cc) ∙ ap (λ ws. record (record_of old r) { writers = ws; readers = without_reader (record_of old r).readers n }) (other_writers old r n linked distinct kind node found (λ f. cc));
       linked = left_linked old r n linked distinct kind node found new w (λ f. cc);
       others = others_written old new r.id kind _ w;
     }
@@ -167,14 +177,9 @@ module _ (old : Maps) (r : Row) (n : ℕ) (linked : IsLinked old r.id) (distinct
           others = others_written old new r.id kind renewed w;
         }
 
-        queued : is_queued (record_of old r).writers n ≡ true
-        queued =
-            let cut = rw e at alone.cut in
-            ap (λ l. list_any (λ w. nat_eq (writer_number w) n) (map writer_of l)) cut ∙ one_among writer_of writer_number (λ s. refl) n (stands_at old found.before) (stands_at old found.after) (stand_at old node) alone.number_is
-
         pub again_reads : Went old new r r.id (wait_to_read (stop_reading (record_of old r) n) (request_of s)) MustWait []
         again_reads =
-            let same : wait_to_read (stop_reading (record_of old r) n) (request_of s) ≡ wait_to_write (stop_reading (record_of old r) n) (request_of s) = rw (is, queued) refl in
+            let same : wait_to_read (stop_reading (record_of old r) n) (request_of s) ≡ wait_to_write (stop_reading (record_of old r) n) (request_of s) = rw (is, found_queued e) refl in
             subst (λ o. Went old new r r.id o MustWait []) (sym same) again_went
 
       -- it is written anew before the other readers

@@ -1,11 +1,13 @@
 -- Where a request stands at a key.
-use Rattle.std.specs.Prelude.{◌≡◌, ◌≢◌, ◌<◌, ◌≤◌, ℕ, Bool, true, nat_eq, ◌&&◌, Option, Some, None, List, ◌∷◌, ◌++◌, map}
+use Rattle.std.specs.Prelude.{◌≡◌, ◌≢◌, ◌<◌, ◌≤◌, ℕ, Bool, true, if◌then◌else◌, is_some, ◌&&◌, Option, Some, None, List, [], ◌∷◌, ◌++◌, map, filter}
 use Rattle.std.specs.List.{AllByRecursion, last_or}
+use Rattle.lt_ids.specs.declared.ticket.Through.{Through}
 use Rattle.lt_ids.specs.Timestamp.{is_below}
 use Rattle.lt_links.specs.declared.stand.Stand.{Stand}
 use Rattle.lt_links.specs.declared.ids.Queue.{Queue}
 use Rattle.lt_links.specs.declared.ids.QueueKind.{QueueKind}
 use Rattle.lt_links.specs.Maps.{Maps, queue, stand, has_record, HasNode, IsSound}
+use Rattle.lt_plain.specs.Record.{is_txn, through_of}
 use Rattle.lt_plain.specs.Visit.{enqueue}
 use Rattle.lt_lock.specs.Linked.{stand_at, stands_at, line, queue_at, request_of, writer_of, IsNamed}
 use Rattle.lt_lock.specs.declared.find.Found.{Found}
@@ -39,13 +41,27 @@ pub record Writes (old new : Maps) (to : Queue) (l : List Stand) : Type 0 where
 abbrev pub leaves : Who → Stand → Bool
 leaves All s = true
 leaves (Below ts) s = is_below s.ts ts
-leaves (Of txn) s = nat_eq s.txn txn
+leaves (Of txn) s = is_txn s.txn txn
 
 -- and goes on: who waits there
 abbrev pub goes_on : Who → Stand → Bool
 goes_on All s = true
 goes_on (Below ts) s = is_below s.ts ts
-goes_on (Of txn) s = nat_eq s.txn txn && s.active
+goes_on (Of txn) s = is_txn s.txn txn && s.active
+
+-- what lets those of these stands through that wait
+abbrev pub waiting_lets : List Stand → List Through
+waiting_lets l = map (λ s. through_of (request_of s)) (filter (λ s. s.active) l)
+
+-- the writers in front: those without a transaction before the first with one, and that one
+abbrev pub front : List Stand → List Stand
+front [] = []
+front (s ∷ l) = if is_some s.txn then s ∷ [] else s ∷ front l
+
+-- the writers from the first with a transaction on
+abbrev pub from_txn : List Stand → List Stand
+from_txn [] = []
+from_txn (s ∷ l) = if is_some s.txn then s ∷ l else from_txn l
 
 -- A stand goes from one queue, where these are left, to the front of another.
 pub record BringsOver (old new : Maps) (from to : Queue) (s : Stand) (left : List Stand) : Type 0 where

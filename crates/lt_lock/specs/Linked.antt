@@ -1,5 +1,5 @@
 -- How the links and the map of keys are seen as a table of records.
-use Rattle.std.specs.Prelude.{◌≡◌, ◌≤◌, ℕ, true, false, Option, Some, List, map, length, slice_get, unwrap_or}
+use Rattle.std.specs.Prelude.{◌≡◌, ◌≤◌, ℕ, true, false, Option, Some, None, List, map, length, slice_get, unwrap_or}
 use Rattle.std.specs.Option.{option_map}
 use Rattle.std.specs.List.{AllByRecursion}
 use Rattle.std.specs.Ordering.{nat_cmp}
@@ -35,7 +35,7 @@ abbrev pub writer_of : Stand → QueuedWriter
 writer_of s = record { request = request_of s; active = s.active }
 
 abbrev pub no_stand : Stand
-no_stand = record { number = 0; txn = 0; ts = record { wall = 0; logical = 0 }; pass = 0; wait = 0; active = false }
+no_stand = record { number = 0; txn = None; ts = record { wall = 0; logical = 0 }; pass = 0; wait = 0; active = false }
 
 -- what stands at a node, which has a stand
 abbrev pub stand_at : Maps → ℕ → Stand

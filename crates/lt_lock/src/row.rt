@@ -1,10 +1,11 @@
 //! What the map of keys has of a key, and what a call that frees, takes, raises or leaves does to it.
-ghost use Rattle.std.specs.Prelude.{◌≡◌, ◌++◌, [], not, drop, filter, slice_get, IfOk, OnOk, OnErr, IsOk, None, Some};
+ghost use Rattle.std.specs.Prelude.{◌≡◌, ◌++◌, [], suc, not, drop, filter, slice_get, IfOk, OnOk, OnErr, IsOk, None, Some};
+ghost use Rattle.std.specs.List.{find};
 ghost use Rattle.std.specs.Option.{option_map};
 ghost use Rattle.lt_plain.specs.declared.call.Reply.TheVariants.{Freed};
-ghost use Rattle.lt_plain.specs.Record.{is_empty};
-ghost use Rattle.lt_plain.specs.Rules.{TakesNoMemory, free, raise, raise_to, take_lock, set_back, is_of, acquire, update, finish, leave};
-ghost use Rattle.lt_plain.specs.Step.{look, look_reader, look_waiter, look_writer, waits_for};
+ghost use Rattle.lt_plain.specs.Record.{is_empty, has_txn};
+ghost use Rattle.lt_plain.specs.Rules.{TakesNoMemory, leading, free, raise, raise_to, take_lock, set_back, is_of, acquire, update, finish, leave};
+ghost use Rattle.lt_plain.specs.Step.{look, look_reader, look_waiter, look_writer, look_behind, waits_for, waits_for_reserved};
 ghost use Rattle.lt_plain.specs.Lawful.{IsLawful};
 ghost use Rattle.lt_lock.specs.Linked.{queue_at, record_of, request_of, writer_of, IsLinked};
 ghost use Rattle.lt_lock.specs.Went.{IsRow, IsRewritten, Went};
@@ -12,7 +13,8 @@ ghost use Rattle.lt_lock.specs.Went.{IsRow, IsRewritten, Went};
 use crate::find::find;
 use crate::lines::{bring_first, renew, take_out};
 use crate::settle::{reserved, settle};
-use crate::walk::{Who, drop_where, let_one, let_through};
+use crate::txn::is_of;
+use crate::walk::{Who, drop_leading, drop_where, let_front, let_through};
 use lt_ids::{Through, Timestamp, TxnId};
 use lt_links::{Links, Queue, QueueKind, RecordId, Stand};
 use lt_plain::{Holder, Reply};
@@ -33,7 +35,7 @@ pub(crate) fn queue(row: &Row, kind: QueueKind) -> Queue
     Queue { id: row.id, kind }
 }
 
-/// What goes on when the lock comes free: the readers, and the first writer if it waits.
+/// What goes on when the lock comes free: the readers, and the writers in front that wait.
 fn let_first(links: &Links, row: &Row, lets: &mut Vec<Through>) -> Result<(), AllocError>
     requires linked { IsLinked links.now row.now.id }
     requires lets { lets.old.items ≡ [] }
@@ -41,14 +43,7 @@ fn let_first(links: &Links, row: &Row, lets: &mut Vec<Through>) -> Result<(), Al
     ensures err { OnErr result (lets.new.items ≡ []) }
 {
     let_through(links, &queue(row, QueueKind::Readers), &Who::All, lets)?;
-    let Some(node) = links.first(queue(row, QueueKind::Writers)) else {
-        return Ok(());
-    };
-    let first = links.stand(node);
-    if !first.active {
-        return Ok(());
-    }
-    let_one(&first, lets)
+    let_front(links, &queue(row, QueueKind::Writers), lets)
 }
 
 /// The first writer, if there is one, has the lock reserved.
@@ -62,13 +57,15 @@ fn reserve_first(links: &mut Links, row: &Row)
     }
 }
 
-/// The readers leave, and the lock is reserved for the first writer, if there is one.
+/// The readers leave, and so do the writers without a transaction before the first with one. For that one, if there is
+/// one, the lock is reserved.
 fn hand_on(links: &mut Links, row: &Row)
     requires { IsLinked links.old row.now.id }
-    ensures { IsRewritten links.old links.new row.now (record (record_of links.old row.now) { reservation = option_map (λ w. w.request) (slice_get (record_of links.old row.now).writers 0); writers = drop 1 (record_of links.old row.now).writers; readers = [] }) }
+    ensures { IsRewritten links.old links.new row.now (record (record_of links.old row.now) { reservation = option_map (λ w. w.request) (find has_txn (record_of links.old row.now).writers); writers = drop (suc (leading (record_of links.old row.now).writers)) (record_of links.old row.now).writers; readers = [] }) }
 {
     drop_where(links, &queue(row, QueueKind::Readers), &Who::All);
     drop_where(links, &queue(row, QueueKind::Reservation), &Who::All);
+    drop_leading(links, &queue(row, QueueKind::Writers));
     reserve_first(links, row);
 }
 
@@ -148,7 +145,7 @@ fn set_back(links: &mut Links, row: &Row, txn: TxnId)
         return;
     };
     let mut stand = links.stand(node);
-    if stand.txn == txn {
+    if is_of(&stand, txn) {
         take_out(links, node);
         return;
     }
@@ -281,14 +278,34 @@ fn waits_for(row: &Row, number: u64, txn: TxnId, is_held: bool) -> Reply
     }
 }
 
+/// What a waiter of this number is told of the request for which the lock is reserved, by the transaction of that one.
+fn waits_for_reserved(row: &Row, number: u64, reserved: Option<TxnId>) -> Reply
+    ensures { result ≡ waits_for_reserved row.now.distinguished number reserved }
+{
+    match reserved {
+        None => Reply::Nothing,
+        Some(txn) => waits_for(row, number, txn, false),
+    }
+}
+
+/// What a writer is told of it.
+fn look_behind(row: &Row, stand: &Stand, reserved: Option<TxnId>) -> Reply
+    ensures { result ≡ look_behind row.now.distinguished (request_of stand.now) reserved }
+{
+    match reserved {
+        None => Reply::Nothing,
+        Some(txn) if is_of(stand, txn) => Reply::WaitOwn(txn),
+        Some(txn) => waits_for(row, stand.number, txn, false),
+    }
+}
+
 fn look_writer(links: &Links, row: &Row, stand: &Stand) -> Reply
     requires { IsLinked links.now row.now.id }
     ensures { result ≡ look_writer (record_of links.now row.now) (request_of stand.now) row.now.holder (record_of links.now row.now).reservation }
 {
     match (row.holder, reserved(links, row)) {
         (Some(holder), _) => waits_for(row, stand.number, holder.txn, true),
-        (None, Some(reserved)) if stand.txn == reserved.txn => Reply::WaitOwn(reserved.txn),
-        (None, Some(reserved)) => waits_for(row, stand.number, reserved.txn, false),
+        (None, Some(reserved)) => look_behind(row, stand, reserved.txn),
         (None, None) => Reply::Nothing,
     }
 }
@@ -299,7 +316,7 @@ fn look_reader(links: &Links, row: &Row, number: u64) -> Reply
 {
     match (row.holder, reserved(links, row)) {
         (Some(holder), _) => waits_for(row, number, holder.txn, true),
-        (None, Some(reserved)) => waits_for(row, number, reserved.txn, false),
+        (None, Some(reserved)) => waits_for_reserved(row, number, reserved.txn),
         (None, None) => Reply::Nothing,
     }
 }

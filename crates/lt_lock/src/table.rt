@@ -95,19 +95,21 @@ fn visit_at(
     rows: &mut Rows,
     key: &Key,
     stand: &Stand,
+    longest: u32,
     access: Access,
 ) -> Result<Reply, AllocError>
     requires table { IsTable links.old rows.old }
     requires active { stand.now.active ≡ true }
     requires named { IsNamed stand.now }
-    ensures ok { IfOk result (λ reply. IsStep (records_of links.old rows.old) key.now (λ r. visit r (request_of stand.now) access) reply [] (records_of links.new rows.new)) }
+    ensures ok { IfOk result (λ reply. IsStep (records_of links.old rows.old) key.now (λ r. visit r (request_of stand.now) longest access) reply [] (records_of links.new rows.new)) }
     ensures linked { AreLinked links.new rows.new }
     ensures err { OnErr result (records_of links.new rows.new ≡ records_of links.old rows.old) }
+    ensures no_memory { TakesNoMemory (visit (record_at (records_of links.old rows.old) key.now) (request_of stand.now) longest access).reply → IsOk result }
 {
     let Some(row) = rows.get_mut(key) else {
         return Ok(Reply::Passed);
     };
-    visit(links, row, stand, access)
+    visit(links, row, stand, longest, access)
 }
 
 fn update_at(
@@ -241,7 +243,14 @@ impl KeyTable for LinkedTable {
         lets: &mut Vec<Through>,
     ) -> Result<Reply, AllocError> {
         let stand = stand_of(request, wait);
-        let reply = visit_at(&mut self.links, &mut self.rows, key, &stand, access)?;
+        let reply = visit_at(
+            &mut self.links,
+            &mut self.rows,
+            key,
+            &stand,
+            request.longest,
+            access,
+        )?;
         drop_if_empty(&mut self.links, &mut self.rows, key);
         Ok(reply)
     }

@@ -1,20 +1,21 @@
 //! What a visit does to a row and its queues.
-ghost use Rattle.std.specs.Prelude.{◌≡◌, ◌≢◌, [], true, map, slice_get, None, Some, IfOk, OnOk, OnErr};
+ghost use Rattle.std.specs.Prelude.{◌≡◌, ◌≢◌, ◌++◌, [], true, map, slice_get, None, Some, IfOk, OnOk, OnErr, IsOk};
 ghost use Rattle.std.specs.List.{AllByRecursion};
 ghost use Rattle.lt_links.specs.declared.ids.QueueKind.TheVariants.{Reservation};
-ghost use Rattle.lt_plain.specs.Rules.{stop_reading};
+ghost use Rattle.lt_plain.specs.Rules.{TakesNoMemory, set_back, stop_reading};
 ghost use Rattle.lt_plain.specs.Lawful.{Rises};
-ghost use Rattle.lt_plain.specs.Visit.{pass, wait_to_write, wait_to_read, displace, visit_held, visit_reserved, visit_lock, visit};
+ghost use Rattle.lt_plain.specs.Visit.{pass, is_queued, is_too_long, wait_to_write, join_writers, wait_to_read, displace, visit_held, visit_reserved, visit_lock, visit};
 ghost use Rattle.lt_links.specs.Maps.{has_record, IsSound};
 ghost use Rattle.lt_lock.specs.Linked.{line, queue_at, record_of, request_of, writer_of, IsNamed};
 ghost use Rattle.lt_lock.specs.Found.{Finds, PutsWriter};
-ghost use Rattle.lt_lock.specs.Went.{IsRow, Went};
+ghost use Rattle.lt_lock.specs.Went.{IsRow, IsRewritten, Went};
 
 use crate::find::{Found, find};
 use crate::lines::{bring_first, put_behind, put_first, renew, take_out};
 use crate::row::{Row, queue};
 use crate::settle::{reserved, settle};
-use crate::walk::place_of;
+use crate::txn::is_of;
+use crate::walk::{has_at_least, place_of};
 use lt_ids::Access;
 use lt_links::{Links, Queue, QueueKind, Stand};
 use lt_plain::{Holder, Reply};
@@ -38,19 +39,28 @@ fn put_writer(links: &mut Links, to: &Queue, stand: &Stand) -> Result<(), AllocE
     }
 }
 
-/// The request goes on. Where it waited to read, it waits no longer.
+/// Where the request waited to read, it waits no longer.
+fn stop_reading(links: &mut Links, row: &Row, found: &Option<Found>, stand: &Stand)
+    requires row { IsRow links.old row.now }
+    requires found { Finds links.old row.now.id stand.now.number found.now }
+    ensures { IsRewritten links.old links.new row.now (stop_reading (record_of links.old row.now) stand.now.number) }
+{
+    let Some(found) = found else {
+        return;
+    };
+    if found.kind != QueueKind::Readers {
+        return;
+    }
+    take_out(links, found.node);
+}
+
+/// The request goes on.
 fn pass(links: &mut Links, row: &Row, found: &Option<Found>, stand: &Stand) -> Reply
     requires row { IsRow links.old row.now }
     requires found { Finds links.old row.now.id stand.now.number found.now }
     ensures { Went links.old links.new row.now row.now.id (pass (stop_reading (record_of links.old row.now) stand.now.number)) result [] }
 {
-    let Some(found) = found else {
-        return Reply::Passed;
-    };
-    if found.kind != QueueKind::Readers {
-        return Reply::Passed;
-    }
-    take_out(links, found.node);
+    stop_reading(links, row, found, stand);
     Reply::Passed
 }
 
@@ -83,6 +93,56 @@ fn wait_to_write(
         return Ok(Reply::MustWait);
     }
     Ok(Reply::MustWait)
+}
+
+/// Whether the request stands among the writers.
+fn is_queued(links: &Links, row: &Row, found: &Option<Found>, number: u64) -> bool
+    requires row { IsRow links.now row.now }
+    requires found { Finds links.now row.now.id number found.now }
+    ensures { result ≡ is_queued (record_of links.now row.now).writers number }
+{
+    let Some(found) = found else {
+        return false;
+    };
+    match found.kind {
+        QueueKind::Writers => true,
+        QueueKind::Readers => false,
+        QueueKind::Reservation => false,
+    }
+}
+
+/// Whether the writers are too many for the request, which does not stand among them.
+fn is_too_long(links: &Links, row: &Row, found: &Option<Found>, stand: &Stand, longest: u32) -> bool
+    requires row { IsRow links.now row.now }
+    requires found { Finds links.now row.now.id stand.now.number found.now }
+    ensures { result ≡ is_too_long (record_of links.now row.now).writers (request_of stand.now) longest }
+{
+    0 < longest
+        && !is_queued(links, row, found, stand.number)
+        && has_at_least(links, &queue(row, QueueKind::Writers), longest)
+}
+
+/// The request joins the writers, if they are not too many for it.
+fn join_writers(
+    links: &mut Links,
+    row: &Row,
+    found: &Option<Found>,
+    stand: &Stand,
+    longest: u32,
+) -> Result<Reply, AllocError>
+    requires row { IsRow links.old row.now }
+    requires found { Finds links.old row.now.id stand.now.number found.now }
+    requires active { stand.now.active ≡ true }
+    requires named { IsNamed stand.now }
+    ensures ok { IfOk result (λ reply. Went links.old links.new row.now row.now.id (join_writers (stop_reading (record_of links.old row.now) stand.now.number) (request_of stand.now) longest) reply []) }
+    ensures err { OnErr result (links.new ≡ links.old) }
+    ensures no_memory { TakesNoMemory (join_writers (stop_reading (record_of links.old row.now) stand.now.number) (request_of stand.now) longest).reply → IsOk result }
+{
+    if is_too_long(links, row, found, stand, longest) {
+        stop_reading(links, row, found, stand);
+        return Ok(Reply::TooLong);
+    }
+    wait_to_write(links, row, found, stand)
 }
 
 /// The request waits at the front of the readers; who stands among the writers already waits there.
@@ -122,24 +182,26 @@ fn visit_held(
     holder: &Holder,
     found: &Option<Found>,
     stand: &Stand,
+    longest: u32,
     access: Access,
 ) -> Result<Reply, AllocError>
     requires row { IsRow links.old row.now }
     requires found { Finds links.old row.now.id stand.now.number found.now }
     requires active { stand.now.active ≡ true }
     requires named { IsNamed stand.now }
-    ensures ok { IfOk result (λ reply. Went links.old links.new row.now row.now.id (visit_held (stop_reading (record_of links.old row.now) stand.now.number) holder.now (request_of stand.now) access) reply []) }
+    ensures ok { IfOk result (λ reply. Went links.old links.new row.now row.now.id (visit_held (stop_reading (record_of links.old row.now) stand.now.number) holder.now (request_of stand.now) longest access) reply []) }
     ensures err { OnErr result (links.new ≡ links.old) }
+    ensures no_memory { TakesNoMemory (visit_held (stop_reading (record_of links.old row.now) stand.now.number) holder.now (request_of stand.now) longest access).reply → IsOk result }
 {
     match access {
         Access::Read if stand.ts < holder.ts => Ok(pass(links, row, found, stand)),
         Access::Read => wait_to_read(links, row, found, stand),
-        Access::Write => wait_to_write(links, row, found, stand),
+        Access::Write => join_writers(links, row, found, stand, longest),
     }
 }
 
-/// A request of a smaller number takes the place of the one for which the lock is reserved.
-fn displace(
+/// The request takes the place of the one for which the lock is reserved, and that one is the first writer from now on.
+fn take_reservation(
     links: &mut Links,
     row: &Row,
     reservation: &Stand,
@@ -149,7 +211,7 @@ fn displace(
     requires unheld { row.now.holder ≡ None }
     requires reserved { slice_get (line links.old (queue_at row.now.id Reservation)) 0 ≡ Some reservation.now }
     requires named { IsNamed stand.now }
-    ensures ok { IfOk result (λ reply. Went links.old links.new row.now row.now.id (displace (stop_reading (record_of links.old row.now) stand.now.number) (request_of reservation.now) (request_of stand.now)) reply []) }
+    ensures ok { IfOk result (λ reply. Went links.old links.new row.now row.now.id (pass (record (stop_reading (record_of links.old row.now) stand.now.number) { reservation = Some (request_of stand.now); writers = set_back (Some (request_of reservation.now)) ++ (record_of links.old row.now).writers })) reply []) }
     ensures err { OnErr result (links.new ≡ links.old) }
 {
     let reserved = queue(row, QueueKind::Reservation);
@@ -163,12 +225,36 @@ fn displace(
     Ok(Reply::Passed)
 }
 
+/// A request of a smaller number takes the place of the one for which the lock is reserved. One without a transaction
+/// passes, and leaves it reserved.
+fn displace(
+    links: &mut Links,
+    row: &Row,
+    reservation: &Stand,
+    found: &Option<Found>,
+    stand: &Stand,
+) -> Result<Reply, AllocError>
+    requires row { IsRow links.old row.now }
+    requires unheld { row.now.holder ≡ None }
+    requires reserved { slice_get (line links.old (queue_at row.now.id Reservation)) 0 ≡ Some reservation.now }
+    requires found { Finds links.old row.now.id stand.now.number found.now }
+    requires named { IsNamed stand.now }
+    ensures ok { IfOk result (λ reply. Went links.old links.new row.now row.now.id (displace stand.now.txn (stop_reading (record_of links.old row.now) stand.now.number) (request_of reservation.now) (request_of stand.now)) reply []) }
+    ensures err { OnErr result (links.new ≡ links.old) }
+{
+    match stand.txn {
+        None => Ok(pass(links, row, found, stand)),
+        Some(_) => take_reservation(links, row, reservation, stand),
+    }
+}
+
 fn visit_reserved(
     links: &mut Links,
     row: &Row,
     reservation: &Stand,
     found: &Option<Found>,
     stand: &Stand,
+    longest: u32,
     access: Access,
 ) -> Result<Reply, AllocError>
     requires row { IsRow links.old row.now }
@@ -177,16 +263,17 @@ fn visit_reserved(
     requires found { Finds links.old row.now.id stand.now.number found.now }
     requires active { stand.now.active ≡ true }
     requires named { IsNamed stand.now }
-    ensures ok { IfOk result (λ reply. Went links.old links.new row.now row.now.id (visit_reserved (stop_reading (record_of links.old row.now) stand.now.number) (request_of reservation.now) (request_of stand.now) access) reply []) }
+    ensures ok { IfOk result (λ reply. Went links.old links.new row.now row.now.id (visit_reserved (stop_reading (record_of links.old row.now) stand.now.number) (request_of reservation.now) (request_of stand.now) longest access) reply []) }
     ensures err { OnErr result (links.new ≡ links.old) }
+    ensures no_memory { TakesNoMemory (visit_reserved (stop_reading (record_of links.old row.now) stand.now.number) (request_of reservation.now) (request_of stand.now) longest access).reply → IsOk result }
 {
     if access == Access::Read {
         return Ok(pass(links, row, found, stand));
     }
     match stand.number.cmp(&reservation.number) {
-        Ordering::Less => displace(links, row, reservation, stand),
+        Ordering::Less => displace(links, row, reservation, found, stand),
         Ordering::Equal => Ok(pass(links, row, found, stand)),
-        Ordering::Greater => wait_to_write(links, row, found, stand),
+        Ordering::Greater => join_writers(links, row, found, stand, longest),
     }
 }
 
@@ -195,21 +282,23 @@ fn visit_lock(
     row: &Row,
     found: &Option<Found>,
     stand: &Stand,
+    longest: u32,
     access: Access,
 ) -> Result<Reply, AllocError>
     requires row { IsRow links.old row.now }
     requires found { Finds links.old row.now.id stand.now.number found.now }
     requires active { stand.now.active ≡ true }
     requires named { IsNamed stand.now }
-    ensures ok { IfOk result (λ reply. Went links.old links.new row.now row.now.id (visit_lock row.now.holder (record_of links.old row.now).reservation (stop_reading (record_of links.old row.now) stand.now.number) (request_of stand.now) access) reply []) }
+    ensures ok { IfOk result (λ reply. Went links.old links.new row.now row.now.id (visit_lock row.now.holder (record_of links.old row.now).reservation (stop_reading (record_of links.old row.now) stand.now.number) (request_of stand.now) longest access) reply []) }
     ensures err { OnErr result (links.new ≡ links.old) }
+    ensures no_memory { TakesNoMemory (visit_lock row.now.holder (record_of links.old row.now).reservation (stop_reading (record_of links.old row.now) stand.now.number) (request_of stand.now) longest access).reply → IsOk result }
 {
     match (&row.holder, &reserved(links, row)) {
-        (Some(holder), _) if holder.txn != stand.txn => {
-            visit_held(links, row, holder, found, stand, access)
+        (Some(holder), _) if !is_of(stand, holder.txn) => {
+            visit_held(links, row, holder, found, stand, longest, access)
         }
         (None, Some(reservation)) => {
-            visit_reserved(links, row, reservation, found, stand, access)
+            visit_reserved(links, row, reservation, found, stand, longest, access)
         }
         _ => Ok(pass(links, row, found, stand)),
     }
@@ -220,16 +309,18 @@ pub(crate) fn visit(
     links: &mut Links,
     row: &mut Row,
     stand: &Stand,
+    longest: u32,
     access: Access,
 ) -> Result<Reply, AllocError>
     requires row { IsRow links.old row.old }
     requires active { stand.now.active ≡ true }
     requires named { IsNamed stand.now }
-    ensures ok { IfOk result (λ reply. Went links.old links.new row.new row.old.id (visit (record_of links.old row.old) (request_of stand.now) access) reply []) }
+    ensures ok { IfOk result (λ reply. Went links.old links.new row.new row.old.id (visit (record_of links.old row.old) (request_of stand.now) longest access) reply []) }
     ensures err { OnErr result ((links.new ≡ links.old) × (row.new ≡ row.old)) }
+    ensures no_memory { TakesNoMemory (visit (record_of links.old row.old) (request_of stand.now) longest access).reply → IsOk result }
 {
     let found = find(links, row.id, stand.number);
-    let reply = visit_lock(links, row, &found, stand, access)?;
+    let reply = visit_lock(links, row, &found, stand, longest, access)?;
     settle(links, row);
     Ok(reply)
 }

@@ -1,12 +1,13 @@
 //! Goes through a queue, where each of its members has to be looked at.
-ghost use Rattle.std.specs.Prelude.{◌≡◌, ◌∷◌, ◌++◌, [], true, not, map, filter, OnOk, OnErr};
+ghost use Rattle.std.specs.Prelude.{◌≡◌, ◌∷◌, ◌++◌, [], true, not, map, filter, length, nat_le, OnOk, OnErr};
 ghost use Rattle.std.specs.List.{AllByRecursion, find};
 ghost use Rattle.std.specs.Option.{option_map};
 ghost use Rattle.lt_links.specs.Maps.{has_record, IsSound};
 ghost use Rattle.lt_plain.specs.Record.{through_of, is_eligible};
 ghost use Rattle.lt_lock.specs.Linked.{line, request_of, writer_of, IsNamed};
-ghost use Rattle.lt_lock.specs.Found.{leaves, goes_on, Writes, IsPlace};
+ghost use Rattle.lt_lock.specs.Found.{leaves, goes_on, waiting_lets, front, from_txn, Writes, IsPlace};
 
+use crate::txn::{is_of, is_of_one_with};
 use lt_ids::{Through, Ticket, Timestamp, TxnId};
 use lt_links::{Links, NodeId, Queue, Stand};
 use std::alloc::AllocError;
@@ -25,7 +26,7 @@ fn leaves(who: &Who, stand: &Stand) -> bool
     match who {
         Who::All => true,
         Who::Below(ts) => stand.ts < *ts,
-        Who::Of(txn) => stand.txn == *txn,
+        Who::Of(txn) => is_of(stand, *txn),
     }
 }
 
@@ -91,18 +92,67 @@ pub(crate) fn let_through(
     done
 }
 
-/// Adds the let of one stand to the end of `lets`. After an error `lets` is empty.
-pub(crate) fn let_one(stand: &Stand, lets: &mut Vec<Through>) -> Result<(), AllocError>
+/// Adds the let of a stand that waits to the end of `lets`.
+fn put_let(stand: &Stand, lets: &mut Vec<Through>) -> Result<(), AllocError>
     requires { IsNamed stand.now }
-    ensures ok { OnOk result (lets.new.items ≡ lets.old.items ++ through_of (request_of stand.now) ∷ []) }
+    ensures { OnOk result (lets.new.items ≡ lets.old.items ++ waiting_lets (stand.now ∷ [])) }
+{
+    if stand.active {
+        lets.push(through(stand))?;
+    }
+    Ok(())
+}
+
+/// Adds to the end of `lets` a let for each writer in front that waits: of those without a transaction before the first
+/// with one, and of that one. After an error some of them may be there.
+fn put_front_lets(links: &Links, queue: &Queue, lets: &mut Vec<Through>) -> Result<(), AllocError>
+    requires there { has_record links.now queue.now.id ≡ true }
+    requires named { AllByRecursion IsNamed (line links.now queue.now) }
+    ensures ok { OnOk result (lets.new.items ≡ lets.old.items ++ waiting_lets (front (line links.now queue.now))) }
+{
+    let mut at = links.first(*queue);
+    while let Some(node) = at {
+        let stand = links.stand(node);
+        put_let(&stand, lets)?;
+        if stand.txn.is_some() {
+            return Ok(());
+        }
+        at = links.next(node);
+    }
+    Ok(())
+}
+
+/// Adds to the end of `lets` a let for each writer in front that waits. After an error `lets` is empty.
+pub(crate) fn let_front(
+    links: &Links,
+    queue: &Queue,
+    lets: &mut Vec<Through>,
+) -> Result<(), AllocError>
+    requires there { has_record links.now queue.now.id ≡ true }
+    requires named { AllByRecursion IsNamed (line links.now queue.now) }
+    ensures ok { OnOk result (lets.new.items ≡ lets.old.items ++ waiting_lets (front (line links.now queue.now))) }
     ensures err { OnErr result (lets.new.items ≡ []) }
 {
-    match lets.push(through(stand)) {
-        Ok(()) => Ok(()),
-        Err(refused) => {
-            lets.clear();
-            Err(refused.into())
+    let done = put_front_lets(links, queue, lets);
+    if done.is_err() {
+        lets.clear();
+    }
+    done
+}
+
+/// Takes out the writers without a transaction that stand before the first with one.
+pub(crate) fn drop_leading(links: &mut Links, queue: &Queue)
+    requires there { has_record links.old queue.now.id ≡ true }
+    requires sound { IsSound links.old }
+    ensures { Writes links.old links.new queue.now (from_txn (line links.old queue.now)) }
+{
+    let mut at = links.first(*queue);
+    while let Some(node) = at {
+        if links.stand(node).txn.is_some() {
+            return;
         }
+        links.remove(node);
+        at = links.first(*queue);
     }
 }
 
@@ -127,7 +177,7 @@ pub(crate) fn is_eligible(stand: &Stand, reserved: &Option<Stand>) -> bool
 {
     match reserved {
         None => stand.active,
-        Some(reserved) => stand.active && stand.txn != reserved.txn,
+        Some(reserved) => stand.active && !is_of_one_with(stand, reserved),
     }
 }
 
@@ -161,4 +211,21 @@ pub(crate) fn place_of(links: &Links, queue: &Queue, number: u64) -> Option<Node
         at = links.prev(node);
     }
     None
+}
+
+/// Whether at least so many stand in the queue. No more of them are looked at.
+pub(crate) fn has_at_least(links: &Links, queue: &Queue, count: u32) -> bool
+    requires there { has_record links.now queue.now.id ≡ true }
+    ensures { result ≡ nat_le count (length (line links.now queue.now)) }
+{
+    let mut left = count;
+    let mut at = links.first(*queue);
+    while left > 0 {
+        let Some(node) = at else {
+            return false;
+        };
+        left -= 1;
+        at = links.next(node);
+    }
+    true
 }

@@ -29,9 +29,32 @@ pub fn ticket(number: u64, wait: u32) -> Result<Ticket, Fail> {
 pub fn visit(number: u64, wall: u64, access: Access, wait: u32) -> Result<Call, Fail> {
     Ok(Call::Visit {
         ticket: ticket(number, wait)?,
-        txn: txn(number)?,
+        txn: Some(txn(number)?),
         ts: at(wall),
         access,
+        longest: 0,
+    })
+}
+
+/// A visit to write, of a request without a transaction.
+pub fn visit_alone(number: u64, wait: u32) -> Result<Call, Fail> {
+    Ok(Call::Visit {
+        ticket: ticket(number, wait)?,
+        txn: None,
+        ts: at(1),
+        access: Access::Write,
+        longest: 0,
+    })
+}
+
+/// A visit to write, of a request that joins fewer writers than this alone.
+pub fn visit_within(number: u64, wait: u32, longest: u32) -> Result<Call, Fail> {
+    Ok(Call::Visit {
+        ticket: ticket(number, wait)?,
+        txn: Some(txn(number)?),
+        ts: at(1),
+        access: Access::Write,
+        longest,
     })
 }
 
@@ -80,9 +103,9 @@ pub fn make<T: KeyTable>(
                 "a refused call changed what is found"
             );
             match step::make(table, key, pass, call, lets)? {
-                // These change nothing, so they take no memory.
-                Reply::Other | Reply::Kept | Reply::Absent => {
-                    Err(Fail::from("a call that changes nothing was refused"))
+                // These take no memory.
+                Reply::Other | Reply::Kept | Reply::Absent | Reply::TooLong => {
+                    Err(Fail::from("a call that takes no memory was refused"))
                 }
                 reply => Ok(reply),
             }

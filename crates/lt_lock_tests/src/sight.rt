@@ -4,14 +4,16 @@ ghost use Rattle.std.specs.Prelude.{◌<◌};
 use crate::calls::{Found, NUMBERS};
 use lt_ids::{Access, Through, Timestamp};
 use lt_plain::{Call, Reply};
-use lt_rules_tests::cases::{Counts, Lock, Visit, case_of};
+use lt_rules_tests::cases::{Counts, Lock, Release, Visit, case_of};
 use lt_rules_tests::second::Time;
 
-/// Who holds the lock of a key, and who waits there to read.
+/// Who holds the lock of a key, who waits there to read, and who came there without a transaction when he last had to
+/// wait.
 #[derive(Clone, Copy, Debug)]
 pub struct Sight {
     holder: Option<(u64, Time)>,
     reads: [bool; 41],
+    without_txn: [bool; 41],
 }
 
 fn time_of(ts: Timestamp) -> Time {
@@ -40,6 +42,7 @@ impl Sight {
         Sight {
             holder: None,
             reads: [false; 41],
+            without_txn: [false; 41],
         }
     }
 
@@ -57,10 +60,51 @@ impl Sight {
         self.reads.get(number as usize) == Some(&true)
     }
 
+    /// Whether the request stands among the writers.
+    fn is_writer(&self, found: &Found, number: u64) -> bool {
+        waits(found, number) && !self.is_reader(number)
+    }
+
+    /// How many stand among the writers.
+    fn writers(&self, found: &Found) -> u64 {
+        let mut count: u64 = 0;
+        for number in 0..NUMBERS {
+            if self.is_writer(found, number) {
+                count = count.wrapping_add(1);
+            }
+        }
+        count
+    }
+
+    /// What came after a lock came free, where these were let through and this is found after it.
+    fn release(&self, lets: &[Through], after: &Found) -> Release {
+        let next = reserved(after);
+        let mut writers_let: u64 = 0;
+        let mut next_is_let = false;
+        for through in lets {
+            let number = through.ticket.number();
+            if next == Some(number) {
+                next_is_let = true;
+            } else if !self.is_reader(number)
+                && self.without_txn.get(number as usize) == Some(&true)
+            {
+                writers_let = writers_let.wrapping_add(1);
+            }
+        }
+        Release {
+            writers_let,
+            is_next: next.is_some(),
+            next_is_let,
+        }
+    }
+
     /// A visit that has to wait: who stood among the writers already waits there, to read or to write.
     fn wait(&mut self, visit: &Visit) {
         let reads = !visit.is_write && (!visit.waits || self.is_reader(visit.number));
         self.set_reads(visit.number, reads);
+        if let Some(place) = self.without_txn.get_mut(visit.number as usize) {
+            *place = visit.txn.is_none();
+        }
     }
 
     fn visited(&mut self, before: &Found, visit: &Visit, reply: Reply, counts: &mut Counts) {
@@ -75,10 +119,11 @@ impl Sight {
         }
     }
 
-    /// The call gave this, where that was found before it.
+    /// The call gave this, where that was found before it and after it.
     pub fn note(
         &mut self,
         before: &Found,
+        after: &Found,
         call: &Call,
         reply: Reply,
         lets: &[Through],
@@ -90,13 +135,17 @@ impl Sight {
                 txn,
                 ts,
                 access,
+                longest,
             } => {
                 let visit = Visit {
                     number: ticket.number(),
-                    txn: txn.number(),
+                    txn: txn.map(|txn| txn.number()),
                     time: time_of(ts),
                     is_write: access == Access::Write,
                     waits: waits(before, ticket.number()),
+                    longest,
+                    is_queued: self.is_writer(before, ticket.number()),
+                    writers: self.writers(before),
                 };
                 self.visited(before, &visit, reply, counts);
             }
@@ -109,9 +158,15 @@ impl Sight {
             Call::Finish { .. } => {
                 if reply == Reply::Freed {
                     self.holder = None;
+                    counts.add_release(&self.release(lets, after));
                 }
             }
-            Call::Leave { number } => self.set_reads(number, false),
+            Call::Leave { number } => {
+                if reserved(before) == Some(number) {
+                    counts.add_release(&self.release(lets, after));
+                }
+                self.set_reads(number, false);
+            }
             Call::Look { .. } => {}
         }
         for through in lets {

@@ -16,12 +16,12 @@ use Rattle.lt_plain.specs.declared.call.Call.TheVariants.{Visit, Acquire, Update
 use Rattle.lt_plain.specs.declared.queued.QueuedWriter.{QueuedWriter}
 use Rattle.lt_plain.specs.declared.call.Reply.{Reply}
 use Rattle.lt_plain.specs.declared.call.Reply.TheVariants.{Taken}
-use Rattle.lt_plain.specs.Record.{Record, empty, number_of, writer_number}
+use Rattle.lt_plain.specs.Record.{Record, empty, number_of, writer_number, is_txn}
 use Rattle.lt_plain.specs.Rules.{Outcome, acquire_from, update_from, finish_from, leave, is_reserved_by, is_waiting, stop_reading}
 use Rattle.lt_plain.specs.Visit.{visit_lock, is_queued}
-use Rattle.lt_plain.specs.Step.{Event, step, look, look_waiter, look_writer, look_reader, waits_for, IsLegal, IsLegalFrom, record_after}
+use Rattle.lt_plain.specs.Step.{Event, step, look, look_waiter, look_writer, look_behind, look_reader, waits_for, waits_for_reserved, IsLegal, IsLegalFrom, record_after}
 use Rattle.lt_plain.specs.Holding.{is_freed}
-use Rattle.lt_plain.proofs.Holders.{either, one_of_two, one_of_three, rest_legal, visit_keeps, leave_keeps}
+use Rattle.lt_plain.proofs.Holders.{either, one_of_two, one_of_three, joined, displaced, rest_legal, visit_keeps, leave_keeps}
 
 -- ---- a held lock stays held until it is freed
 
@@ -41,7 +41,7 @@ update_held r None txn ts held = λ e. held
 update_held r (Some k) txn ts held = either StaysHeld (nat_eq k.txn txn) _ _ (either StaysHeld (is_below k.ts ts) _ _ (λ e. refl) (λ e. held)) (λ e. held)
 
 step_held : (r : Record) (pass : ℕ) (call : Call) → IsSome r.holder → StaysHeld (step r pass call)
-step_held r pass (Visit ticket txn ts access) held = λ e. subst IsSome (sym (visit_keeps r _ access)) held
+step_held r pass (Visit ticket txn ts access longest) held = λ e. subst IsSome (sym (visit_keeps r _ longest access)) held
 step_held r pass (Acquire txn ts) held = acquire_held r r.holder (record { txn = txn; ts = ts }) held
 step_held r pass (Update txn ts) held = update_held r r.holder txn ts held
 step_held r pass (Finish txn) held = finish_held r r.holder txn held
@@ -66,15 +66,15 @@ TakesFree holder o = o.reply ≡ Taken → (holder ≡ None) × IsSome o.after.h
 abbrev NotTaken : Reply → Type 0
 NotTaken reply = reply ≡ Taken → ⊥
 
-visit_not : (holder : Option Holder) (s : Option QueuedRequest) (r : Record) (q : QueuedRequest) (access : Access) → NotTaken (visit_lock holder s r q access).reply
-visit_not None None r q access = λ e. cc
-visit_not None (Some s) r q Read = λ e. cc
-visit_not None (Some s) r q Write = one_of_three (λ o. NotTaken o.reply) (nat_cmp (number_of q) (number_of s)) _ _ _ (λ e. cc) (λ e. cc) (λ e. cc)
-visit_not (Some h) s r q Read =
-    either (λ o. NotTaken o.reply) (nat_eq h.txn q.txn) _ _ (λ e. cc)
+visit_not : (holder : Option Holder) (s : Option QueuedRequest) (r : Record) (q : QueuedRequest) (longest : ℕ) (access : Access) → NotTaken (visit_lock holder s r q longest access).reply
+visit_not None None r q longest access = λ e. cc
+visit_not None (Some s) r q longest Read = λ e. cc
+visit_not None (Some s) r q longest Write = one_of_three (λ o. NotTaken o.reply) (nat_cmp (number_of q) (number_of s)) _ _ _ (displaced q.txn (λ o. NotTaken o.reply) r s q (λ e. cc) (λ e. cc)) (λ e. cc) (joined (λ o. NotTaken o.reply) r q longest (λ e. cc) (λ e. cc))
+visit_not (Some h) s r q longest Read =
+    either (λ o. NotTaken o.reply) (is_txn q.txn h.txn) _ _ (λ e. cc)
     (either (λ o. NotTaken o.reply) (is_below q.ts h.ts) _ _ (λ e. cc)
     (either (λ o. NotTaken o.reply) (is_queued r.writers (number_of q)) _ _ (λ e. cc) (λ e. cc)))
-visit_not (Some h) s r q Write = either (λ o. NotTaken o.reply) (nat_eq h.txn q.txn) _ _ (λ e. cc) (λ e. cc)
+visit_not (Some h) s r q longest Write = either (λ o. NotTaken o.reply) (is_txn q.txn h.txn) _ _ (λ e. cc) (joined (λ o. NotTaken o.reply) r q longest (λ e. cc) (λ e. cc))
 
 acquire_takes : (r : Record) (holder : Option Holder) (h : Holder) → TakesFree holder (acquire_from holder r h)
 acquire_takes r None h = λ e. (refl, refl)
@@ -95,14 +95,22 @@ waits_not : (d : Option ℕ) (n txn : ℕ) (held : Bool) → NotTaken (waits_for
 waits_not None n txn held = λ e. cc
 waits_not (Some f) n txn held = one_of_two NotTaken (nat_eq f n) _ _ (λ e. cc) (λ e. cc)
 
+reserved_not : (d : Option ℕ) (n : ℕ) (txn : Option ℕ) → NotTaken (waits_for_reserved d n txn)
+reserved_not d n None = λ e. cc
+reserved_not d n (Some t) = waits_not d n t false
+
+behind_not : (d : Option ℕ) (q : QueuedRequest) (txn : Option ℕ) → NotTaken (look_behind d q txn)
+behind_not d q None = λ e. cc
+behind_not d q (Some t) = one_of_two NotTaken (is_txn q.txn t) _ _ (λ e. cc) (waits_not d (number_of q) t false)
+
 writer_not : (r : Record) (q : QueuedRequest) (holder : Option Holder) (s : Option QueuedRequest) → NotTaken (look_writer r q holder s)
 writer_not r q None None = λ e. cc
-writer_not r q None (Some s) = one_of_two NotTaken (nat_eq q.txn s.txn) _ _ (λ e. cc) (waits_not r.distinguished (number_of q) s.txn false)
+writer_not r q None (Some s) = behind_not r.distinguished q s.txn
 writer_not r q (Some h) s = waits_not r.distinguished (number_of q) h.txn true
 
 reader_not : (r : Record) (n : ℕ) (holder : Option Holder) (s : Option QueuedRequest) → NotTaken (look_reader r n holder s)
 reader_not r n None None = λ e. cc
-reader_not r n None (Some s) = waits_not r.distinguished n s.txn false
+reader_not r n None (Some s) = reserved_not r.distinguished n s.txn
 reader_not r n (Some h) s = waits_not r.distinguished n h.txn true
 
 waiter_not : (r : Record) (n : ℕ) (w : Option QueuedWriter) → NotTaken (look_waiter r n w)
@@ -113,7 +121,7 @@ look_not : (r : Record) (n : ℕ) → NotTaken (look r n)
 look_not r n = one_of_two NotTaken (is_reserved_by r.reservation n) _ _ (λ e. cc) (waiter_not r n (find (λ w. nat_eq (writer_number w) n) r.writers))
 
 step_takes : (r : Record) (pass : ℕ) (call : Call) → TakesFree r.holder (step r pass call)
-step_takes r pass (Visit ticket txn ts access) = λ e. absurd (visit_not r.holder r.reservation (stop_reading r ticket.number) (record { ticket = ticket; txn = txn; ts = ts; pass = pass }) access e)
+step_takes r pass (Visit ticket txn ts access longest) = λ e. absurd (visit_not r.holder r.reservation (stop_reading r ticket.number) (record { ticket = ticket; txn = txn; ts = ts; pass = pass }) longest access e)
 step_takes r pass (Acquire txn ts) = acquire_takes r r.holder (record { txn = txn; ts = ts })
 step_takes r pass (Update txn ts) = update_takes r r.holder txn ts
 step_takes r pass (Finish txn) = finish_takes r r.holder txn

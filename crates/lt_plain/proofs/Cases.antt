@@ -1,5 +1,5 @@
 -- What is true of a lawful record, case by case of its lock: the form that the proofs go by.
-use Rattle.std.proofs.Common.{◌≡◌, ◌≢◌, ◌<◌, ◌⊎◌, ℕ, Bool, false, List, [], ◌∷◌, ◌++◌, map, Option, Some, None, IsNone, IfSome, refl, sym, subst, arith, nat_eq, inl, inr}
+use Rattle.std.proofs.Common.{◌≡◌, ◌≢◌, ◌<◌, ◌⊎◌, ℕ, Bool, false, true, zero, suc, take, drop, List, [], ◌∷◌, ◌++◌, map, Option, Some, None, IsNone, IsSome, IfSome, refl, sym, subst, arith, nat_eq, inl, inr}
 use Rattle.std.specs.Prelude.{option_to_list}
 use Rattle.std.proofs.lemmas.List.{map-append}
 use Rattle.std.specs.List.{AllByRecursion, IsDistinct}
@@ -9,7 +9,7 @@ use Rattle.lt_ids.specs.Timestamp.{is_below}
 use Rattle.lt_plain.specs.declared.queued.Holder.{Holder}
 use Rattle.lt_plain.specs.declared.queued.QueuedRequest.{QueuedRequest}
 use Rattle.lt_plain.specs.declared.queued.QueuedWriter.{QueuedWriter}
-use Rattle.lt_plain.specs.Record.{Record, number_of, writer_number}
+use Rattle.lt_plain.specs.Record.{Record, number_of, writer_number, has_txn}
 use Rattle.lt_plain.specs.Rules.{settle}
 use Rattle.lt_plain.specs.Lawful.{IsLawful, Rises}
 
@@ -19,9 +19,18 @@ abbrev pub FitsLock : Option Holder → Option QueuedRequest → List QueuedWrit
 FitsLock None None writers readers = (writers ≡ []) × (readers ≡ [])
 FitsLock None (Some s) writers readers = AllByRecursion (λ w. number_of s < writer_number w) writers × (readers ≡ [])
 FitsLock (Some h) None writers readers =
-    AllByRecursion (λ w. w.request.txn ≢ h.txn) writers
-    × AllByRecursion (λ q. (q.txn ≢ h.txn) × (is_below q.ts h.ts ≡ false)) readers
+    AllByRecursion (λ w. w.request.txn ≢ Some h.txn) writers
+    × AllByRecursion (λ q. (q.txn ≢ Some h.txn) × (is_below q.ts h.ts ≡ false)) readers
 FitsLock (Some h) (Some s) writers readers = ⊥
+
+-- A writer without a transaction waits.
+abbrev pub IsAwake : QueuedWriter → Type 0
+IsAwake w = has_txn w ≡ false → w.active ≡ true
+
+-- who may have a lock reserved, or stand by without waiting: one of a transaction alone
+pub record AreOwned (r : Record) : Type 0 where
+  pub reservation : IfSome r.reservation (λ s. IsSome s.txn)
+  pub writers : AllByRecursion IsAwake r.writers
 
 -- no two readers have one number
 abbrev pub Differ : List QueuedRequest → Type 0
@@ -59,6 +68,16 @@ all_back P (x ∷ xs) ys a = all_back P xs ys a.1
 pub all_both : {X : Type 0} (P Q : X → Type 0) (xs : List X) → AllByRecursion P xs → AllByRecursion Q xs → AllByRecursion (λ x. P x × Q x) xs
 all_both P Q [] a b = tt
 all_both P Q (x ∷ xs) a b = ((a.0, b.0), all_both P Q xs a.1 b.1)
+
+pub all_take : {X : Type 0} (P : X → Type 0) (n : ℕ) (xs : List X) → AllByRecursion P xs → AllByRecursion P (take n xs)
+all_take P zero xs a = tt
+all_take P (suc n) [] a = tt
+all_take P (suc n) (x ∷ xs) a = (a.0, all_take P n xs a.1)
+
+pub all_drop : {X : Type 0} (P : X → Type 0) (n : ℕ) (xs : List X) → AllByRecursion P xs → AllByRecursion P (drop n xs)
+all_drop P zero xs a = a
+all_drop P (suc n) [] a = tt
+all_drop P (suc n) (x ∷ xs) a = all_drop P n xs a.1
 
 -- a relation of each of these to each of those, from the other side
 pub all_flip : {X Y : Type 0} (R : X → Y → Type 0) (xs : List X) (ys : List Y) → AllByRecursion (λ x. AllByRecursion (R x) ys) xs → AllByRecursion (λ y. AllByRecursion (λ x. R x y) xs) ys
@@ -123,12 +142,12 @@ distinct_differ (q ∷ qs) d =
 -- ---- the two forms are one
 
 fits_at : (holder : Option Holder) (s : Option QueuedRequest) (ws : List QueuedWriter) (rs : List QueuedRequest) → IsNone holder ⊎ IsNone s → (IsNone holder → IsNone s → ws ≡ []) → (IsNone holder → rs ≡ []) →
-    IfSome s (λ s. AllByRecursion (λ w. number_of s < writer_number w) ws) → IfSome holder (λ h. AllByRecursion (λ q. q.txn ≢ h.txn) (map (λ w. w.request) ws ++ rs)) → IfSome holder (λ h. AllByRecursion (λ q. is_below q.ts h.ts ≡ false) rs) → FitsLock holder s ws rs
+    IfSome s (λ s. AllByRecursion (λ w. number_of s < writer_number w) ws) → IfSome holder (λ h. AllByRecursion (λ q. q.txn ≢ Some h.txn) (map (λ w. w.request) ws ++ rs)) → IfSome holder (λ h. AllByRecursion (λ q. is_below q.ts h.ts ≡ false) rs) → FitsLock holder s ws rs
 fits_at None None ws rs both free unheld least others above = (free refl refl, unheld refl)
 fits_at None (Some s) ws rs both free unheld least others above = (least, unheld refl)
 fits_at (Some h) None ws rs both free unheld least others above = (
-  all_unmap (λ q. q.txn ≢ h.txn) (λ w. w.request) ws (all_front (λ q. q.txn ≢ h.txn) (map (λ w. w.request) ws) rs others),
-  all_both (λ q. q.txn ≢ h.txn) (λ q. is_below q.ts h.ts ≡ false) rs (all_back (λ q. q.txn ≢ h.txn) (map (λ w. w.request) ws) rs others) above,
+  all_unmap (λ q. q.txn ≢ Some h.txn) (λ w. w.request) ws (all_front (λ q. q.txn ≢ Some h.txn) (map (λ w. w.request) ws) rs others),
+  all_both (λ q. q.txn ≢ Some h.txn) (λ q. is_below q.ts h.ts ≡ false) rs (all_back (λ q. q.txn ≢ Some h.txn) (map (λ w. w.request) ws) rs others) above,
 )
 fits_at (Some h) (Some s) ws rs both free unheld least others above = elim both [ inl e ↦ true≢false e | inr e ↦ true≢false e ]
 
@@ -173,14 +192,14 @@ least_of holder None ws rs f = tt
 least_of None (Some s) ws rs f = f.0
 least_of (Some h) (Some s) ws rs f = absurd f
 
-others_of : (holder : Option Holder) (s : Option QueuedRequest) (ws : List QueuedWriter) (rs : List QueuedRequest) → FitsLock holder s ws rs → IfSome holder (λ h. AllByRecursion (λ q. q.txn ≢ h.txn) (map (λ w. w.request) ws ++ rs))
+others_of : (holder : Option Holder) (s : Option QueuedRequest) (ws : List QueuedWriter) (rs : List QueuedRequest) → FitsLock holder s ws rs → IfSome holder (λ h. AllByRecursion (λ q. q.txn ≢ Some h.txn) (map (λ w. w.request) ws ++ rs))
 others_of None s ws rs f = tt
-others_of (Some h) None ws rs f = all_append (λ q. q.txn ≢ h.txn) (map (λ w. w.request) ws) rs (all_map (λ q. q.txn ≢ h.txn) (λ w. w.request) ws f.0) (all_weaker (λ q. (q.txn ≢ h.txn) × (is_below q.ts h.ts ≡ false)) (λ q. q.txn ≢ h.txn) (λ q a. a.0) rs f.1)
+others_of (Some h) None ws rs f = all_append (λ q. q.txn ≢ Some h.txn) (map (λ w. w.request) ws) rs (all_map (λ q. q.txn ≢ Some h.txn) (λ w. w.request) ws f.0) (all_weaker (λ q. (q.txn ≢ Some h.txn) × (is_below q.ts h.ts ≡ false)) (λ q. q.txn ≢ Some h.txn) (λ q a. a.0) rs f.1)
 others_of (Some h) (Some s) ws rs f = absurd f
 
 above_of : (holder : Option Holder) (s : Option QueuedRequest) (ws : List QueuedWriter) (rs : List QueuedRequest) → FitsLock holder s ws rs → IfSome holder (λ h. AllByRecursion (λ q. is_below q.ts h.ts ≡ false) rs)
 above_of None s ws rs f = tt
-above_of (Some h) None ws rs f = all_weaker (λ q. (q.txn ≢ h.txn) × (is_below q.ts h.ts ≡ false)) (λ q. is_below q.ts h.ts ≡ false) (λ q a. a.1) rs f.1
+above_of (Some h) None ws rs f = all_weaker (λ q. (q.txn ≢ Some h.txn) × (is_below q.ts h.ts ≡ false)) (λ q. is_below q.ts h.ts ≡ false) (λ q a. a.1) rs f.1
 above_of (Some h) (Some s) ws rs f = absurd f
 
 distinct_waiting : (ws : List QueuedWriter) (rs : List QueuedRequest) → Rises ws → Differ rs → AreApart ws rs → IsDistinct nat_eq (map number_of (map (λ w. w.request) ws ++ rs))
@@ -200,13 +219,18 @@ distinct_of None (Some s) ws rs f r d a =
     let all = all_append (λ q. nat_eq (number_of s) (number_of q) ≡ false) (map (λ w. w.request) ws) rs writers (subst (AllByRecursion (λ q. nat_eq (number_of s) (number_of q) ≡ false)) (sym f.1) tt) in
     (all_map (λ n. nat_eq (number_of s) n ≡ false) number_of (map (λ w. w.request) ws ++ rs) all, distinct_waiting ws rs r d a)
 
-pub lawful_from : (r : Record) → FitsLock r.holder r.reservation r.writers r.readers → Rises r.writers → Differ r.readers → AreApart r.writers r.readers → settle r ≡ r → IsLawful r
-lawful_from r f rises d a s = record {
+pub lawful_owned : (r : Record) → IsLawful r → AreOwned r
+lawful_owned r l = record { reservation = l.reservation_has_txn; writers = l.writers_without_txn_wait }
+
+pub lawful_from : (r : Record) → FitsLock r.holder r.reservation r.writers r.readers → Rises r.writers → Differ r.readers → AreApart r.writers r.readers → AreOwned r → settle r ≡ r → IsLawful r
+lawful_from r f rises d a o s = record {
   not_both = not_both_of r.holder r.reservation r.writers r.readers f;
   free_has_no_writers = no_writers_of r.holder r.reservation r.writers r.readers f;
   unheld_has_no_readers = no_readers_of r.holder r.reservation r.writers r.readers f;
   writers_rise = rises;
   reservation_is_least = least_of r.holder r.reservation r.writers r.readers f;
+  reservation_has_txn = o.reservation;
+  writers_without_txn_wait = o.writers;
   numbers_differ = distinct_of r.holder r.reservation r.writers r.readers f rises d a;
   others_wait = others_of r.holder r.reservation r.writers r.readers f;
   readers_are_not_below = above_of r.holder r.reservation r.writers r.readers f;

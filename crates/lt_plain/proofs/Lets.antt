@@ -1,5 +1,5 @@
 -- Who is let through had to wait, and waits no longer.
-use Rattle.std.proofs.Common.{◌≡◌, ◌≢◌, ◌<◌, ℕ, Bool, true, false, not, cond, List, [], ◌∷◌, ◌++◌, map, filter, take, drop, Option, Some, None, refl, sym, ap, subst, ◌∙◌, arith, nat_eq}
+use Rattle.std.proofs.Common.{◌≡◌, ◌≢◌, ◌<◌, ℕ, Bool, true, false, not, cond, zero, suc, List, [], ◌∷◌, ◌++◌, map, filter, take, drop, Option, Some, None, refl, sym, ap, subst, ◌∙◌, arith, nat_eq}
 use Rattle.std.specs.List.{AllByRecursion, IsDistinct}
 use mathlib.Core.Bool.{true≢false}
 use Rattle.std.proofs.lemmas.Bool.Decides.{nat_tests}
@@ -19,14 +19,14 @@ use Rattle.lt_plain.specs.declared.call.Call.{Call}
 use Rattle.lt_plain.specs.declared.call.Call.TheVariants.{Visit, Acquire, Update, Finish, Leave, Look}
 use Rattle.lt_plain.specs.declared.call.Reply.{Reply}
 use Rattle.lt_plain.specs.declared.call.Reply.TheVariants.{MustWait, Freed, Left, Kept, Other, Absent}
-use Rattle.lt_plain.specs.Record.{Record, empty, number_of, writer_number, through_of}
-use Rattle.lt_plain.specs.Rules.{Outcome, unchanged, free, raise_to, take_lock, set_back, is_of, active_requests, acquire_from, update_from, finish_from, leave, is_reserved_by, is_waiting, stop_reading}
-use Rattle.lt_plain.specs.Visit.{visit, visit_lock, is_queued, enqueue}
+use Rattle.lt_plain.specs.Record.{Record, empty, number_of, writer_number, through_of, is_txn}
+use Rattle.lt_plain.specs.Rules.{Outcome, unchanged, free, raise_to, take_lock, set_back, is_of, active_requests, acquire_from, update_from, finish_from, leave, is_reserved_by, is_waiting, stop_reading, leading}
+use Rattle.lt_plain.specs.Visit.{visit, visit_lock, is_queued, enqueue, join_writers}
 use Rattle.lt_plain.specs.Step.{Event, step, look, IsLegal, IsLegalFrom, record_after}
 use Rattle.lt_plain.specs.Lawful.{IsLawful, Rises}
 use Rattle.lt_plain.specs.Laws.{Spares, IsWaiting}
-use Rattle.lt_plain.proofs.Cases.{all_weaker, all_map, all_append, all_both, all_flip, Differ, AreApart, distinct_append, distinct_map, same_writer, same_request, differ_distinct, rises_distinct, lawful_differ, lawful_apart}
-use Rattle.lt_plain.proofs.Holders.{either, one_of_three, rest_legal}
+use Rattle.lt_plain.proofs.Cases.{all_weaker, all_map, all_take, all_drop, all_append, all_both, all_flip, Differ, AreApart, distinct_append, distinct_map, same_writer, same_request, differ_distinct, rises_distinct, lawful_differ, lawful_apart}
+use Rattle.lt_plain.proofs.Holders.{either, one_of_three, joined, displaced, rest_legal}
 use Rattle.lt_plain.proofs.Orderly.{all_filter, enqueue_all}
 use Rattle.lt_plain.proofs.Lawfulness.{step_keeps_lawful, empty_is_lawful, lawful}
 
@@ -41,42 +41,45 @@ record EachActive (P : QueuedRequest → Type 0) (r : Record) : Type 0 where
 abbrev Waits : (QueuedRequest → Type 0) → QueuedRequest → Outcome → Type 0
 Waits P q o = (o.reply ≡ MustWait → P q) → EachActive P o.after
 
-module _ (P : QueuedRequest → Type 0) (r : Record) (q : QueuedRequest) (each : EachActive P r) where
+module _ (P : QueuedRequest → Type 0) (r : Record) (q : QueuedRequest) (longest : ℕ) (each : EachActive P r) where
   passes : (reply : Reply) → Waits P q (unchanged r reply)
   passes reply new = each
 
   queues : (e : MustWait ≡ MustWait) → Waits P q (unchanged (record r { writers = enqueue r.writers q }) MustWait)
   queues e new = record { readers = each.readers; writers = enqueue_all (λ w. w.active ≡ true → P w.request) r.writers q each.writers (λ _. new e) }
 
-  lock_waits : (holder : Option Holder) (s : Option QueuedRequest) (access : Access) → Waits P q (visit_lock holder s r q access)
+  joins : Waits P q (join_writers r q longest)
+  joins = joined (Waits P q) r q longest (λ new. each) (queues refl)
+
+  lock_waits : (holder : Option Holder) (s : Option QueuedRequest) (access : Access) → Waits P q (visit_lock holder s r q longest access)
   lock_waits None None access = λ new. each
   lock_waits None (Some s) Read = λ new. each
   lock_waits None (Some s) Write =
       one_of_three (Waits P q) (nat_cmp (number_of q) (number_of s)) _ _ _
-      (λ new. record { readers = each.readers; writers = (λ active. absurd (true≢false (sym active)), each.writers) })
+      (displaced q.txn (Waits P q) r s q (λ new. each) (λ new. record { readers = each.readers; writers = (λ active. absurd (true≢false (sym active)), each.writers) }))
       (λ new. each)
-      (queues refl)
+      joins
   lock_waits (Some h) s Read =
-      either (Waits P q) (nat_eq h.txn q.txn) _ _ (λ new. each)
+      either (Waits P q) (is_txn q.txn h.txn) _ _ (λ new. each)
       (either (Waits P q) (is_below q.ts h.ts) _ _ (λ new. each)
       (either (Waits P q) (is_queued r.writers (number_of q)) _ _ (queues refl) (λ new. record { readers = (new refl, each.readers); writers = each.writers })))
-  lock_waits (Some h) s Write = either (Waits P q) (nat_eq h.txn q.txn) _ _ (λ new. each) (queues refl)
+  lock_waits (Some h) s Write = either (Waits P q) (is_txn q.txn h.txn) _ _ (λ new. each) joins
 
-visit_waits : (P : QueuedRequest → Type 0) (r : Record) (q : QueuedRequest) (access : Access) → EachActive P r → ((visit r q access).reply ≡ MustWait → P q) → EachActive P (visit r q access).after
-visit_waits P r q access each new =
+visit_waits : (P : QueuedRequest → Type 0) (r : Record) (q : QueuedRequest) (longest : ℕ) (access : Access) → EachActive P r → ((visit r q longest access).reply ≡ MustWait → P q) → EachActive P (visit r q longest access).after
+visit_waits P r q longest access each new =
     let stopped : EachActive P (stop_reading r (number_of q)) = record { readers = all_filter P (λ x. not (nat_eq (number_of x) (number_of q))) r.readers each.readers; writers = each.writers } in
-    let after = lock_waits P (stop_reading r (number_of q)) q stopped r.holder r.reservation access new in
+    let after = lock_waits P (stop_reading r (number_of q)) q longest stopped r.holder r.reservation access new in
     record { readers = after.readers; writers = after.writers }
 
-lock_lets : (holder : Option Holder) (s : Option QueuedRequest) (r : Record) (q : QueuedRequest) (access : Access) → (visit_lock holder s r q access).lets ≡ []
-lock_lets None None r q access = refl
-lock_lets None (Some s) r q Read = refl
-lock_lets None (Some s) r q Write = one_of_three (λ o. o.lets ≡ []) (nat_cmp (number_of q) (number_of s)) _ _ _ refl refl refl
-lock_lets (Some h) s r q Read =
-    either (λ o. o.lets ≡ []) (nat_eq h.txn q.txn) _ _ refl
+lock_lets : (holder : Option Holder) (s : Option QueuedRequest) (r : Record) (q : QueuedRequest) (longest : ℕ) (access : Access) → (visit_lock holder s r q longest access).lets ≡ []
+lock_lets None None r q longest access = refl
+lock_lets None (Some s) r q longest Read = refl
+lock_lets None (Some s) r q longest Write = one_of_three (λ o. o.lets ≡ []) (nat_cmp (number_of q) (number_of s)) _ _ _ (displaced q.txn (λ o. o.lets ≡ []) r s q refl refl) refl (joined (λ o. o.lets ≡ []) r q longest refl refl)
+lock_lets (Some h) s r q longest Read =
+    either (λ o. o.lets ≡ []) (is_txn q.txn h.txn) _ _ refl
     (either (λ o. o.lets ≡ []) (is_below q.ts h.ts) _ _ refl
     (either (λ o. o.lets ≡ []) (is_queued r.writers (number_of q)) _ _ refl refl))
-lock_lets (Some h) s r q Write = either (λ o. o.lets ≡ []) (nat_eq h.txn q.txn) _ _ refl refl
+lock_lets (Some h) s r q longest Write = either (λ o. o.lets ≡ []) (is_txn q.txn h.txn) _ _ refl (joined (λ o. o.lets ≡ []) r q longest refl refl)
 
 -- ---- who goes and who stays
 
@@ -147,14 +150,22 @@ active_distinct ws d = distinct_map same_request (λ w. w.request) (filter (λ w
 writers_apart : (ws : List QueuedWriter) (rs : List QueuedRequest) → AreApart ws rs → AllByRecursion (λ w. AllByRecursion (λ q. same_request q w.request ≡ false) rs) ws
 writers_apart ws rs a = all_flip (λ q w. same_request q w.request ≡ false) rs ws (all_weaker (λ q. AllByRecursion (λ w. nat_eq (writer_number w) (number_of q) ≡ false) ws) (λ q. AllByRecursion (λ w. same_request q w.request ≡ false) ws) (λ q b. all_weaker (λ w. nat_eq (writer_number w) (number_of q) ≡ false) (λ w. same_request q w.request ≡ false) (λ w e. same_flips (writer_number w) (number_of q) e) ws b) rs a)
 
-first_apart : (ws : List QueuedWriter) (rs : List QueuedRequest) → AreApart ws rs → AllByRecursion (λ q. AllByRecursion (λ x. same_request q x ≡ false) (active_requests (take 1 ws))) rs
-first_apart [] rs a = all_weaker (λ q. Unit {0}) (λ q. Unit {0}) (λ q u. tt) rs (all_weaker (λ q. AllByRecursion (λ w. nat_eq (writer_number w) (number_of q) ≡ false) []) (λ q. Unit {0}) (λ q u. tt) rs a)
-first_apart (w ∷ ws) rs a = all_weaker (λ q. AllByRecursion (λ v. nat_eq (writer_number v) (number_of q) ≡ false) (w ∷ ws)) (λ q. AllByRecursion (λ x. same_request q x ≡ false) (active_requests (w ∷ []))) (λ q b. active_each (λ x. same_request q x ≡ false) (w ∷ []) (same_flips (writer_number w) (number_of q) b.0, tt)) rs a
+-- so it is of the first n writers
+front_apart : (n : ℕ) (ws : List QueuedWriter) (rs : List QueuedRequest) → AreApart ws rs → AllByRecursion (λ q. AllByRecursion (λ x. same_request q x ≡ false) (active_requests (take n ws))) rs
+front_apart n ws rs a = all_weaker (λ q. AllByRecursion (λ w. nat_eq (writer_number w) (number_of q) ≡ false) ws) (λ q. AllByRecursion (λ x. same_request q x ≡ false) (active_requests (take n ws)))
+    (λ q b. active_each (λ x. same_request q x ≡ false) (take n ws) (all_take (λ w. same_request q w.request ≡ false) n ws (all_weaker (λ w. nat_eq (writer_number w) (number_of q) ≡ false) (λ w. same_request q w.request ≡ false) (λ w e. same_flips (writer_number w) (number_of q) e) ws b))) rs a
 
-one_distinct : (ws : List QueuedWriter) → IsDistinct same_writer (take 1 ws)
-unfolding IsDistinct
-one_distinct [] = tt
-one_distinct (w ∷ ws) = (tt, tt)
+rises_take : (n : ℕ) (ws : List QueuedWriter) → Rises ws → Rises (take n ws)
+rises_take zero ws r = tt
+rises_take (suc n) [] r = tt
+rises_take (suc n) (w ∷ ws) r = (all_take (λ v. writer_number w < writer_number v) n ws r.0, rises_take n ws r.1)
+
+-- the first n writers are below the others
+split_rises : (n : ℕ) (ws : List QueuedWriter) → Rises ws → AllByRecursion (λ v. AllByRecursion (λ w. writer_number w < writer_number v) (take n ws)) (drop n ws)
+split_rises zero [] r = tt
+split_rises zero (w ∷ ws) r = (tt, split_rises zero ws r.1)
+split_rises (suc n) [] r = tt
+split_rises (suc n) (w ∷ ws) r = all_both (λ v. writer_number w < writer_number v) (λ v. AllByRecursion (λ w. writer_number w < writer_number v) (take n ws)) (drop n ws) (all_drop (λ v. writer_number w < writer_number v) n ws r.0) (split_rises n ws r.1)
 
 module _ (P : QueuedRequest → Type 0) (rs : List QueuedRequest) (d : Option ℕ) (differ : Differ rs) where
   abbrev at : Option Holder → Option QueuedRequest → List QueuedWriter → Record
@@ -162,23 +173,23 @@ module _ (P : QueuedRequest → Type 0) (rs : List QueuedRequest) (d : Option �
 
   -- a lock that comes free
   free_goes : (holder : Option Holder) (s : Option QueuedRequest) (ws : List QueuedWriter) (reply : Reply) → Rises ws → AreApart ws rs → EachActive P (at holder s ws) → LetsGo P (free (at holder s ws) reply)
-  free_goes holder s ws reply rises apart e = record {
-    from = through_from P (rs ++ active_requests (take 1 ws)) (all_append P rs (active_requests (take 1 ws)) e.readers (active_all P (take 1 ws) (first_of ws e.writers)));
-    left = record { readers = tt; writers = rest_misses ws rises apart e.writers };
-    once = through_once (rs ++ active_requests (take 1 ws)) (distinct_append same_request rs (active_requests (take 1 ws)) (differ_distinct rs differ) (active_distinct (take 1 ws) (one_distinct ws)) (first_apart ws rs apart));
-  }
-    where
-      first_of : (ws : List QueuedWriter) → AllByRecursion (λ w. w.active ≡ true → P w.request) ws → AllByRecursion (λ w. w.active ≡ true → P w.request) (take 1 ws)
-      first_of [] a = tt
-      first_of (w ∷ ws) a = (a.0, tt)
-
-      rest_misses : (ws : List QueuedWriter) → Rises ws → AreApart ws rs → AllByRecursion (λ w. w.active ≡ true → P w.request) ws → AllByRecursion (λ w. w.active ≡ true → P w.request × Misses (map through_of (rs ++ active_requests (take 1 ws))) w.request) (drop 1 ws)
-      rest_misses [] r a e = tt
-      rest_misses (w ∷ ws) r a e =
-          let misses = all_both (λ v. AllByRecursion (λ q. same_request q v.request ≡ false) rs) (λ v. writer_number w < writer_number v) ws (writers_apart (w ∷ ws) rs a).1 r.0 in
-          all_weaker (λ v. (v.active ≡ true → P v.request) × (AllByRecursion (λ q. same_request q v.request ≡ false) rs × (writer_number w < writer_number v))) (λ v. v.active ≡ true → P v.request × Misses (map through_of (rs ++ active_requests (w ∷ []))) v.request)
-          (λ v b active. (b.0 active, through_misses (rs ++ active_requests (w ∷ [])) v.request (all_append (λ q. same_request q v.request ≡ false) rs (active_requests (w ∷ [])) b.1.0 (active_each (λ q. same_request q v.request ≡ false) (w ∷ []) (let lt : writer_number w < writer_number v = b.1.1 in grind (arith, nat_tests), tt)))))
-          ws (all_both (λ v. v.active ≡ true → P v.request) (λ v. AllByRecursion (λ q. same_request q v.request ≡ false) rs × (writer_number w < writer_number v)) ws e.1 misses)
+  free_goes holder s ws reply rises apart e =
+      let n = suc (leading ws) in
+      let gone = active_requests (take n ws) in
+      let waits = λ (w : QueuedWriter). w.active ≡ true → P w.request in
+      let above = λ (v : QueuedWriter). AllByRecursion (λ q. same_request q v.request ≡ false) rs × AllByRecursion (λ w. writer_number w < writer_number v) (take n ws) in
+      let aboves = all_both (λ v. AllByRecursion (λ q. same_request q v.request ≡ false) rs) (λ v. AllByRecursion (λ w. writer_number w < writer_number v) (take n ws)) (drop n ws) (all_drop (λ v. AllByRecursion (λ q. same_request q v.request ≡ false) rs) n ws (writers_apart ws rs apart)) (split_rises n ws rises) in
+      let misses : (v : QueuedWriter) → above v → Misses (map through_of (rs ++ gone)) v.request = λ v b. through_misses (rs ++ gone) v.request
+      (all_append (λ q. same_request q v.request ≡ false) rs gone b.0 (active_each (λ q. same_request q v.request ≡ false) (take n ws) (all_weaker (λ w. writer_number w < writer_number v) (λ w. same_request w.request v.request ≡ false) (λ w lt. grind (arith, nat_tests)) (take n ws) b.1))) in
+      record {
+        from = through_from P (rs ++ gone) (all_append P rs gone e.readers (active_all P (take n ws) (all_take waits n ws e.writers)));
+        left = record {
+          readers = tt;
+          writers = all_weaker (λ v. waits v × above v) (λ v. v.active ≡ true → P v.request × Misses (map through_of (rs ++ gone)) v.request) (λ v b active. (b.0 active, misses v b.1)) (drop n ws)
+              (all_both waits above (drop n ws) (all_drop waits n ws e.writers) aboves);
+        };
+        once = through_once (rs ++ gone) (distinct_append same_request rs gone (differ_distinct rs differ) (active_distinct (take n ws) (rises_distinct (take n ws) (rises_take n ws rises))) (front_apart n ws rs apart));
+      }
 
   -- a timestamp that rises
   raise_goes : (holder : Option Holder) (s : Option QueuedRequest) (ws : List QueuedWriter) (h : Holder) (ts : Timestamp) → AreApart ws rs → EachActive P (at holder s ws) → LetsGo P (raise_to (at holder s ws) h ts)
@@ -288,23 +299,23 @@ goes_on past e o lets g = record {
   waiting = each_weaker (λ x. IsWaiting past (through_of x) × Misses o.lets x) (λ x. IsWaiting (past ++ e ∷ []) (through_of x)) o.after (λ x a. waits_on past e (through_of x) a.0 (missed_spares e x (rw lets a.1))) g.left;
 }
 
-visit_goes_on : (past : List Event) (e : Event) (r : Record) (ticket : Wait) (txn : ℕ) (ts : Timestamp) (access : Access) → e.call ≡ Visit ticket txn ts access →
-    let o = step r e.pass (Visit ticket txn ts access) in e.reply ≡ o.reply → e.lets ≡ o.lets → AllWaiting past r → Advances past e o.after
+visit_goes_on : (past : List Event) (e : Event) (r : Record) (ticket : Wait) (txn : Option ℕ) (ts : Timestamp) (access : Access) (longest : ℕ) → e.call ≡ Visit ticket txn ts access longest →
+    let o = step r e.pass (Visit ticket txn ts access longest) in e.reply ≡ o.reply → e.lets ≡ o.lets → AllWaiting past r → Advances past e o.after
 unfolding IsDistinct
-visit_goes_on past e r ticket txn ts access call reply lets w =
+visit_goes_on past e r ticket txn ts access longest call reply lets w =
     let q : QueuedRequest = record { ticket = ticket; txn = txn; ts = ts; pass = e.pass } in
-    let none : e.lets ≡ [] = lets ∙ lock_lets r.holder r.reservation (stop_reading r (number_of q)) q access in
+    let none : e.lets ≡ [] = lets ∙ lock_lets r.holder r.reservation (stop_reading r (number_of q)) q longest access in
     let P = λ (x : QueuedRequest). IsWaiting (past ++ e ∷ []) (through_of x) in
     record {
       waited = rw none tt;
       once = rw none tt;
-      waiting = visit_waits P r q access
+      waiting = visit_waits P r q longest access
           (each_weaker (λ x. IsWaiting past (through_of x)) P r (λ x a. waits_on past e (through_of x) a (rw none tt)) w)
-          (λ wait. record { before = past; told = e; since = []; joined = refl; tells = record { txn = txn; ts = ts; access = access; call = call; pass = refl; reply = reply ∙ wait }; spared = tt });
+          (λ wait. record { before = past; told = e; since = []; joined = refl; tells = record { txn = txn; ts = ts; access = access; longest = longest; call = call; pass = refl; reply = reply ∙ wait }; spared = tt });
     }
 
 step_goes_on : (past : List Event) (e : Event) (r : Record) (call : Call) → e.call ≡ call → e.reply ≡ (step r e.pass call).reply → e.lets ≡ (step r e.pass call).lets → IsLawful r → AllWaiting past r → Advances past e (step r e.pass call).after
-step_goes_on past e r (Visit ticket txn ts access) call reply lets l w = visit_goes_on past e r ticket txn ts access call reply lets w
+step_goes_on past e r (Visit ticket txn ts access longest) call reply lets l w = visit_goes_on past e r ticket txn ts access longest call reply lets w
 step_goes_on past e r (Acquire txn ts) call reply lets l w = goes_on past e _ lets (acquire_goes (λ x. IsWaiting past (through_of x)) r.readers r.distinguished (lawful_differ r l) r.holder r.reservation r.writers (record { txn = txn; ts = ts }) l.unheld_has_no_readers l.writers_rise (lawful_apart r l) w)
 step_goes_on past e r (Update txn ts) call reply lets l w = goes_on past e _ lets (update_goes (λ x. IsWaiting past (through_of x)) r.readers r.distinguished (lawful_differ r l) r.holder r.reservation r.writers txn ts (lawful_apart r l) w)
 step_goes_on past e r (Finish txn) call reply lets l w = goes_on past e _ lets (finish_goes (λ x. IsWaiting past (through_of x)) r.readers r.distinguished (lawful_differ r l) r.holder r.reservation r.writers txn l.writers_rise (lawful_apart r l) w)

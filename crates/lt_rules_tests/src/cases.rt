@@ -1,5 +1,5 @@
 //! What came about in a test, counted, so that the test can tell that it met each case of the rules.
-use crate::second::{Time, is_below};
+use crate::second::{Time, is_below, is_one};
 use lt_plain::Reply;
 
 /// A case of the rules of one key (`docs/RULES.md`).
@@ -12,10 +12,15 @@ pub enum Case {
     ReadThatWaitsAnew,
     WriteThatWaits,
     WriteThatWaitsAnew,
+    WriteThatStandsPastItsBound,
+    WriteTooLongAtAHeldLock,
     ReadOfAReservedKey,
     WriteOfTheOwnReservation,
     WriteBeforeTheReservation,
+    WriteWithoutTransactionBeforeTheReservation,
     WriteBehindTheReservation,
+    WriteThatStandsPastItsBoundBehindTheReservation,
+    WriteTooLongBehindTheReservation,
     LookOfNobody,
     LookOfTheReservation,
     LookOfAnInactiveWriter,
@@ -29,10 +34,13 @@ pub enum Case {
     LetAtARaise,
     LetAtAnAcquire,
     RaiseThatLetsSomeReadersWait,
+    WritersLetThroughBeforeTheNext,
+    WritersLetThroughAndNoneIsNext,
+    IdleWriterIsNext,
 }
 
 /// All of them.
-pub const CASES: [Case; 24] = [
+pub const CASES: [Case; 32] = [
     Case::VisitOfAFreeKey,
     Case::VisitOfTheOwnLock,
     Case::ReadBelowTheLock,
@@ -40,10 +48,15 @@ pub const CASES: [Case; 24] = [
     Case::ReadThatWaitsAnew,
     Case::WriteThatWaits,
     Case::WriteThatWaitsAnew,
+    Case::WriteThatStandsPastItsBound,
+    Case::WriteTooLongAtAHeldLock,
     Case::ReadOfAReservedKey,
     Case::WriteOfTheOwnReservation,
     Case::WriteBeforeTheReservation,
+    Case::WriteWithoutTransactionBeforeTheReservation,
     Case::WriteBehindTheReservation,
+    Case::WriteThatStandsPastItsBoundBehindTheReservation,
+    Case::WriteTooLongBehindTheReservation,
     Case::LookOfNobody,
     Case::LookOfTheReservation,
     Case::LookOfAnInactiveWriter,
@@ -57,17 +70,20 @@ pub const CASES: [Case; 24] = [
     Case::LetAtARaise,
     Case::LetAtAnAcquire,
     Case::RaiseThatLetsSomeReadersWait,
+    Case::WritersLetThroughBeforeTheNext,
+    Case::WritersLetThroughAndNoneIsNext,
+    Case::IdleWriterIsNext,
 ];
 
 /// How often each case came about.
 #[derive(Drop)]
 pub struct Counts {
-    counts: [u64; 24],
+    counts: [u64; 32],
 }
 
 impl Counts {
     pub fn new() -> Self {
-        Counts { counts: [0; 24] }
+        Counts { counts: [0; 32] }
     }
 
     pub fn add(&mut self, case: Case) {
@@ -114,6 +130,29 @@ impl Counts {
             self.add(Case::RaiseThatLetsSomeReadersWait);
         }
     }
+
+    /// What came after a lock came free.
+    pub fn add_release(&mut self, release: &Release) {
+        if release.is_next {
+            if release.writers_let != 0 {
+                self.add(Case::WritersLetThroughBeforeTheNext);
+            }
+            if !release.next_is_let {
+                self.add(Case::IdleWriterIsNext);
+            }
+        } else if release.writers_let != 0 {
+            self.add(Case::WritersLetThroughAndNoneIsNext);
+        }
+    }
+}
+
+/// A lock that came free: how many writers without a transaction were let through, whether the lock is now reserved,
+/// and whether the request that has it was let through.
+#[derive(Clone, Copy, Debug)]
+pub struct Release {
+    pub writers_let: u64,
+    pub is_next: bool,
+    pub next_is_let: bool,
 }
 
 /// Who has the lock of a key: the transaction that holds it and the lock's time, or the number of the request for
@@ -124,17 +163,32 @@ pub struct Lock {
     pub reserved: Option<u64>,
 }
 
-/// A visit, by plain numbers. The visitor may wait at the key already.
+/// A visit, by plain numbers. The visitor may wait at the key already, and may stand among the writers there.
 #[derive(Clone, Copy, Debug)]
 pub struct Visit {
     pub number: u64,
-    pub txn: u64,
+    pub txn: Option<u64>,
     pub time: Time,
     pub is_write: bool,
     pub waits: bool,
+    pub longest: u32,
+    pub is_queued: bool,
+    pub writers: u64,
+}
+
+/// Whether so many write already as the visit's bound says, or more.
+fn is_past_the_bound(visit: &Visit) -> bool {
+    visit.is_write && visit.longest != 0 && visit.writers >= visit.longest as u64
 }
 
 fn wait_of(visit: &Visit) -> Case {
+    if is_past_the_bound(visit) {
+        return if visit.is_queued {
+            Case::WriteThatStandsPastItsBound
+        } else {
+            Case::WriteTooLongAtAHeldLock
+        };
+    }
     match (visit.is_write, visit.waits) {
         (false, false) => Case::ReadThatWaits,
         (false, true) => Case::ReadThatWaitsAnew,
@@ -146,7 +200,7 @@ fn wait_of(visit: &Visit) -> Case {
 /// Which case of a visit this is.
 pub fn case_of(lock: &Lock, visit: &Visit) -> Case {
     if let Some((txn, time)) = lock.holder {
-        if txn == visit.txn {
+        if is_one(visit.txn, txn) {
             return Case::VisitOfTheOwnLock;
         }
         if !visit.is_write && is_below(visit.time, time) {
@@ -164,7 +218,16 @@ pub fn case_of(lock: &Lock, visit: &Visit) -> Case {
         return Case::WriteOfTheOwnReservation;
     }
     if visit.number < number {
-        return Case::WriteBeforeTheReservation;
+        return match visit.txn {
+            Some(_) => Case::WriteBeforeTheReservation,
+            None => Case::WriteWithoutTransactionBeforeTheReservation,
+        };
     }
-    Case::WriteBehindTheReservation
+    if !is_past_the_bound(visit) {
+        Case::WriteBehindTheReservation
+    } else if visit.is_queued {
+        Case::WriteThatStandsPastItsBoundBehindTheReservation
+    } else {
+        Case::WriteTooLongBehindTheReservation
+    }
 }

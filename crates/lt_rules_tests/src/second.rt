@@ -1,4 +1,4 @@
-use crate::cases::Lock;
+use crate::cases::{Lock, Release};
 use lt_ids::TxnId;
 use lt_plain::Reply;
 use std::alloc::{AllocError, Global};
@@ -11,11 +11,16 @@ pub fn is_below(a: Time, b: Time) -> bool {
     a.0 < b.0 || a.0 == b.0 && a.1 < b.1
 }
 
-/// A request that stands at the key, by plain numbers.
+/// Whether it is the same transaction; a request without one is of no transaction.
+pub fn is_one(own: Option<u64>, txn: u64) -> bool {
+    own == Some(txn)
+}
+
+/// A request that stands at the key, by plain numbers. It may have no transaction.
 #[derive(Clone, Copy, Debug, PartialEq, Eq)]
 pub struct Stand {
     pub number: u64,
-    pub txn: u64,
+    pub txn: Option<u64>,
     pub time: Time,
     pub pass: u32,
     pub wait: u32,
@@ -34,6 +39,8 @@ pub struct Second {
     readers: Vec<Stand>,
     distinguished: Option<u64>,
     pub lets: Vec<Let>,
+    /// How the lock last came free.
+    pub release: Option<Release>,
 }
 
 /// What an active waiter finds; the `bool` says that the lock is held.
@@ -65,6 +72,7 @@ impl Second {
             readers: Vec::new(alloc),
             distinguished: None,
             lets: Vec::new(alloc),
+            release: None,
         }
     }
 
@@ -87,7 +95,7 @@ impl Second {
             return false;
         }
         match self.reserved {
-            Some(reserved) => reserved.txn != writer.txn,
+            Some(reserved) => writer.txn.is_none() || reserved.txn != writer.txn,
             None => true,
         }
     }
@@ -139,18 +147,39 @@ impl Second {
             self.let_through(reader)?;
         }
         self.readers = Vec::new(alloc);
-        if !self.writers.is_empty() {
-            let first = self.writers.remove(0);
-            if first.active {
-                self.let_through(&first)?;
+        let queue = self.writers.clone()?;
+        self.writers = Vec::new(alloc);
+        let mut writers_let: u64 = 0;
+        for writer in &queue {
+            if self.reserved.is_some() {
+                self.writers.push(*writer)?;
+                continue;
             }
-            self.reserved = Some(first);
+            if writer.active {
+                self.let_through(writer)?;
+            }
+            if writer.txn.is_some() {
+                self.reserved = Some(*writer);
+            } else {
+                writers_let = writers_let.wrapping_add(1);
+            }
         }
+        self.release = Some(Release {
+            writers_let,
+            is_next: self.reserved.is_some(),
+            next_is_let: self.reserved.is_some_and(|next| next.active),
+        });
         self.settle();
         Ok(())
     }
 
-    fn is_writer(&self, number: u64) -> bool {
+    /// How many wait to write, or did and lost the reservation.
+    pub fn writers(&self) -> u64 {
+        self.writers.len() as u64
+    }
+
+    /// Whether the request stands among them.
+    pub fn is_writer(&self, number: u64) -> bool {
         let mut found = false;
         for writer in &self.writers {
             found = found || writer.number == number;
@@ -196,14 +225,29 @@ impl Second {
         Ok(())
     }
 
+    /// Who writes joins the others, unless he has a bound, stands not among them, and they are so many already.
+    fn write_or_refuse(
+        &mut self,
+        alloc: Global,
+        stand: &Stand,
+        longest: u32,
+    ) -> Result<Reply, AllocError> {
+        if longest != 0 && !self.is_writer(stand.number) && self.writers() >= longest as u64 {
+            return Ok(Reply::TooLong);
+        }
+        self.queue_writer(alloc, stand)?;
+        Ok(Reply::MustWait)
+    }
+
     fn wait_or_pass(
         &mut self,
         alloc: Global,
         stand: &Stand,
+        longest: u32,
         is_write: bool,
     ) -> Result<Reply, AllocError> {
         if let Some((txn, time)) = self.holder {
-            if txn == stand.txn {
+            if is_one(stand.txn, txn) {
                 return Ok(Reply::Passed);
             }
             if !is_write {
@@ -220,8 +264,7 @@ impl Second {
                     return Ok(Reply::MustWait);
                 }
             }
-            self.queue_writer(alloc, stand)?;
-            return Ok(Reply::MustWait);
+            return self.write_or_refuse(alloc, stand, if is_write { longest } else { 0 });
         }
         let Some(reserved) = self.reserved else {
             return Ok(Reply::Passed);
@@ -230,22 +273,26 @@ impl Second {
             return Ok(Reply::Passed);
         }
         if reserved.number < stand.number {
-            self.queue_writer(alloc, stand)?;
-            return Ok(Reply::MustWait);
+            return self.write_or_refuse(alloc, stand, longest);
+        }
+        if stand.txn.is_none() {
+            return Ok(Reply::Passed);
         }
         self.put_back(alloc, &reserved)?;
         self.reserved = Some(*stand);
         Ok(Reply::Passed)
     }
 
+    /// The request visits the key. It joins fewer than `longest` writers alone, if that is not 0.
     pub fn visit(
         &mut self,
         alloc: Global,
         stand: &Stand,
+        longest: u32,
         is_write: bool,
     ) -> Result<Reply, AllocError> {
         self.without_reader(stand.number);
-        let reply = self.wait_or_pass(alloc, stand, is_write)?;
+        let reply = self.wait_or_pass(alloc, stand, longest, is_write)?;
         self.settle();
         Ok(reply)
     }
@@ -276,7 +323,7 @@ impl Second {
 
     fn take(&mut self, alloc: Global, txn: u64, time: Time) -> Result<Reply, AllocError> {
         if let Some(reserved) = self.reserved {
-            if reserved.txn != txn {
+            if !is_one(reserved.txn, txn) {
                 self.put_back(alloc, &reserved)?;
             }
         }
@@ -285,7 +332,7 @@ impl Second {
         let writers = self.writers.clone()?;
         self.writers = Vec::new(alloc);
         for writer in &writers {
-            if writer.txn != txn {
+            if !is_one(writer.txn, txn) {
                 self.writers.push(*writer)?;
             } else if writer.active {
                 self.let_through(writer)?;
@@ -368,12 +415,12 @@ impl Second {
         if writer.is_none() && !self.is_reader(number) {
             return Reply::Nothing;
         }
-        let mut txn = 0;
+        let mut own = None;
         if let Some(writer) = writer {
             if !writer.active {
                 return Reply::Idle;
             }
-            txn = writer.txn;
+            own = writer.txn;
         }
         if let Some((holder, _)) = self.holder {
             let what = if is_first {
@@ -383,11 +430,15 @@ impl Second {
             };
             return reply_of(holder, what);
         }
-        match self.reserved {
-            None => Reply::Nothing,
-            Some(reserved) if reserved.txn == txn => reply_of(reserved.txn, Finds::Own),
-            Some(reserved) if is_first => reply_of(reserved.txn, Finds::First(false)),
-            Some(reserved) => reply_of(reserved.txn, Finds::For(false)),
+        let Some(txn) = self.reserved.and_then(|stand| stand.txn) else {
+            return Reply::Nothing;
+        };
+        if is_one(own, txn) {
+            reply_of(txn, Finds::Own)
+        } else if is_first {
+            reply_of(txn, Finds::First(false))
+        } else {
+            reply_of(txn, Finds::For(false))
         }
     }
 }

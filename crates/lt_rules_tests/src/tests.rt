@@ -16,6 +16,8 @@ const WALLS: u64 = 3;
 
 const LOGICALS: u64 = 3;
 
+const LONGEST: u64 = 3;
+
 fn txn_of(number: u64) -> Result<TxnId, Fail> {
     Ok(TxnId::new(number).ok_or("a transaction")?)
 }
@@ -25,6 +27,29 @@ fn at(time: Time) -> Timestamp {
         wall: time.0,
         logical: time.1,
     }
+}
+
+/// The transaction of a request; one of four has none.
+fn random_own(random: &mut Random) -> Option<u64> {
+    let txn = 1 + random.below(TXNS);
+    if random.below(4) == 0 {
+        None
+    } else {
+        Some(txn)
+    }
+}
+
+fn own_of(own: Option<u64>) -> Result<Option<TxnId>, Fail> {
+    match own {
+        None => Ok(None),
+        Some(txn) => Ok(Some(txn_of(txn)?)),
+    }
+}
+
+/// A bound for one of two requests.
+fn random_longest(random: &mut Random) -> u32 {
+    let longest = 1 + random.below(LONGEST) as u32;
+    if random.below(2) == 0 { 0 } else { longest }
 }
 
 fn random_time(random: &mut Random) -> Time {
@@ -42,7 +67,8 @@ fn visit_both(
     counts: &mut Counts,
 ) -> Result<(Reply, Reply), Fail> {
     let number = 1 + random.below(NUMBERS);
-    let txn = 1 + random.below(TXNS);
+    let txn = random_own(random);
+    let longest = random_longest(random);
     let time = random_time(random);
     let pass = 1 + random.below(3);
     let wait = 1 + random.below(9);
@@ -55,7 +81,8 @@ fn visit_both(
         wait: wait as u32,
         active: true,
     };
-    let request = Request::new(number, txn_of(txn)?, at(time), pass as u32).ok_or("a request")?;
+    let own = own_of(txn)?;
+    let request = Request::new(number, own, at(time), pass as u32, longest).ok_or("a request")?;
     let access = if is_write {
         Access::Write
     } else {
@@ -71,11 +98,14 @@ fn visit_both(
         time,
         is_write,
         waits,
+        longest,
+        is_queued: second.is_writer(number),
+        writers: second.writers(),
     };
     counts.add(case_of(&second.lock(), &visit));
     lets.clear();
     let first = table.visit(key, &request, access, wait as u32, lets)?;
-    Ok((first, second.visit(alloc, &stand, is_write)?))
+    Ok((first, second.visit(alloc, &stand, longest, is_write)?))
 }
 
 fn call_both(
@@ -134,6 +164,7 @@ fn compare(
     let mut lets = Vec::new(alloc);
     for _ in 0..40 {
         second.lets.clear();
+        second.release = None;
         let (first, other) = call_both(
             alloc,
             &mut random,
@@ -148,6 +179,9 @@ fn compare(
         assert!(rt; found == second.lets, "the lets differ, seed {seed}");
         if !found.is_empty() {
             counts.add_lets(first, second.has_readers());
+        }
+        if let Some(release) = &second.release {
+            counts.add_release(release);
         }
         for number in 1..NUMBERS + 1 {
             let sight = table.look(key, number);

@@ -1,5 +1,5 @@
 //! What came about in the schedules, counted, so that the test can tell that it met each kind of answer.
-use crate::steps::Step;
+use crate::steps::{Asked, Step};
 use lt_plain::Reply;
 use lt_table::{EnterError, Poll, Scan, ScanError, StepError};
 use lt_table_player::command::{Command, Told};
@@ -15,6 +15,9 @@ pub enum Case {
     Rescan,
     WaitingAtTheFirstKey,
     WaitingAtALaterKey,
+    TooLongAtTheFirstKey,
+    TooLongAtALaterKey,
+    TooLongAfterALet,
     ScanWhileLeaving,
     ScanWhileWaiting,
     WaitsOut,
@@ -37,8 +40,11 @@ pub enum Case {
     NoCall,
     ALet,
     ScanOfSeveralKeysGoesOnAfterALet,
+    WriteWithoutATransactionPasses,
+    WriteWithoutATransactionWaits,
     RepliedPassed,
     RepliedMustWait,
+    RepliedTooLong,
     RepliedTaken,
     RepliedKept,
     RepliedRaised,
@@ -57,7 +63,7 @@ pub enum Case {
 }
 
 /// All of them.
-pub const CASES: [Case; 46] = [
+pub const CASES: [Case; 52] = [
     Case::Entered,
     Case::NoKeys,
     Case::NumbersOut,
@@ -65,6 +71,9 @@ pub const CASES: [Case; 46] = [
     Case::Rescan,
     Case::WaitingAtTheFirstKey,
     Case::WaitingAtALaterKey,
+    Case::TooLongAtTheFirstKey,
+    Case::TooLongAtALaterKey,
+    Case::TooLongAfterALet,
     Case::ScanWhileLeaving,
     Case::ScanWhileWaiting,
     Case::WaitsOut,
@@ -87,8 +96,11 @@ pub const CASES: [Case; 46] = [
     Case::NoCall,
     Case::ALet,
     Case::ScanOfSeveralKeysGoesOnAfterALet,
+    Case::WriteWithoutATransactionPasses,
+    Case::WriteWithoutATransactionWaits,
     Case::RepliedPassed,
     Case::RepliedMustWait,
+    Case::RepliedTooLong,
     Case::RepliedTaken,
     Case::RepliedKept,
     Case::RepliedRaised,
@@ -109,7 +121,7 @@ pub const CASES: [Case; 46] = [
 /// How often each case came about.
 #[derive(Drop)]
 pub struct Counts {
-    counts: [u64; 46],
+    counts: [u64; 52],
 }
 
 /// How a request stood before a command.
@@ -125,7 +137,7 @@ pub struct Before {
 
 impl Counts {
     pub fn new() -> Self {
-        Counts { counts: [0; 46] }
+        Counts { counts: [0; 52] }
     }
 
     pub fn add(&mut self, case: Case) {
@@ -153,11 +165,17 @@ impl Counts {
         if before.goes_on && matches!(line.told, Told::Scanned(_)) {
             self.add(Case::ScanOfSeveralKeysGoesOnAfterALet);
         }
+        if before.goes_on && matches!(line.told, Told::Scanned(Scan::TooLong(_))) {
+            self.add(Case::TooLongAfterALet);
+        }
     }
 
     /// What this step was.
     pub fn add_step(&mut self, step: &Step) {
         self.add(reply_case(step.reply));
+        if let Some(case) = owner_case(step) {
+            self.add(case);
+        }
         if !step.lets.is_empty() {
             self.add(Case::ALet);
         }
@@ -170,6 +188,24 @@ fn scan_case(scan: Scan) -> Case {
         Scan::Rescan => Case::Rescan,
         Scan::Waiting(0) => Case::WaitingAtTheFirstKey,
         Scan::Waiting(_) => Case::WaitingAtALaterKey,
+        Scan::TooLong(0) => Case::TooLongAtTheFirstKey,
+        Scan::TooLong(_) => Case::TooLongAtALaterKey,
+    }
+}
+
+/// A write of a request without a transaction.
+fn owner_case(step: &Step) -> Option<Case> {
+    match step.asked {
+        Asked::Visit {
+            txn: None,
+            is_write: true,
+            ..
+        } => match step.reply {
+            Reply::Passed => Some(Case::WriteWithoutATransactionPasses),
+            Reply::MustWait => Some(Case::WriteWithoutATransactionWaits),
+            _ => None,
+        },
+        _ => None,
     }
 }
 
@@ -222,6 +258,7 @@ fn reply_case(reply: Reply) -> Case {
     match reply {
         Reply::Passed => Case::RepliedPassed,
         Reply::MustWait => Case::RepliedMustWait,
+        Reply::TooLong => Case::RepliedTooLong,
         Reply::Taken => Case::RepliedTaken,
         Reply::Kept => Case::RepliedKept,
         Reply::Raised => Case::RepliedRaised,

@@ -20,15 +20,17 @@ pub enum Mode {
 pub struct Request {
     pass: u32,
     number: u64,
-    txn: u64,
+    txn: Option<u64>,
     time: Time,
+    /// So many may wait to write at a key before it would not join them; 0 is no bound.
+    longest: u32,
     /// Its keys, each with whether it is to be written.
     list: Vec<(u8, bool)>,
     /// The place in the list of the key that comes next, or at which it waits.
     place: usize,
     /// How many waits it has begun.
     waits: u32,
-    /// Whether it had to wait since it was last told to proceed or to scan once more.
+    /// Whether it had to wait since it was last told to proceed, to scan once more, or that a queue is too long.
     waited: bool,
     mode: Mode,
     /// The replies of its latest scan, or of its leave.
@@ -67,15 +69,17 @@ impl Request {
         alloc: Global,
         pass: u32,
         number: u64,
-        txn: u64,
+        txn: Option<u64>,
         time: Time,
         accesses: &[(u8, Access)],
+        longest: u32,
     ) -> Result<Self, AllocError> {
         Ok(Request {
             pass,
             number,
             txn,
             time,
+            longest,
             list: list_of(alloc, accesses)?,
             place: 0,
             waits: 0,
@@ -169,11 +173,17 @@ impl Request {
             txn: self.txn,
             time: self.time,
             is_write,
+            longest: self.longest,
         };
         let Some(made) = steps.make(self.pass, key, asked)? else {
             return Ok(Some(Told::NotScanned(ScanError::HistoryFull)));
         };
         self.replies.push(made.reply)?;
+        if made.reply == Reply::TooLong {
+            let place = self.place;
+            self.begin_anew();
+            return Ok(Some(Told::Scanned(Scan::TooLong(place))));
+        }
         if made.reply != Reply::MustWait {
             return Ok(None);
         }
@@ -183,11 +193,16 @@ impl Request {
         Ok(Some(Told::Scanned(Scan::Waiting(self.place))))
     }
 
-    /// At the list's end the place is the first again. Who waited on the way is to scan once more.
-    fn end_scan(&mut self) -> Scan {
-        let waited = self.waited;
+    /// The place is the first again, and what was waited for is forgotten.
+    fn begin_anew(&mut self) {
         self.place = 0;
         self.waited = false;
+    }
+
+    /// At the list's end it begins anew. Who waited on the way is to scan once more.
+    fn end_scan(&mut self) -> Scan {
+        let waited = self.waited;
+        self.begin_anew();
         if waited { Scan::Rescan } else { Scan::Proceed }
     }
 

@@ -98,11 +98,30 @@ fn random_accesses(alloc: Global, random: &mut Random) -> Option<Vec<(u8, Access
     Some(accesses)
 }
 
+/// A transaction, or none in one of four cases.
+fn random_owner(random: &mut Random) -> Option<u64> {
+    if random.below(4) == 0 {
+        None
+    } else {
+        Some(1 + random.below(4))
+    }
+}
+
+/// A bound of 1 or 2 in one of two cases, and else none.
+fn random_bound(random: &mut Random) -> u32 {
+    if random.below(2) == 0 {
+        1 + random.below(2) as u32
+    } else {
+        0
+    }
+}
+
 fn random_entry(alloc: Global, random: &mut Random) -> Option<Command> {
     Some(Command::Enter {
-        txn: 1 + random.below(4),
+        txn: random_owner(random),
         wall: random.below(4),
         accesses: random_accesses(alloc, random)?,
+        longest: random_bound(random),
     })
 }
 

@@ -11,9 +11,10 @@ pub enum Asked {
     Visit {
         number: u64,
         wait: u32,
-        txn: u64,
+        txn: Option<u64>,
         time: Time,
         is_write: bool,
+        longest: u32,
     },
     Acquire {
         txn: u64,
@@ -130,6 +131,7 @@ impl Steps {
                 txn,
                 time,
                 is_write,
+                longest,
             } => {
                 let stand = Stand {
                     number,
@@ -139,7 +141,7 @@ impl Steps {
                     wait,
                     active: true,
                 };
-                record.visit(alloc, &stand, is_write)?
+                record.visit(alloc, &stand, longest, is_write)?
             }
             Asked::Acquire { txn, time } => record.acquire(alloc, txn, time)?,
             Asked::Update { txn, time } => record.update(alloc, txn, time)?,

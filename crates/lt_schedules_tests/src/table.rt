@@ -110,9 +110,10 @@ impl SecondTable {
     fn enter(
         &mut self,
         place: usize,
-        txn: u64,
+        txn: Option<u64>,
         time: Time,
         accesses: &[(u8, Access)],
+        longest: u32,
     ) -> Option<Told> {
         if accesses.is_empty() {
             return Some(Told::NotEntered(EnterError::NoKeys));
@@ -123,7 +124,7 @@ impl SecondTable {
         self.draws += 1;
         let number = self.draws;
         let pass = pass_at(place)?;
-        let request = Request::new(self.alloc, pass, number, txn, time, accesses).ok()?;
+        let request = Request::new(self.alloc, pass, number, txn, time, accesses, longest).ok()?;
         self.requests.insert(place, request).ok()?;
         Some(Told::Entered(number))
     }
@@ -135,7 +136,11 @@ impl SecondTable {
                 txn,
                 wall,
                 accesses,
-            } => Some((self.enter(place, *txn, (*wall, 0), accesses)?, None)),
+                longest,
+            } => Some((
+                self.enter(place, *txn, (*wall, 0), accesses, *longest)?,
+                None,
+            )),
             Command::EnterMany { .. } => None,
             _ => match lock_call(command) {
                 Some((key, asked)) => self.step(pass_at(place)?, key, asked),

@@ -3,7 +3,7 @@ use crate::plain::run_plain;
 use crate::schedule::{Schedule, random_schedule};
 use crate::steps::{Asked, Step};
 use lt_history::{Entry, write_out};
-use lt_ids::{Access, Timestamp};
+use lt_ids::{Access, Timestamp, TxnId};
 use lt_plain::{Call, Reply};
 use lt_rules_tests::second::{Let, Time};
 use lt_table::ScanError;
@@ -21,6 +21,10 @@ fn time_of(ts: Timestamp) -> Time {
     (ts.wall, ts.logical)
 }
 
+fn number_of(txn: Option<TxnId>) -> Option<u64> {
+    Some(txn?.number())
+}
+
 fn asked_of(call: &Call) -> Asked {
     match *call {
         Call::Visit {
@@ -28,12 +32,14 @@ fn asked_of(call: &Call) -> Asked {
             txn,
             ts,
             access,
+            longest,
         } => Asked::Visit {
             number: ticket.number(),
             wait: ticket.wait(),
-            txn: txn.number(),
+            txn: number_of(txn),
             time: time_of(ts),
             is_write: access == Access::Write,
+            longest,
         },
         Call::Acquire { txn, ts } => Asked::Acquire {
             txn: txn.number(),

@@ -1,18 +1,19 @@
 -- What the lines of a script say, and what is wrong with a script that has a fault.
-use Rattle.std.specs.Prelude.{ℕ, ◌≡◌, ◌+◌, ◌-◌, ◌^◌, if◌then◌else◌, List, [], ◌∷◌, ◌++◌, length, take, drop, codes, Option, Some, None, Result, Ok, Err}
+use Rattle.std.specs.Prelude.{ℕ, ◌≡◌, ◌+◌, ◌-◌, ◌^◌, Bool, ◌&&◌, ◌||◌, not, if◌then◌else◌, List, [], ◌∷◌, ◌++◌, length, take, drop, codes, Option, Some, None, Result, Ok, Err}
 use Rattle.std.specs.Str.{bytes_eq}
 use Rattle.lt_ids.specs.Key.{key_fault}
 use Rattle.lt_ids.specs.declared.error.IdError.{IdError}
 use Rattle.lt_ids.specs.declared.timestamp.Timestamp.{Timestamp}
 use Rattle.lt_ids.specs.declared.request.Access.{Access}
 use Rattle.lt_ids.specs.declared.request.Access.TheVariants.{Read, Write}
-use Rattle.lt_text.specs.Fields.{number_within, time_of}
+use Rattle.lt_text.specs.Fields.{number_within, time_of, is_bound, bound_of}
+use Rattle.lt_text.specs.Fields as fields
 use Rattle.lt_script.specs.declared.command.Action.{Action}
 use Rattle.lt_script.specs.declared.command.Action.TheVariants.{Open, Scan, Await, Look, Acquire, Update, Finish, Leave}
 use Rattle.lt_script.specs.declared.command.Saying.{Saying}
 use Rattle.lt_script.specs.declared.command.Command.{Command}
 use Rattle.lt_script.specs.declared.error.Fault.{Fault}
-use Rattle.lt_script.specs.declared.error.Fault.TheVariants.{BadPass, BadCall, BadWords, BadTxn, BadTime, BadKey, BadAccess}
+use Rattle.lt_script.specs.declared.error.Fault.TheVariants.{BadPass, BadCall, BadWords, BadTxn, BadTime, BadMax, BadKey, BadAccess}
 use Rattle.lt_script.specs.declared.error.Refusal.{Refusal}
 use Rattle.lt_script.specs.declared.error.Refusal.TheVariants as refusals
 use Rattle.lt_script.specs.declared.error.ScriptError.{ScriptError}
@@ -27,6 +28,10 @@ pass_of word = or_fault BadPass (number_within 1 65 word)
 
 abbrev pub txn_of : List ℕ → Result ℕ Fault
 txn_of word = or_fault BadTxn (number_within 1 (2 ^ 64) word)
+
+-- the transaction of a request, or none where the word is `-`
+abbrev pub owner_of : List ℕ → Result (Option ℕ) Fault
+owner_of word = or_fault BadTxn (fields.owner_of word)
 
 abbrev pub ts_of : List ℕ → Result Timestamp Fault
 ts_of word = or_fault BadTime (time_of word)
@@ -45,6 +50,21 @@ split_access word =
     if bytes_eq (drop n word) (codes ":r") then Ok (take n word, Read)
     else if bytes_eq (drop n word) (codes ":w") then Ok (take n word, Write)
     else Err BadAccess
+
+-- The last two bytes of the word name an access.
+abbrev pub names_access : List ℕ → Bool
+names_access word =
+    let n = length word - 2 in
+    bytes_eq (drop n word) (codes ":r") || bytes_eq (drop n word) (codes ":w")
+
+-- The word begins as a bound does, and is no key with its access.
+abbrev pub is_for_bound : List ℕ → Bool
+is_for_bound word = is_bound word && not (names_access word)
+
+-- the bound, if the first word stands for one, and the words after it; else 0 and all of them
+unfoldable pub longest_of : List (List ℕ) → Result (ℕ × List (List ℕ)) Fault
+longest_of [] = Ok (0, [])
+longest_of (word ∷ words) = if is_for_bound word then (or_fault BadMax (bound_of word) >>= λ longest. Ok (longest, words)) else Ok (0, word ∷ words)
 
 -- a key with its access, of which the access is looked at first
 abbrev pub access_of : List ℕ → Result (List ℕ × Access) Fault
@@ -92,15 +112,16 @@ three_of (word ∷ words) = do
 
 -- ---- the calls, by what stands after their names
 
--- A request names any number of keys, also none.
+-- A request names any number of keys, also none; a bound stands before them.
 unfoldable pub open_of : List (List ℕ) → Result Action Fault
 open_of args = do
   first ← next_of args
   second ← next_of first.1
-  txn ← txn_of first.0
+  txn ← owner_of first.0
   ts ← ts_of second.0
-  accesses ← accesses_of second.1
-  Ok (Open txn ts accesses)
+  longest ← longest_of second.1
+  accesses ← accesses_of longest.1
+  Ok (Open txn ts accesses longest.0)
 
 unfoldable pub look_of : List (List ℕ) → Result Action Fault
 look_of args = do

@@ -55,11 +55,13 @@ impl Eq for Accesses {
 /// What a line of a script asks for.
 #[derive(Debug, PartialEq, Eq, Drop)]
 pub enum Action {
-    /// A request of the transaction for these keys.
+    /// A request of the transaction, or of none, for these keys. It joins fewer than `longest` writers alone; 0 is no
+    /// bound.
     Open {
-        txn: TxnId,
+        txn: Option<TxnId>,
         ts: Timestamp,
         accesses: Accesses,
+        longest: u32,
     },
     /// The request of the pass visits its keys.
     Scan,

@@ -18,12 +18,15 @@ pub enum Fault {
     /// The call has another number of words.
     #[error("BadWords")]
     BadWords,
-    /// A transaction is no number from 1 to 2^64 - 1.
+    /// A transaction is no number from 1 to 2^64 - 1, and that of a request is not `-` either.
     #[error("BadTxn")]
     BadTxn,
     /// A time is not a number below 2^64, a dot, and a number below 2^32.
     #[error("BadTime")]
     BadTime,
+    /// The bound of a request is not `max=` and a number from 1 to 2^32 - 1.
+    #[error("BadMax")]
+    BadMax,
     /// A key is not 1 to 64 bytes from 0x21 to 0x7E.
     #[error("BadKey")]
     BadKey,

@@ -2,7 +2,7 @@ ghost use Rattle.std.specs.Prelude.{◌≡◌};
 ghost use Rattle.lt_text.specs.Fields.{number_within};
 ghost use Rattle.lt_script.specs.Lines.{is_comment};
 ghost use Rattle.lt_script.specs.Reading.{Reads};
-ghost use Rattle.lt_script.specs.Script.{pass_of, txn_of, ts_of, key_of, split_access, access_of, accesses_of, next_of, none_of, one_of, two_of, three_of, open_of, look_of, acquire_of, update_of, finish_of, alone, action_named, action_of, saying_of, line_of};
+ghost use Rattle.lt_script.specs.Script.{pass_of, txn_of, owner_of, ts_of, key_of, split_access, names_access, is_for_bound, longest_of, access_of, accesses_of, next_of, none_of, one_of, two_of, three_of, open_of, look_of, acquire_of, update_of, finish_of, alone, action_named, action_of, saying_of, line_of};
 
 use crate::command::Saying;
 use crate::error::{Fault, Refusal};
@@ -32,6 +32,16 @@ fn txn(word: &[u8]) -> Result<TxnId, Refusal>
     ensures { Reads (λ txn. txn) result (txn_of word.now) }
 {
     match field::txn(word) {
+        Some(txn) => Ok(txn),
+        None => Err(Refusal::Fault(Fault::BadTxn)),
+    }
+}
+
+/// The transaction of a request, or none where the word is `-`.
+fn owner(word: &[u8]) -> Result<Option<TxnId>, Refusal>
+    ensures { Reads (λ txn. txn) result (owner_of word.now) }
+{
+    match field::owner(word) {
         Some(txn) => Ok(txn),
         None => Err(Refusal::Fault(Fault::BadTxn)),
     }
@@ -77,6 +87,38 @@ fn access(alloc: Global, word: &[u8]) -> Result<(Key, Access), Refusal>
     let (key_word, access) = split_access(word)?;
     let key = key(alloc, key_word)?;
     Ok((key, access))
+}
+
+/// Whether the last two bytes of the word name an access.
+fn names_access(word: &[u8]) -> bool
+    ensures { result ≡ names_access word.now }
+{
+    word.strip_suffix(b":r").is_some() || word.strip_suffix(b":w").is_some()
+}
+
+/// Whether the word stands for a bound: it begins as one does, and is no key with its access.
+fn is_for_bound(word: &[u8]) -> bool
+    ensures { result ≡ is_for_bound word.now }
+{
+    field::is_bound(word) && !names_access(word)
+}
+
+/// The bound, if the next word stands for one; else 0, and the word is left.
+#[tactic(auto, unfolding(crate::specs::Script::longest_of))]
+fn longest(words: &mut Words) -> Result<u32, Refusal>
+    ensures { Reads (λ longest. (longest, words.new)) result (longest_of words.old) }
+{
+    let Some(word) = words.peek() else {
+        return Ok(0);
+    };
+    if !is_for_bound(word) {
+        return Ok(0);
+    }
+    let _ = words.next();
+    match field::bound(word) {
+        Some(longest) => Ok(longest),
+        None => Err(Refusal::Fault(Fault::BadMax)),
+    }
 }
 
 /// The keys with their accesses that all the words left name. Room is taken for one, since most requests name one.
@@ -149,10 +191,16 @@ fn open(alloc: Global, args: &mut Words) -> Result<Action, Refusal>
 {
     let txn_word = next(args)?;
     let ts_word = next(args)?;
-    let txn = txn(txn_word)?;
+    let txn = owner(txn_word)?;
     let ts = timestamp(ts_word)?;
+    let longest = longest(args)?;
     let accesses = accesses(alloc, args)?;
-    Ok(Action::Open { txn, ts, accesses })
+    Ok(Action::Open {
+        txn,
+        ts,
+        accesses,
+        longest,
+    })
 }
 
 #[tactic(auto, unfolding(crate::specs::Script::look_of))]

@@ -1,4 +1,5 @@
 ghost use Rattle.std.specs.Prelude.{◌≡◌, ◌∷◌, [], MatchOption};
+ghost use Rattle.lt_text.specs.Words.{IsFirst};
 ghost use Rattle.lt_script.specs.Lines.{words_of};
 
 use lt_text::words::Words as Pieces;
@@ -26,6 +27,20 @@ impl<'a> Words<'a> {
         Words {
             pieces: Pieces::new(line),
         }
+    }
+
+    /// The next word, which is left.
+    pub fn peek(&mut self) -> Option<&'a [u8]>
+        ensures same { self.new ≡ self.old }
+        ensures word { MatchOption result (self.old ≡ []) (λ word. IsFirst word.now self.old) }
+    {
+        while let Some(piece) = self.pieces.peek() {
+            if !piece.is_empty() {
+                return Some(piece);
+            }
+            let _ = self.pieces.next();
+        }
+        None
     }
 
     /// The next word.

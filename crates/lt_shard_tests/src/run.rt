@@ -54,9 +54,10 @@ fn make_calls() -> Option<Calls>
         acquire: Call::Acquire { txn: holder, ts },
         visit: Call::Visit {
             ticket,
-            txn: waiter,
+            txn: Some(waiter),
             ts,
             access: Access::Write,
+            longest: 0,
         },
         finish: Call::Finish { txn: holder },
     })

@@ -1,5 +1,5 @@
 -- What follows from the guard's machine.
-use Rattle.std.proofs.Common.{◌≡◌, ◌⊎◌, inl, inr, ℕ, zero, suc, ◌+◌, Bool, true, false, cond, nat_lt, nat_eq, List, [], ◌∷◌, ◌++◌, length, map, refl, sym, ◌∙◌, ap, arith, Option, Some, None, slice_get, Result, Ok, Err, drop, add-one, true≢false, append-nil}
+use Rattle.std.proofs.Common.{◌≡◌, ◌⊎◌, inl, inr, ℕ, zero, suc, ◌+◌, Bool, true, false, cond, nat_lt, List, [], ◌∷◌, ◌++◌, length, map, refl, sym, ◌∙◌, ap, arith, Option, Some, None, slice_get, Result, Ok, Err, drop, add-one, true≢false, append-nil}
 use Rattle.std.specs.Option.{option_map}
 use Rattle.std.specs.List.{AllByRecursion}
 use Rattle.std.specs.Ordering.{nat_cmp, match_ordering}
@@ -14,42 +14,43 @@ use Rattle.lt_plain.specs.declared.queued.QueuedRequest.{QueuedRequest}
 use Rattle.lt_plain.specs.declared.call.Call.{Call}
 use Rattle.lt_plain.specs.declared.call.Call.TheVariants.{Visit}
 use Rattle.lt_plain.specs.declared.call.Reply.{Reply}
-use Rattle.lt_plain.specs.declared.call.Reply.TheVariants.{Passed, MustWait}
+use Rattle.lt_plain.specs.declared.call.Reply.TheVariants.{Passed, MustWait, TooLong}
 use Rattle.lt_plain.specs.Step.{step}
 use Rattle.lt_ids.specs.Ticket.{Wait}
 use Rattle.lt_ids.specs.declared.timestamp.Timestamp.{Timestamp}
-use Rattle.lt_plain.specs.Record.{Record, number_of}
+use Rattle.lt_plain.specs.Record.{Record, number_of, is_txn}
 use Rattle.lt_plain.specs.Rules.{Outcome, stop_reading}
-use Rattle.lt_plain.specs.Visit.{visit_lock, is_queued}
+use Rattle.lt_plain.specs.Visit.{visit_lock, displace, join_writers, is_too_long, is_queued}
 use Rattle.lt_table.specs.declared.progress.Mode.{Mode}
-use Rattle.lt_table.specs.declared.progress.Mode.TheVariants.{Free, Awaiting, Let, Leaving}
+use Rattle.lt_table.specs.declared.progress.Mode.TheVariants.{Free, Awaiting, Let, Stopped, Leaving}
 use Rattle.lt_table.specs.declared.progress.Progress.{Progress}
 use Rattle.lt_table.specs.declared.progress.Ended.{Ended}
 use Rattle.lt_table.specs.declared.scan.Scan.{Scan}
 use Rattle.lt_table.specs.declared.scan.Scan.TheVariants.{Proceed, Rescan, Waiting}
+use Rattle.lt_table.specs.declared.scan.Scan.TheVariants as scans
 use Rattle.lt_table.specs.declared.scan.ScanError.{ScanError}
 use Rattle.lt_table.specs.declared.scan.ScanError.TheVariants as refused
 use Rattle.std.proofs.lemmas.Grind.{common_steps}
-use Rattle.lt_table.specs.Machine.{Asked, polled_in, heard, mode_heard, scan_start, scan_start_in, met, passed, is_wait, is_awaiting, is_free, may_visit, next_visit, visit_call, scan_end}
+use Rattle.lt_table.specs.Machine.{Asked, polled_in, heard, mode_heard, scan_start, scan_start_in, met, passed, restarted, is_awaiting, is_stopped, is_free, may_visit, next_visit, visit_call, scan_end}
 use Rattle.lt_table.specs.Runs.{WalkState, Step, answer_of, Visits, Ends, of_step, IsScanFrom, IsWalkScan}
 use Rattle.lt_table.specs.Laws.{ThroughGoesOn}
 use Rattle.lt_table.specs.declared.scan.Poll.TheVariants.{Through}
 use Rattle.std.specs.Prelude.{IsOk}
 
--- ---- a visit passes or has to wait
+-- ---- a visit passes, has to wait, or meets a queue that is too long
 
-abbrev pub PassesOrWaits : Reply → Type 0
-PassesOrWaits reply = (reply ≡ Passed) ⊎ (reply ≡ MustWait)
+abbrev pub IsVisitReply : Reply → Type 0
+IsVisitReply reply = (reply ≡ Passed) ⊎ ((reply ≡ MustWait) ⊎ (reply ≡ TooLong))
 
--- By the rules of one key a visit passes or has to wait.
-abbrev VisitsPassOrWait : Type 0
-VisitsPassOrWait = (r : Record) (pass : ℕ) (ticket : Wait) (txn : ℕ) (ts : Timestamp) (access : Access) → PassesOrWaits (step r pass (Visit ticket txn ts access)).reply
+-- By the rules of one key a visit passes, has to wait, or meets a queue that is too long.
+abbrev VisitReplies : Type 0
+VisitReplies = (r : Record) (pass : ℕ) (ticket : Wait) (txn : Option ℕ) (ts : Timestamp) (access : Access) (longest : ℕ) → IsVisitReply (step r pass (Visit ticket txn ts access longest)).reply
 
 -- A scan from the list's start that answers Proceed visited each key once, in order, and each visit passed.
 abbrev ProceedsAfterAll : Type 0
 ProceedsAfterAll = (max_waits : ℕ) (old : WalkState) (word : ℕ) (steps : List Step) (after : WalkState) →
     old.progress.place ≡ 0 → old.progress.mode ≡ Free →
-    AllByRecursion (λ x. PassesOrWaits x.answer.reply) steps →
+    AllByRecursion (λ x. IsVisitReply x.answer.reply) steps →
     IsWalkScan max_waits old word steps (Ok Proceed) after →
     (map (λ x. x.key) steps ≡ map (λ k. k.0) old.asked.keys) × AllByRecursion (λ a. a.reply ≡ Passed) after.answers
 
@@ -62,18 +63,28 @@ one_of_three P Less o p q x y z = x
 one_of_three P Equal o p q x y z = y
 one_of_three P Greater o p q x y z = z
 
-lock_passes : (holder : Option Holder) (s : Option QueuedRequest) (r : Record) (q : QueuedRequest) (access : Access) → PassesOrWaits (visit_lock holder s r q access).reply
-lock_passes None None r q access = inl refl
-lock_passes None (Some s) r q Read = inl refl
-lock_passes None (Some s) r q Write = one_of_three (λ o. PassesOrWaits o.reply) (nat_cmp (number_of q) (number_of s)) _ _ _ (inl refl) (inl refl) (inr refl)
-lock_passes (Some h) s r q Read =
-    either (λ o. PassesOrWaits o.reply) (nat_eq h.txn q.txn) _ _ (inl refl)
-    (either (λ o. PassesOrWaits o.reply) (is_below q.ts h.ts) _ _ (inl refl)
-    (either (λ o. PassesOrWaits o.reply) (is_queued r.writers (number_of q)) _ _ (inr refl) (inr refl)))
-lock_passes (Some h) s r q Write = either (λ o. PassesOrWaits o.reply) (nat_eq h.txn q.txn) _ _ (inl refl) (inr refl)
+abbrev IsOfVisit : Outcome → Type 0
+IsOfVisit o = IsVisitReply o.reply
 
-pub visits_pass_or_wait : VisitsPassOrWait
-visits_pass_or_wait r pass ticket txn ts access = lock_passes r.holder r.reservation (stop_reading r ticket.number) (record { ticket = ticket; txn = txn; ts = ts; pass = pass }) access
+displace_replies : (own : Option ℕ) (r : Record) (s q : QueuedRequest) → IsOfVisit (displace own r s q)
+displace_replies None r s q = inl refl
+displace_replies (Some txn) r s q = inl refl
+
+join_replies : (r : Record) (q : QueuedRequest) (longest : ℕ) → IsOfVisit (join_writers r q longest)
+join_replies r q longest = either IsOfVisit (is_too_long r.writers q longest) _ _ (inr (inr refl)) (inr (inl refl))
+
+lock_replies : (holder : Option Holder) (s : Option QueuedRequest) (r : Record) (q : QueuedRequest) (longest : ℕ) (access : Access) → IsOfVisit (visit_lock holder s r q longest access)
+lock_replies None None r q longest access = inl refl
+lock_replies None (Some s) r q longest Read = inl refl
+lock_replies None (Some s) r q longest Write = one_of_three IsOfVisit (nat_cmp (number_of q) (number_of s)) _ _ _ (displace_replies q.txn r s q) (inl refl) (join_replies r q longest)
+lock_replies (Some h) s r q longest Read =
+    either IsOfVisit (is_txn q.txn h.txn) _ _ (inl refl)
+    (either IsOfVisit (is_below q.ts h.ts) _ _ (inl refl)
+    (either IsOfVisit (is_queued r.writers (number_of q)) _ _ (inr (inl refl)) (inr (inl refl))))
+lock_replies (Some h) s r q longest Write = either IsOfVisit (is_txn q.txn h.txn) _ _ (inl refl) (join_replies r q longest)
+
+pub visit_replies : VisitReplies
+visit_replies r pass ticket txn ts access longest = lock_replies r.holder r.reservation (stop_reading r ticket.number) (record { ticket = ticket; txn = txn; ts = ts; pass = pass }) longest access
 
 abbrev pub pair : {A B : Type 0} → A → B → A × B
 pair a b = (a, b)
@@ -88,6 +99,7 @@ free_start_in : (m : Mode) (b : Bool) (place waits : ℕ) (waited : Bool) → m 
 free_start_in Free b place waits waited e = refl
 free_start_in Awaiting b place waits waited e = absurd cc
 free_start_in Let b place waits waited e = absurd cc
+free_start_in Stopped b place waits waited e = absurd cc
 free_start_in Leaving b place waits waited e = absurd cc
 
 drop_at : {A : Type 0} (xs : List A) (i : ℕ) (x : A) → slice_get xs i ≡ Some x → drop i xs ≡ x ∷ drop (suc i) xs
@@ -115,41 +127,51 @@ next_key asked max_waits p key call e =
     let named : option_map (λ k. k.0) (slice_get asked.keys p.place) ≡ Some key = key_at (slice_get asked.keys p.place) (visit_call asked p) key call there.1 in
     rw add-one (drop_at (map (λ k. k.0) asked.keys) p.place key (mapped_get (λ k. k.0) asked.keys p.place ∙ named))
 
--- nothing comes next for who waits
-waits_visits_none : (asked : Asked) (max_waits : ℕ) (p : Progress) (xs : List Step) (q : Progress) → p.mode ≡ Awaiting → Visits asked max_waits p xs q → is_awaiting q.mode ≡ true
-waits_visits_none asked max_waits p [] q e v = ap (λ s. is_awaiting s.mode) v ∙ ap is_awaiting e
-waits_visits_none asked max_waits p (x ∷ xs) q e v =
-    let not_free : is_free p.mode ≡ false = ap is_free e in
-    let due : may_visit (length asked.keys) max_waits p ≡ true = (guarded (may_visit (length asked.keys) max_waits p) _ _ v.0).0 in
-    absurd (true≢false (sym (rw not_free at due)))
+-- nothing comes next for who is not free
+pub no_visit : (asked : Asked) (max_waits : ℕ) (p : Progress) (x : List ℕ × Call) → is_free p.mode ≡ false → next_visit asked max_waits p ≡ Some x → ⊥
+no_visit asked max_waits p x not_free next =
+    let due : may_visit (length asked.keys) max_waits p ≡ true = (guarded (may_visit (length asked.keys) max_waits p) _ _ next).0 in
+    true≢false (sym (rw not_free at due))
 
-visited : (asked : Asked) (max_waits : ℕ) (p : Progress) (xs : List Step) (q : Progress) → AllByRecursion (λ x. PassesOrWaits x.answer.reply) xs → Visits asked max_waits p xs q → is_awaiting q.mode ≡ false →
+pub visits_none : (asked : Asked) (max_waits : ℕ) (p : Progress) (xs : List Step) (q : Progress) → is_free p.mode ≡ false → Visits asked max_waits p xs q → (xs ≡ []) × (q ≡ p)
+visits_none asked max_waits p [] q not_free v = (refl, v)
+visits_none asked max_waits p (x ∷ xs) q not_free v = absurd (no_visit asked max_waits p (x.key, x.call) not_free v.0)
+
+visited : (asked : Asked) (max_waits : ℕ) (p : Progress) (xs : List Step) (q : Progress) → AllByRecursion (λ x. IsVisitReply x.answer.reply) xs → Visits asked max_waits p xs q → is_awaiting q.mode ≡ false → is_stopped q.mode ≡ false →
     (drop p.place (map (λ k. k.0) asked.keys) ≡ map (λ x. x.key) xs ++ drop q.place (map (λ k. k.0) asked.keys)) × AllByRecursion (λ a. a.reply ≡ Passed) (map answer_of xs)
-visited asked max_waits p [] q all v free = (ap (λ s. drop s.place (map (λ k. k.0) asked.keys)) (sym v), tt)
-visited asked max_waits p (x ∷ xs) q all v free =
+visited asked max_waits p [] q all v unwaiting unstopped = (ap (λ s. drop s.place (map (λ k. k.0) asked.keys)) (sym v), tt)
+visited asked max_waits p (x ∷ xs) q all v unwaiting unstopped =
     elim all.0 [
       | inl passes ↦
-          let goes_on : met p (is_wait x.answer.reply) ≡ passed p = ap (λ r. met p (is_wait r)) passes in
+          let goes_on : met p x.answer.reply ≡ passed p = ap (met p) passes in
           let rest : Visits asked max_waits (passed p) xs q = rw goes_on at v.1 in
-          let others : (drop (p.place + 1) (map (λ k. k.0) asked.keys) ≡ map (λ x. x.key) xs ++ drop q.place (map (λ k. k.0) asked.keys)) × AllByRecursion (λ a. a.reply ≡ Passed) (map answer_of xs) = visited asked max_waits (passed p) xs q all.1 rest free in
+          let others : (drop (p.place + 1) (map (λ k. k.0) asked.keys) ≡ map (λ x. x.key) xs ++ drop q.place (map (λ k. k.0) asked.keys)) × AllByRecursion (λ a. a.reply ≡ Passed) (map answer_of xs) = visited asked max_waits (passed p) xs q all.1 rest unwaiting unstopped in
           (next_key asked max_waits p x.key x.call v.0 ∙ ap (λ ks. x.key ∷ ks) others.0, (passes, others.1))
-      | inr waits ↦
-          let stops : met p (is_wait x.answer.reply) ≡ met p true = ap (λ r. met p (is_wait r)) waits in
-          let rest : Visits asked max_waits (met p true) xs q = rw stops at v.1 in
-          absurd (true≢false (sym (waits_visits_none asked max_waits (met p true) xs q refl rest) ∙ free))
+      | inr ends ↦ elim ends [
+        | inl waits ↦
+            let same : met p x.answer.reply ≡ met p MustWait = ap (met p) waits in
+            let rest : Visits asked max_waits (met p MustWait) xs q = rw same at v.1 in
+            absurd (true≢false (sym (ap (λ s. is_awaiting s.mode) (visits_none asked max_waits (met p MustWait) xs q refl rest).1) ∙ unwaiting))
+        | inr stops ↦
+            let same : met p x.answer.reply ≡ met p TooLong = ap (met p) stops in
+            let rest : Visits asked max_waits (met p TooLong) xs q = rw same at v.1 in
+            absurd (true≢false (sym (ap (λ s. is_stopped s.mode) (visits_none asked max_waits (met p TooLong) xs q refl rest).1) ∙ unstopped))
+      ]
     ]
 
 abbrev ended : Progress → Result Scan ScanError → Ended
 ended p r = record { after = p; result = r }
 
 -- Proceed is answered at the list's end alone.
-proceed_end_in : (waits inside waited : Bool) (p q : Progress) → Ok Proceed ≡ (cond waits (ended p (Ok (Waiting p.place))) (cond inside (ended p (Err refused.WaitsOut)) (ended q (Ok (cond waited Rescan Proceed))))).result → (waits ≡ false) × (inside ≡ false)
-proceed_end_in true inside waited p q e = absurd cc
-proceed_end_in false true waited p q e = absurd cc
-proceed_end_in false false waited p q e = (refl, refl)
+proceed_end_in : (waits stops inside waited : Bool) (p q : Progress) → Ok Proceed ≡ (cond waits (ended p (Ok (Waiting p.place))) (cond stops (ended q (Ok (scans.TooLong p.place))) (cond inside (ended p (Err refused.WaitsOut)) (ended q (Ok (cond waited Rescan Proceed)))))).result →
+    (waits ≡ false) × (stops ≡ false) × (inside ≡ false)
+proceed_end_in true stops inside waited p q e = absurd cc
+proceed_end_in false true inside waited p q e = absurd cc
+proceed_end_in false false true waited p q e = absurd cc
+proceed_end_in false false false waited p q e = (refl, refl, refl)
 
-proceed_end : (keys : ℕ) (p : Progress) → Ok Proceed ≡ (scan_end keys p).result → (is_awaiting p.mode ≡ false) × (nat_lt p.place keys ≡ false)
-proceed_end keys p e = proceed_end_in (is_awaiting p.mode) (nat_lt p.place keys) p.waited p (record p { place = 0; waited = false }) e
+proceed_end : (keys : ℕ) (p : Progress) → Ok Proceed ≡ (scan_end keys p).result → (is_awaiting p.mode ≡ false) × (is_stopped p.mode ≡ false) × (nat_lt p.place keys ≡ false)
+proceed_end keys p e = proceed_end_in (is_awaiting p.mode) (is_stopped p.mode) (nat_lt p.place keys) p.waited p (restarted p) e
 
 ends_none : (next : Option (List ℕ × Call)) (end : Ended) (p : Progress) (a : Progress) → Ends next end p (Ok Proceed) a → Ok Proceed ≡ end.result
 ends_none None end p a e = e.0
@@ -158,12 +180,12 @@ ends_none (Some x) end p a e = absurd (let never : Ok Proceed ≡ Err (of_step e
 past_end : {A : Type 0} (xs : List A) (i : ℕ) → nat_lt i (length xs) ≡ false → drop i xs ≡ []
 past_end xs i e = grind (arith, common_steps)
 
-from_proceeds : (asked : Asked) (max_waits : ℕ) (p : Progress) (steps : List Step) (after : WalkState) → AllByRecursion (λ x. PassesOrWaits x.answer.reply) steps → IsScanFrom asked max_waits p steps (Ok Proceed) after →
+from_proceeds : (asked : Asked) (max_waits : ℕ) (p : Progress) (steps : List Step) (after : WalkState) → AllByRecursion (λ x. IsVisitReply x.answer.reply) steps → IsScanFrom asked max_waits p steps (Ok Proceed) after →
     (drop p.place (map (λ k. k.0) asked.keys) ≡ map (λ x. x.key) steps) × AllByRecursion (λ a. a.reply ≡ Passed) after.answers
 from_proceeds asked max_waits p steps after all s =
-    let at_end : (is_awaiting s.last.mode ≡ false) × (nat_lt s.last.place (length asked.keys) ≡ false) = proceed_end (length asked.keys) s.last (ends_none (next_visit asked max_waits s.last) (scan_end (length asked.keys) s.last) s.last after.progress s.ends) in
-    let both = visited asked max_waits p steps s.last all s.visits at_end.0 in
-    let no_more : drop s.last.place (map (λ k. k.0) asked.keys) ≡ [] = drop-map (λ k. k.0) s.last.place asked.keys ∙ ap (map (λ k. k.0)) (past_end asked.keys s.last.place at_end.1) in
+    let at_end : (is_awaiting s.last.mode ≡ false) × (is_stopped s.last.mode ≡ false) × (nat_lt s.last.place (length asked.keys) ≡ false) = proceed_end (length asked.keys) s.last (ends_none (next_visit asked max_waits s.last) (scan_end (length asked.keys) s.last) s.last after.progress s.ends) in
+    let both = visited asked max_waits p steps s.last all s.visits at_end.0 at_end.1 in
+    let no_more : drop s.last.place (map (λ k. k.0) asked.keys) ≡ [] = drop-map (λ k. k.0) s.last.place asked.keys ∙ ap (map (λ k. k.0)) (past_end asked.keys s.last.place at_end.2) in
     (both.0 ∙ ap (λ ks. map (λ x. x.key) steps ++ ks) no_more ∙ append-nil (map (λ x. x.key) steps), rw s.answers both.1)
 
 pub begins_free : (max_waits : ℕ) (old : WalkState) (word : ℕ) (steps : List Step) (result : Result Scan ScanError) (after : WalkState) → old.progress.mode ≡ Free → IsWalkScan max_waits old word steps result after → IsScanFrom old.asked max_waits old.progress steps result after
@@ -185,6 +207,7 @@ let_goes_on Free b c p e = absurd cc
 let_goes_on Awaiting true c p e = refl
 let_goes_on Awaiting false c p e = absurd cc
 let_goes_on Let b c p e = refl
+let_goes_on Stopped b c p e = absurd cc
 let_goes_on Leaving b c p e = absurd cc
 
 pub through_goes_on : ThroughGoesOn

@@ -31,7 +31,7 @@ first_stands old mid new x r begins = record {
 }
 
 -- a later step, seen from the beginning
-later_stands : (old mid new : Seer) (x : runs.Step) → mid.of ≡ old.of → mid.number ≡ old.number → IsPrefix old.seen mid.seen → Stands mid new x → Stands old new x
+pub later_stands : (old mid new : Seer) (x : runs.Step) → mid.of ≡ old.of → mid.number ≡ old.number → IsPrefix old.seen mid.seen → Stands mid new x → Stands old new x
 later_stands old mid new x of number begins s =
     let same : shard_at mid x ≡ shard_at old x = ap (λ o. shard_of x.key o.shards) of in
     let after : length (part (shard_at old x) mid.seen) ≤ x.answer.at = subst (λ n. length (part n mid.seen) ≤ x.answer.at) same s.later in
@@ -83,7 +83,7 @@ reported_stand old new xs c =
 
 -- ---- places
 
-inside_length : {A : Type 0} (xs : List A) (i : ℕ) (x : A) → slice_get xs i ≡ Some x → i < length xs
+pub inside_length : {A : Type 0} (xs : List A) (i : ℕ) (x : A) → slice_get xs i ≡ Some x → i < length xs
 inside_length [] i x e = absurd cc
 inside_length (y ∷ ys) zero x e = omega arith
 inside_length (y ∷ ys) (suc i) x e = omega (arith, inside_length ys i x e)
@@ -101,7 +101,7 @@ goes_into : (h seen whole : List Event) (e : Event) → seen ≡ h ++ e ∷ [] �
 goes_into h seen whole e is begins = (begins.0, sym begins.1 ∙ (ap (λ l. l ++ begins.0) is ∙ append_assoc h (e ∷ []) begins.0))
 
 pub numbers_of_guards_differ : NumbersOfGuardsDiffer
-numbers_of_guards_differ shards whole old old' given given' txn txn' ts ts' max max' guard guard' legal in_whole in_whole' e e' apart = λ same.
+numbers_of_guards_differ shards whole old old' given given' txn txn' ts ts' longest longest' max max' guard guard' legal in_whole in_whole' e e' apart = λ same.
     let one = goes_into e.drawn.0 guard.pass.seen whole (Draw old.number guard.walk.asked.number) e.drawn.3 in_whole in
     let two = goes_into e'.drawn.0 guard'.pass.seen whole (Draw old'.number guard'.walk.asked.number) e'.drawn.3 in_whole' in
     let two' : whole ≡ e'.drawn.0 ++ Draw old'.number guard.walk.asked.number ∷ two.0 = subst (λ n. whole ≡ e'.drawn.0 ++ Draw old'.number n ∷ two.0) (sym same) two.1 in

@@ -7,6 +7,7 @@ pub mod OneList
 pub mod UnderWay
 pub mod InPlace
 pub mod WentOn
+pub mod Stopping
 pub mod Found
 pub mod Passing
 pub mod Ends

@@ -1,4 +1,4 @@
--- A visit in a legal history passes or has to wait; so who proceeds has passed each key.
+-- A visit in a legal history passes, has to wait, or meets a queue that is too long; so who proceeds has passed each key.
 use Rattle.std.proofs.Common.{◌+◌, ◌≡◌, ℕ, zero, suc, Bool, true, false, cond, Option, Some, None, List, [], ◌∷◌, map, slice_get, refl, sym, ◌∙◌, ap, subst, Ok, ◌==◌, length}
 use Rattle.std.specs.Prelude.{filter}
 use Rattle.std.specs.Option.{option_map}
@@ -22,20 +22,20 @@ use Rattle.lt_words.specs.History.{part, steps_of, IsLegalHistory}
 use Rattle.lt_words.specs.Row.{Seer}
 use Rattle.lt_table.specs.declared.progress.Progress.{Progress}
 use Rattle.lt_table.specs.declared.scan.Scan.TheVariants.{Proceed}
-use Rattle.lt_table.specs.Machine.{Asked, met, is_wait, may_visit, visit_call}
+use Rattle.lt_table.specs.Machine.{Asked, met, may_visit, visit_call}
 use Rattle.lt_table.specs.Runs as runs
 use Rattle.lt_table.specs.Runs.{Visits, WalkState, IsScanFrom, IsScanBegun}
 use Rattle.lt_table.specs.Reported.{shard_at}
 use Rattle.lt_table.specs.Laws.{Stands, ProceedHasPassedEach}
 use Rattle.lt_table.proofs.InPlace.{all_stand}
-use Rattle.lt_table.proofs.Follows.{PassesOrWaits, visits_pass_or_wait, proceeds_after_all, guarded, begins_free, pair_same}
+use Rattle.lt_table.proofs.Follows.{IsVisitReply, visit_replies, proceeds_after_all, guarded, begins_free, pair_same}
 
--- the event is no visit, or it passes or has to wait
+-- the event is no visit, or it passes, has to wait, or meets a queue that is too long
 abbrev IsFine : plain.Event → Type 0
-IsFine e = (ticket : Wait) (txn : ℕ) (ts : Timestamp) (access : Access) → e.call ≡ Visit ticket txn ts access → PassesOrWaits e.reply
+IsFine e = (ticket : Wait) (txn : Option ℕ) (ts : Timestamp) (access : Access) (longest : ℕ) → e.call ≡ Visit ticket txn ts access longest → IsVisitReply e.reply
 
 one_fine : (r : Record) (e : plain.Event) → e.reply ≡ (step r e.pass e.call).reply → IsFine e
-one_fine r e is ticket txn ts access call = subst PassesOrWaits (sym (is ∙ ap (λ c. (step r e.pass c).reply) call)) (visits_pass_or_wait r e.pass ticket txn ts access)
+one_fine r e is ticket txn ts access longest call = subst IsVisitReply (sym (is ∙ ap (λ c. (step r e.pass c).reply) call)) (visit_replies r e.pass ticket txn ts access longest)
 
 legal_fine : (r : Record) (es : List plain.Event) → IsLegalFrom r es → AllByRecursion IsFine es
 legal_fine r [] l = tt
@@ -92,14 +92,14 @@ is_a_visit : (o : Option (List ℕ × Access)) (f : Access → Call) (key : List
 is_a_visit None f key call e = absurd cc
 is_a_visit (Some k) f key call e = (k.1, sym (pair_same k.0 key (f k.1) call e).1)
 
-visits_fine : (asked : Asked) (max_waits : ℕ) (p : Progress) (xs : List runs.Step) (q : Progress) (shards : ℕ) (old new : Seer) → IsLegalHistory shards new.seen → Visits asked max_waits p xs q → AllByRecursion (Stands old new) xs → AllByRecursion (λ x. PassesOrWaits x.answer.reply) xs
+visits_fine : (asked : Asked) (max_waits : ℕ) (p : Progress) (xs : List runs.Step) (q : Progress) (shards : ℕ) (old new : Seer) → IsLegalHistory shards new.seen → Visits asked max_waits p xs q → AllByRecursion (Stands old new) xs → AllByRecursion (λ x. IsVisitReply x.answer.reply) xs
 visits_fine asked max_waits p [] q shards old new legal v s = tt
 visits_fine asked max_waits p (x ∷ xs) q shards old new legal v s =
     let due = guarded (may_visit (length asked.keys) max_waits p) _ _ v.0 in
     let visit = is_a_visit (slice_get asked.keys p.place) (visit_call asked p) x.key x.call due.1 in
     let fine = entry_fine shards (shard_at old x) new.seen x.answer.at s.0.entry legal s.0.at in (
-      subst PassesOrWaits s.0.reply_is (fine (record { number = asked.number; wait = p.waits + 1 }) asked.txn asked.ts visit.0 (s.0.call_is ∙ visit.1)),
-      visits_fine asked max_waits (met p (is_wait x.answer.reply)) xs q shards old new legal v.1 s.1,
+      subst IsVisitReply s.0.reply_is (fine (record { number = asked.number; wait = p.waits + 1 }) asked.txn asked.ts visit.0 asked.longest (s.0.call_is ∙ visit.1)),
+      visits_fine asked max_waits (met p x.answer.reply) xs q shards old new legal v.1 s.1,
     )
 
 pub proceed_has_passed_each : ProceedHasPassedEach

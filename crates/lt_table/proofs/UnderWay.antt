@@ -11,13 +11,13 @@ use Rattle.lt_words.specs.Rules.{IsStatus}
 use Rattle.lt_words.specs.Row.{Seer}
 use Rattle.lt_words.proofs.Histories.{let_later}
 use Rattle.lt_table.specs.declared.progress.Mode.{Mode}
-use Rattle.lt_table.specs.declared.progress.Mode.TheVariants.{Free, Awaiting, Let, Leaving}
+use Rattle.lt_table.specs.declared.progress.Mode.TheVariants.{Free, Awaiting, Let, Stopped, Leaving}
 use Rattle.lt_table.specs.declared.progress.Progress.{Progress}
 use Rattle.std.specs.Prelude.{Result, Ok, Err, IfOk, OnErr}
 use Rattle.lt_plain.specs.declared.call.Call.{Call}
 use Rattle.lt_shard.specs.declared.answer.Answer.{Answer}
 use Rattle.lt_shard.specs.declared.answer.StepError.{StepError}
-use Rattle.lt_table.specs.Machine.{heard, mode_heard, polled_in, met, is_wait, next_visit, next_leave, passed}
+use Rattle.lt_table.specs.Machine.{heard, mode_heard, polled_in, met, met_as, is_wait, is_long, next_visit, next_leave, passed}
 use Rattle.lt_table.specs.Runs.{WalkState}
 use Rattle.lt_table.specs.Runs as runs
 use Rattle.lt_table.specs.Reported.{GuardState, Reported, AreReported, wait_of}
@@ -50,6 +50,7 @@ let_from P Free b told was e = absurd cc
 let_from P Awaiting true told was e = told refl refl
 let_from P Awaiting false told was e = absurd cc
 let_from P Let b told was e = was refl
+let_from P Stopped b told was e = absurd cc
 let_from P Leaving b told was e = absurd cc
 
 pub named : (word n : ℕ) → nat_eq word n ≡ true → word ≡ n
@@ -71,6 +72,7 @@ pub through_is_let : (m : Mode) → polled_in m ≡ Through → m ≡ Let
 through_is_let Let e = refl
 through_is_let Free e = absurd cc
 through_is_let Awaiting e = absurd cc
+through_is_let Stopped e = absurd cc
 through_is_let Leaving e = absurd cc
 
 -- ---- one more visit
@@ -79,19 +81,20 @@ AreReported-more : (p : Seer) (xs : List runs.Step) (q : Seer) (x : runs.Step) (
 AreReported-more p [] q x r e last = (r, rw (sym e) last, refl)
 AreReported-more p (y ∷ ys) q x r c last = (c.0, c.1, AreReported-more c.0 ys q x r c.2 last)
 
-met-goes_on : (p : Progress) (b : Bool) → p.mode ≢ Let → (met p b).mode ≢ Let
-met-goes_on p true goes = λ e. cc
-met-goes_on p false goes = goes
+met-goes_on : (p : Progress) (waits long : Bool) → p.mode ≢ Let → (met_as p waits long).mode ≢ Let
+met-goes_on p true long goes = λ e. cc
+met-goes_on p false true goes = λ e. cc
+met-goes_on p false false goes = goes
 
 pub IsUnderWay-more : (begun : GuardState) (max_waits : ℕ) (now : GuardState) (x : runs.Step) (pass : Seer) (walk : WalkState) → IsUnderWay begun max_waits now →
     next_visit now.walk.asked max_waits now.walk.progress ≡ Some (x.key, x.call) →
-    walk ≡ record now.walk { progress = met now.walk.progress (is_wait x.answer.reply); answers = now.walk.answers ++ x.answer ∷ [] } →
+    walk ≡ record now.walk { progress = met now.walk.progress x.answer.reply; answers = now.walk.answers ++ x.answer ∷ [] } →
     Reported now.pass pass x → IsUnderWay begun max_waits (record { pass = pass; walk = walk })
 IsUnderWay-more begun max_waits now x pass walk way next e reported = record {
   steps = way.steps ++ x ∷ [];
   reported = AreReported-more begun.pass way.steps now.pass x pass way.reported reported;
   going = IsGoing-more begun.walk max_waits now.walk way.steps x walk way.going next e;
-  goes_on = rw e (met-goes_on now.walk.progress (is_wait x.answer.reply) way.goes_on);
+  goes_on = rw e (met-goes_on now.walk.progress (is_wait x.answer.reply) (is_long x.answer.reply) way.goes_on);
   of = reported.reports.of ∙ way.of;
 }
 

@@ -6,14 +6,14 @@ use Rattle.lt_plain.specs.declared.call.Call.{Call}
 use Rattle.lt_words.specs.Row.{Seer, SeesMore}
 use Rattle.lt_words.proofs.Prefixes.{prefix_trans}
 use Rattle.lt_table.specs.declared.progress.Mode.{Mode}
-use Rattle.lt_table.specs.declared.progress.Mode.TheVariants.{Free, Awaiting, Let, Leaving}
+use Rattle.lt_table.specs.declared.progress.Mode.TheVariants.{Free, Awaiting, Let, Stopped, Leaving}
 use Rattle.lt_table.specs.declared.progress.Progress.{Progress}
 use Rattle.lt_table.specs.declared.progress.Ended.{Ended}
 use Rattle.lt_table.specs.declared.scan.Scan.{Scan}
-use Rattle.lt_table.specs.declared.scan.Scan.TheVariants.{Proceed, Rescan, Waiting}
+use Rattle.lt_table.specs.declared.scan.Scan.TheVariants.{Proceed, Rescan, Waiting, TooLong}
 use Rattle.lt_table.specs.declared.scan.ScanError.{ScanError}
 use Rattle.lt_table.specs.declared.scan.ScanError.TheVariants.{StillWaiting, WaitsOut}
-use Rattle.lt_table.specs.Machine.{heard, mode_heard, scan_start, scan_start_in, scan_end, is_awaiting, next_visit}
+use Rattle.lt_table.specs.Machine.{heard, mode_heard, scan_start, scan_start_in, scan_end, restarted, is_awaiting, is_stopped, next_visit}
 use Rattle.lt_table.specs.Runs as runs
 use Rattle.lt_table.specs.Runs.{WalkState, IsScanBegun, Ends, of_step, leaving}
 use Rattle.lt_table.specs.Reported.{GuardState, AreReported, IsScan, IsLeavingFrom, PassStays, GuardStays, wait_of}
@@ -28,6 +28,7 @@ still_waits Awaiting false p max_waits old steps result after e f s = s.1
 still_waits Awaiting true p max_waits old steps result after e f s = absurd cc
 still_waits Free b p max_waits old steps result after e f s = absurd cc
 still_waits Let b p max_waits old steps result after e f s = absurd cc
+still_waits Stopped b p max_waits old steps result after e f s = absurd cc
 still_waits Leaving b p max_waits old steps result after e f s = absurd cc
 
 -- what stays through steps that were reported
@@ -67,22 +68,32 @@ begun_stays old begun new is stays = record {
 
 -- ---- who waits stands at a key
 
-abbrev ended : Progress → Result Scan ScanError → Ended
+abbrev pub ended : Progress → Result Scan ScanError → Ended
 ended p r = record { after = p; result = r }
 
-abbrev end_in : Bool → Bool → Progress → Progress → Ended
-end_in waits inside p q = cond waits (ended p (Ok (Waiting p.place))) (cond inside (ended p (Err WaitsOut)) (ended q (Ok (cond p.waited Rescan Proceed))))
+abbrev pub end_in : Bool → Bool → Bool → Progress → Progress → Ended
+end_in waits stops inside p q =
+    cond waits (ended p (Ok (Waiting p.place))) (cond stops (ended q (Ok (TooLong p.place))) (cond inside (ended p (Err WaitsOut)) (ended q (Ok (cond p.waited Rescan Proceed)))))
 
-waits_in : (waits inside waited : Bool) (p q : Progress) (place : ℕ) → p.waited ≡ waited → Ok (Waiting place) ≡ (end_in waits inside p q).result → (waits ≡ true) × (place ≡ p.place) × ((end_in waits inside p q).after ≡ p)
-waits_in true inside waited p q place w e = (refl, cc, refl)
-waits_in false true waited p q place w e = absurd cc
-waits_in false false true p q place w e = absurd (let never : Ok (Waiting place) ≡ Ok Rescan = rw w at e in cc)
-waits_in false false false p q place w e = absurd (let never : Ok (Waiting place) ≡ Ok Proceed = rw w at e in cc)
+waits_in : (waits stops inside waited : Bool) (p q : Progress) (place : ℕ) → p.waited ≡ waited → Ok (Waiting place) ≡ (end_in waits stops inside p q).result → (waits ≡ true) × (place ≡ p.place) × ((end_in waits stops inside p q).after ≡ p)
+waits_in true stops inside waited p q place w e = (refl, cc, refl)
+waits_in false true inside waited p q place w e = absurd cc
+waits_in false false true waited p q place w e = absurd cc
+waits_in false false false true p q place w e = absurd (let never : Ok (Waiting place) ≡ Ok Rescan = rw w at e in cc)
+waits_in false false false false p q place w e = absurd (let never : Ok (Waiting place) ≡ Ok Proceed = rw w at e in cc)
+
+pub stops_in : (waits stops inside waited : Bool) (p q : Progress) (place : ℕ) → p.waited ≡ waited → Ok (TooLong place) ≡ (end_in waits stops inside p q).result → (stops ≡ true) × (place ≡ p.place) × ((end_in waits stops inside p q).after ≡ q)
+stops_in true stops inside waited p q place w e = absurd cc
+stops_in false true inside waited p q place w e = (refl, cc, refl)
+stops_in false false true waited p q place w e = absurd cc
+stops_in false false false true p q place w e = absurd (let never : Ok (TooLong place) ≡ Ok Rescan = rw w at e in cc)
+stops_in false false false false p q place w e = absurd (let never : Ok (TooLong place) ≡ Ok Proceed = rw w at e in cc)
 
 awaits : (m : Mode) → is_awaiting m ≡ true → m ≡ Awaiting
 awaits Awaiting e = refl
 awaits Free e = absurd cc
 awaits Let e = absurd cc
+awaits Stopped e = absurd cc
 awaits Leaving e = absurd cc
 
 -- a request that a scan left waiting, and where
@@ -92,7 +103,7 @@ record WaitsAt (p : Progress) (place : ℕ) : Type 0 where
 
 end_waits : (keys : ℕ) (p after : Progress) (place : ℕ) → Ok (Waiting place) ≡ (scan_end keys p).result → after ≡ (scan_end keys p).after → WaitsAt after place
 end_waits keys p after place e f =
-    let all = waits_in (is_awaiting p.mode) (nat_lt p.place keys) p.waited p (record p { place = 0; waited = false }) place refl e in
+    let all = waits_in (is_awaiting p.mode) (is_stopped p.mode) (nat_lt p.place keys) p.waited p (restarted p) place refl e in
     let same : after ≡ p = f ∙ all.2 in
     record { waits = ap (λ s. s.mode) same ∙ awaits p.mode all.0; here = all.1 ∙ sym (ap (λ s. s.place) same) }
 

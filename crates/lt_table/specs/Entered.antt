@@ -1,5 +1,5 @@
 -- A request that enters, or does not.
-use Rattle.std.specs.Prelude.{ℕ, ◌≡◌, ◌≢◌, ◌+◌, ◌<◌, ◌≤◌, List, [], length, false}
+use Rattle.std.specs.Prelude.{ℕ, ◌≡◌, ◌≢◌, ◌+◌, ◌<◌, ◌≤◌, Option, List, [], length, false}
 use Rattle.lt_ids.specs.declared.request.Access.{Access}
 use Rattle.lt_ids.specs.declared.timestamp.Timestamp.{Timestamp}
 use Rattle.lt_words.specs.declared.event.Event.TheVariants.{Draw}
@@ -17,12 +17,13 @@ abbrev pub at_start : Progress
 at_start = record { place = 0; waits = 0; waited = false; mode = Free }
 
 -- The guard stands at the start of the key list of what was given, with the number that its pass has just drawn.
-pub record IsEntered (old : Seer) (given : List (List ℕ × Access)) (txn : ℕ) (ts : Timestamp) (max_requests : ℕ) (guard : GuardState) : Type 0 where
+pub record IsEntered (old : Seer) (given : List (List ℕ × Access)) (txn : Option ℕ) (ts : Timestamp) (longest : ℕ) (max_requests : ℕ) (guard : GuardState) : Type 0 where
   pub some : given ≢ []
   pub few : length given ≤ 256
   pub keys : IsKeyList given guard.walk.asked.keys
   pub txn_is : guard.walk.asked.txn ≡ txn
   pub ts_is : guard.walk.asked.ts ≡ ts
+  pub longest_is : guard.walk.asked.longest ≡ longest
   pub progress : guard.walk.progress ≡ at_start
   pub answers : guard.walk.answers ≡ []
   pub low : 0 < guard.walk.asked.number

@@ -1,11 +1,11 @@
 -- What follows from what the calls of a table tell.
-use Rattle.std.specs.Prelude.{ℕ, ◌≡◌, ◌≢◌, ◌+◌, ◌<◌, ◌≤◌, ◌⊎◌, List, length, map, Ok, Some, IsOk, slice_get, slice_index, slice_index_or}
+use Rattle.std.specs.Prelude.{ℕ, ◌≡◌, ◌≢◌, ◌+◌, ◌<◌, ◌≤◌, ◌⊎◌, Option, List, length, map, Ok, Some, IsOk, slice_get, slice_index, slice_index_or}
 use Rattle.std.specs.Global.{Vec}
 use mathlib.Core.List.{IsPrefix}
 use Rattle.std.specs.List.{AllByRecursion}
 use Rattle.lt_ids.specs.declared.request.Access.{Access}
 use Rattle.lt_ids.specs.declared.timestamp.Timestamp.{Timestamp}
-use Rattle.lt_plain.specs.declared.call.Reply.TheVariants.{Passed}
+use Rattle.lt_plain.specs.declared.call.Reply.TheVariants.{Passed, TooLong}
 use Rattle.lt_history.specs.declared.entry.Entry.{Entry}
 use Rattle.lt_words.specs.History.{part, IsLegalHistory}
 use Rattle.lt_words.specs.declared.event.Event.{Event}
@@ -15,7 +15,7 @@ use Rattle.lt_table.specs.declared.progress.Mode.TheVariants.{Free}
 use Rattle.lt_table.specs.declared.progress.Progress.{Progress}
 use Rattle.lt_table.specs.declared.scan.Scan.TheVariants.{Proceed}
 use Rattle.lt_table.specs.declared.scan.Poll.TheVariants.{Through}
-use Rattle.lt_table.specs.Machine.{Asked, heard, polled, scan_start}
+use Rattle.lt_table.specs.Machine.{Asked, heard, polled, scan_start, restarted, visit_call}
 use Rattle.lt_table.specs.Keys.{IsKeyList}
 use Rattle.lt_table.specs.Runs.{Step, answer_of}
 use Rattle.lt_table.specs.Reported.{shard_at, Reported, AreReported, steps_at, GuardState, IsScan}
@@ -52,6 +52,17 @@ pub record PassedEach (asked : Asked) (steps : List Step) (answers : List Answer
   pub answered : answers ≡ map answer_of steps
   pub passed : AllByRecursion (λ a. a.reply ≡ Passed) answers
 
+-- A queue was too long for a scan: its last step is the visit of the key at this place, which was answered so and stands
+-- in what was then seen. The request is at its list's start again, with nothing to wait for and as many waits as before.
+pub record IsTooLong (old new : GuardState) (place : ℕ) : Type 0 where
+  pub step : Step
+  pub access : Access
+  pub at_key : slice_get old.walk.asked.keys place ≡ Some (step.key, access)
+  pub call_is : step.call ≡ visit_call old.walk.asked old.walk.progress access
+  pub reply_is : step.answer.reply ≡ TooLong
+  pub stands : Stands old.pass new.pass step
+  pub start : new.walk.progress ≡ restarted old.walk.progress
+
 -- A scan from the list's start that answers Proceed has passed each key, where what is then seen is legal.
 abbrev pub ProceedHasPassedEach : Type 0
 ProceedHasPassedEach = (max_waits : ℕ) (old new : GuardState) (shards : ℕ) → IsLegalHistory shards new.pass.seen → old.walk.progress.place ≡ 0 → old.walk.progress.mode ≡ Free →
@@ -69,9 +80,9 @@ PlacesRise = (first second third last : Seer) (x y : Step) → Reported first se
 -- Guards that entered by different passes, or the one after what the other's pass had then seen, have different numbers,
 -- where what both passes have seen begins one legal history.
 abbrev pub NumbersOfGuardsDiffer : Type 0
-NumbersOfGuardsDiffer = (shards : ℕ) (whole : List Event) (old old' : Seer) (given given' : List (List ℕ × Access)) (txn txn' : ℕ) (ts ts' : Timestamp) (max max' : ℕ) (guard guard' : GuardState) →
+NumbersOfGuardsDiffer = (shards : ℕ) (whole : List Event) (old old' : Seer) (given given' : List (List ℕ × Access)) (txn txn' : Option ℕ) (ts ts' : Timestamp) (longest longest' max max' : ℕ) (guard guard' : GuardState) →
     IsLegalHistory shards whole → IsPrefix guard.pass.seen whole → IsPrefix guard'.pass.seen whole →
-    IsEntered old given txn ts max guard → IsEntered old' given' txn' ts' max' guard' →
+    IsEntered old given txn ts longest max guard → IsEntered old' given' txn' ts' longest' max' guard' →
     (old.number ≢ old'.number) ⊎ IsPrefix guard.pass.seen old'.seen → guard.walk.asked.number ≢ guard'.walk.asked.number
 
 -- A step that was reported to a pass which is handed back at the close stands at its place in the shard's final history.

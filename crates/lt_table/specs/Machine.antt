@@ -7,12 +7,12 @@ use Rattle.lt_ids.specs.declared.request.Access.{Access}
 use Rattle.lt_plain.specs.declared.call.Call.{Call}
 use Rattle.lt_plain.specs.declared.call.Call.TheVariants.{Visit, Leave}
 use Rattle.lt_plain.specs.declared.call.Reply.{Reply}
-use Rattle.lt_plain.specs.declared.call.Reply.TheVariants.{MustWait}
+use Rattle.lt_plain.specs.declared.call.Reply.TheVariants as replies
 use Rattle.lt_table.specs.declared.progress.Mode.{Mode}
-use Rattle.lt_table.specs.declared.progress.Mode.TheVariants.{Free, Awaiting, Let, Leaving}
+use Rattle.lt_table.specs.declared.progress.Mode.TheVariants.{Free, Awaiting, Let, Stopped, Leaving}
 use Rattle.lt_table.specs.declared.progress.Progress.{Progress}
 use Rattle.lt_table.specs.declared.progress.Ended.{Ended}
-use Rattle.lt_table.specs.declared.scan.Scan.TheVariants.{Proceed, Rescan, Waiting}
+use Rattle.lt_table.specs.declared.scan.Scan.TheVariants.{Proceed, Rescan, Waiting, TooLong}
 use Rattle.lt_table.specs.declared.scan.ScanError.{ScanError}
 use Rattle.lt_table.specs.declared.scan.ScanError.TheVariants as refused
 use Rattle.lt_table.specs.declared.scan.Poll.{Poll}
@@ -22,8 +22,9 @@ use Rattle.lt_table.specs.declared.scan.Poll.TheVariants as polls
 pub record Asked : Type 0 where
   pub keys : List (List ℕ × Access)
   pub number : ℕ
-  pub txn : ℕ
+  pub txn : Option ℕ
   pub ts : Timestamp
+  pub longest : ℕ
 
 -- Whoever waits is let through by the word that names its very wait.
 abbrev pub mode_heard : Mode → Bool → Mode
@@ -43,10 +44,15 @@ polled_in _ = polls.Idle
 abbrev pub polled : Progress → Poll
 polled p = polled_in p.mode
 
+-- at the list's start again, with nothing to wait for
+abbrev pub restarted : Progress → Progress
+restarted p = record p { place = 0; waited = false; mode = Free }
+
 abbrev pub scan_start_in : Mode → Progress → Result Progress ScanError
 scan_start_in Leaving p = Err refused.Leaving
 scan_start_in Awaiting p = Err refused.StillWaiting
 scan_start_in Let p = Ok (record p { place = p.place + 1; mode = Free })
+scan_start_in Stopped p = Ok (restarted p)
 scan_start_in Free p = Ok p
 
 -- where a scan begins, or why it is refused
@@ -61,6 +67,10 @@ abbrev pub is_awaiting : Mode → Bool
 is_awaiting Awaiting = true
 is_awaiting _ = false
 
+abbrev pub is_stopped : Mode → Bool
+is_stopped Stopped = true
+is_stopped _ = false
+
 -- A visit comes next: a key is left, and a wait.
 abbrev pub may_visit : ℕ → ℕ → Progress → Bool
 may_visit keys max_waits p = is_free p.mode && nat_lt p.place keys && nat_lt p.waits max_waits
@@ -69,16 +79,33 @@ may_visit keys max_waits p = is_free p.mode && nat_lt p.place keys && nat_lt p.w
 abbrev pub passed : Progress → Progress
 passed p = record p { place = p.place + 1 }
 
--- After a visit: it has to wait, or passes on to the next key.
-abbrev pub met : Progress → Bool → Progress
-met p must_wait = if must_wait then record p { waits = p.waits + 1; waited = true; mode = Awaiting } else passed p
+-- After a visit: it has to wait, or a queue is too long for it, or it passes on to the next key.
+abbrev pub met_as : Progress → Bool → Bool → Progress
+met_as p must_wait too_long =
+    if must_wait then record p { waits = p.waits + 1; waited = true; mode = Awaiting }
+    else if too_long then record p { mode = Stopped }
+    else passed p
 
--- How a scan ends where no visit comes next: the request waits, or its waits are used up, or the list is at its end
+abbrev pub is_wait : Reply → Bool
+is_wait replies.MustWait = true
+is_wait _ = false
+
+abbrev pub is_long : Reply → Bool
+is_long replies.TooLong = true
+is_long _ = false
+
+-- after a visit with this reply
+abbrev pub met : Progress → Reply → Progress
+met p reply = met_as p (is_wait reply) (is_long reply)
+
+-- How a scan ends where no visit comes next: the request waits, or a queue was too long for it, or its waits are used up,
+-- or the list is at its end
 abbrev pub scan_end : ℕ → Progress → Ended
 scan_end keys p =
     if is_awaiting p.mode then record { after = p; result = Ok (Waiting p.place) }
+    else if is_stopped p.mode then record { after = restarted p; result = Ok (TooLong p.place) }
     else if nat_lt p.place keys then record { after = p; result = Err refused.WaitsOut }
-    else record { after = record p { place = 0; waited = false }; result = Ok (if p.waited then Rescan else Proceed) }
+    else record { after = restarted p; result = Ok (if p.waited then Rescan else Proceed) }
 
 abbrev pub leave_start_in : Mode → Progress → Progress
 leave_start_in Leaving p = p
@@ -88,13 +115,9 @@ leave_start_in _ p = record p { place = 0; mode = Leaving }
 abbrev pub leave_start : Progress → Progress
 leave_start p = leave_start_in p.mode p
 
-abbrev pub is_wait : Reply → Bool
-is_wait MustWait = true
-is_wait _ = false
-
 -- the visit of a key: it carries the number of the wait that it would begin
 abbrev pub visit_call : Asked → Progress → Access → Call
-visit_call asked p access = Visit (record { number = asked.number; wait = p.waits + 1 }) asked.txn asked.ts access
+visit_call asked p access = Visit (record { number = asked.number; wait = p.waits + 1 }) asked.txn asked.ts access asked.longest
 
 -- the visit that comes next in a scan: at which key, and the call
 abbrev pub next_visit : Asked → ℕ → Progress → Option (List ℕ × Call)

@@ -11,7 +11,7 @@ use Rattle.lt_table.specs.declared.scan.ScanError.{ScanError}
 use Rattle.lt_table.specs.declared.scan.ScanError.TheVariants as refused
 use Rattle.lt_shard.specs.declared.answer.StepError.{StepError}
 use Rattle.lt_shard.specs.declared.answer.StepError.TheVariants as steps
-use Rattle.lt_table.specs.Machine.{Asked, heard, scan_start, leave_start, met, passed, scan_end, is_wait, next_visit, next_leave}
+use Rattle.lt_table.specs.Machine.{Asked, heard, scan_start, leave_start, met, passed, scan_end, next_visit, next_leave}
 
 -- a request on its way: what was asked, how far it is, and the answers of the latest scan or leave
 pub record WalkState : Type 0 where
@@ -32,7 +32,7 @@ answer_of x = x.answer
 abbrev pub Visits : Asked → ℕ → Progress → List Step → Progress → Type 0
 Visits asked max_waits p [] q = q ≡ p
 Visits asked max_waits p (x ∷ xs) q =
-    (next_visit asked max_waits p ≡ Some (x.key, x.call)) × Visits asked max_waits (met p (is_wait x.answer.reply)) xs q
+    (next_visit asked max_waits p ≡ Some (x.key, x.call)) × Visits asked max_waits (met p x.answer.reply) xs q
 
 -- what a refused step makes a scan answer
 abbrev pub of_step : StepError → ScanError

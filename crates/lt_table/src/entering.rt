@@ -48,18 +48,20 @@ impl Room {
 
 impl<N: Name, T: KeyTable> Table<N, T> {
     /// A request of these accesses enters through the pass, which its guard keeps until it leaves. Its number is drawn
-    /// last, so that a refusal for what was given or for memory draws none.
+    /// last, so that a refusal for what was given or for memory draws none. It is of the transaction or of none, and joins
+    /// fewer than `longest` requests that wait to write at a key alone; 0 is no bound.
     pub fn enter<R: Wait>(
         &self,
         rt: &R,
         alloc: Global,
         mut pass: Pass,
-        txn: TxnId,
+        txn: Option<TxnId>,
         ts: Timestamp,
         accesses: &[(Key, Access)],
+        longest: u32,
     ) -> Result<Guard, EnterRefused>
         requires pass { pass.of ≡ N.of }
-        ensures entered { IfOk result (λ guard. IsEntered pass accesses.now txn ts self.now.max_requests guard) }
+        ensures entered { IfOk result (λ guard. IsEntered pass accesses.now txn ts longest self.now.max_requests guard) }
         ensures refused { IfErr result (λ e. IsRefused e.error pass accesses.now self.now.max_requests e.pass) }
     {
         let max_requests = self.config.max_requests;
@@ -72,6 +74,7 @@ impl<N: Name, T: KeyTable> Table<N, T> {
             return Err(EnterRefused { pass, error });
         };
         let Room { keys, answers } = room;
-        Ok(Guard::new(pass, Walk::at_start(keys, answers, number, txn, ts)))
+        let walk = Walk::at_start(keys, answers, number, txn, ts, longest);
+        Ok(Guard::new(pass, walk))
     }
 }

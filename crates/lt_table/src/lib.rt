@@ -4,12 +4,14 @@
 //! it goes round this loop:
 //!
 //! ```text
-//! let mut guard = table.enter(rt, alloc, pass, txn, ts, &accesses)?;   // a number is drawn: who is first, goes first
+//! // A number is drawn: who is first, goes first.
+//! let mut guard = table.enter(rt, alloc, pass, Some(txn), ts, &accesses, longest)?;
 //! loop {
 //!     match table.scan(rt, &mut guard)? {                              // one visit of each key, in order
 //!         Scan::Proceed => break,                                      // no conflict: evaluate now
 //!         Scan::Rescan => {}                                           // it waited on the way: once more
 //!         Scan::Waiting(_) => while table.poll(&mut guard) != Poll::Through {}
+//!         Scan::TooLong(_) => return table.leave(rt, guard),           // as many wait there as it allows, or more
 //!     }
 //! }
 //! table.acquire_in(rt, &mut guard, &key, txn, ts)?;                    // the keys that it wrote are locked
@@ -21,6 +23,9 @@
 //! `Waiting`. A poll is one load of the pass's own status word, so a thread may poll as often as it likes, or do something
 //! else meanwhile. Keys are spread over 1 to 64 shards by the sum of their bytes; each shard has a lock of its own, and a
 //! call holds at most one of them, for one key step.
+//!
+//! A request may be of no transaction: no lock is ever reserved for it. And it may have a bound: where as many wait to
+//! write at a key, or more, its scan answers `TooLong` in place of joining them.
 //!
 //! **What is promised**, in any schedule: each key step that a call reports stands with its reply in one legal history of
 //! all steps, once, and after all that its caller had seen; a request that is read as let through was let through there; no

@@ -1,7 +1,7 @@
 //! Where a request stands in its key list, and what each event makes of it: a function for each definition.
 ghost use Rattle.std.specs.Prelude.{◌≡◌, ◌+◌, ◌<◌, ◌≤◌, ◌^◌, false};
 ghost use Rattle.lt_ids.specs.Ticket.{IsNumber, IsWaitNumber};
-ghost use Rattle.lt_table.specs.Machine.{heard, scan_start, leave_start, may_visit, met, passed, scan_end, polled};
+ghost use Rattle.lt_table.specs.Machine.{heard, scan_start, leave_start, may_visit, met_as, passed, restarted, scan_end, polled};
 
 use crate::scan::{Poll, Scan, ScanError};
 use lt_ids::Ticket;
@@ -15,6 +15,8 @@ pub enum Mode {
     Awaiting,
     /// It waited, and was let through.
     Let,
+    /// It met a queue that is too long for it. A scan that comes to this ends at once, and leaves it free.
+    Stopped,
     /// It gives up its stands.
     Leaving,
 }
@@ -85,6 +87,7 @@ pub(crate) fn scan_start(progress: Progress) -> Result<Progress, ScanError>
                 ..next
             })
         }
+        Mode::Stopped => Ok(restarted(progress)),
         Mode::Free => Ok(progress),
     }
 }
@@ -96,17 +99,22 @@ pub(crate) fn may_visit(keys: usize, max_waits: u32, progress: Progress) -> bool
     progress.mode == Mode::Free && progress.place < keys && progress.waits < max_waits
 }
 
-/// After a visit with this answer.
-pub(crate) fn met(progress: Progress, must_wait: bool) -> Progress
+/// After a visit: it has to wait, or a queue is too long for it, or it passes.
+pub(crate) fn met_as(progress: Progress, must_wait: bool, too_long: bool) -> Progress
     requires place { progress.place < 2 ^ 63 }
     requires waits { progress.waits < 2 ^ 24 }
-    ensures { result ≡ met progress must_wait }
+    ensures { result ≡ met_as progress must_wait too_long }
 {
     if must_wait {
         Progress {
             waits: progress.waits + 1,
             waited: true,
             mode: Mode::Awaiting,
+            ..progress
+        }
+    } else if too_long {
+        Progress {
+            mode: Mode::Stopped,
             ..progress
         }
     } else {
@@ -125,6 +133,16 @@ pub(crate) fn passed(progress: Progress) -> Progress
     }
 }
 
+/// At the list's start again, with nothing to wait for.
+fn restarted(progress: Progress) -> Progress
+    ensures { result ≡ restarted progress }
+{
+    Progress {
+        waits: progress.waits,
+        ..start()
+    }
+}
+
 /// How a scan ends where no visit comes next.
 pub(crate) fn scan_end(keys: usize, progress: Progress) -> Ended
     ensures { result ≡ scan_end keys progress }
@@ -134,6 +152,11 @@ pub(crate) fn scan_end(keys: usize, progress: Progress) -> Ended
             after: progress,
             result: Ok(Scan::Waiting(progress.place)),
         }
+    } else if progress.mode == Mode::Stopped {
+        Ended {
+            after: restarted(progress),
+            result: Ok(Scan::TooLong(progress.place)),
+        }
     } else if progress.place < keys {
         Ended {
             after: progress,
@@ -141,11 +164,7 @@ pub(crate) fn scan_end(keys: usize, progress: Progress) -> Ended
         }
     } else {
         Ended {
-            after: Progress {
-                place: 0,
-                waited: false,
-                ..progress
-            },
+            after: restarted(progress),
             result: Ok(if progress.waited {
                 Scan::Rescan
             } else {

@@ -3,8 +3,9 @@ ghost use Rattle.std.specs.Prelude.{◌≡◌, ◌≢◌, ◌<◌, ℕ, length, 
 ghost use Rattle.lt_ids.specs.Ticket.{IsNumber};
 ghost use Rattle.lt_words.specs.History.{LetIn};
 ghost use Rattle.lt_table.specs.Reported.{IsScan, IsPoll, GuardStays, wait_of};
-ghost use Rattle.lt_table.specs.declared.scan.Scan.TheVariants.{Waiting};
+ghost use Rattle.lt_table.specs.declared.scan.Scan.TheVariants.{Waiting, TooLong};
 ghost use Rattle.lt_table.specs.Sound.{IsSound};
+ghost use Rattle.lt_table.specs.Laws.{IsTooLong};
 
 use crate::guard::Guard;
 use crate::progress::Mode;
@@ -47,7 +48,8 @@ impl<N: Name, T: KeyTable> Table<N, T> {
     }
 
     /// Visits the request's keys, one after the other, each under the lock of its shard. A request that waits makes
-    /// one load before it takes a lock: where it was not let through it is refused; else it goes on at the next key.
+    /// one load before it takes a lock: where it was not let through it is refused; else it goes on at the next key. At a
+    /// queue that is too long for it it goes back to the start of its list, and a further scan begins anew.
     pub fn scan<R: Wait>(&self, rt: &R, guard: &mut Guard) -> Result<Scan, ScanError>
         requires pass { guard.old.pass.of ≡ N.of }
         ensures scan { IsScan self.now.max_waits guard.old guard.new result }
@@ -55,6 +57,9 @@ impl<N: Name, T: KeyTable> Table<N, T> {
         ensures went_on { guard.old.walk.progress.mode ≡ Mode.Awaiting → result ≢ Err ScanError.StillWaiting → LetIn guard.new.pass.seen guard.new.pass.number (wait_of guard.old.walk) }
         // It waits at a key of its list.
         ensures waiting { (place : ℕ) → result ≡ Ok (Waiting place) → place < length guard.new.walk.asked.keys }
+        // A queue was too long for it at a key of its list, and it stands at the start again.
+        ensures stopped { (place : ℕ) → result ≡ Ok (TooLong place) → place < length guard.new.walk.asked.keys }
+        ensures too_long { (place : ℕ) → result ≡ Ok (TooLong place) → IsTooLong guard.old guard.new place }
         ensures stays { GuardStays guard.old guard.new }
     {
         let result = self.visit_on(rt, guard);

@@ -1,11 +1,12 @@
 ghost use Rattle.std.specs.Prelude.{◌≡◌, ◌≢◌, ◌+◌, ◌<◌, ◌≤◌, ◌^◌, ◌∷◌, ◌++◌, [], true, false, length, IfOk, IfErr, OnErr, Some, slice_get, nat_lt, vec_len, vec_capacity};
 ghost use Rattle.std.specs.Option.{option_map};
 ghost use Rattle.lt_ids.specs.Ticket.{IsNumber, IsWaitNumber};
-ghost use Rattle.lt_table.specs.Machine.{heard, scan_start, leave_start, may_visit, met, passed, scan_end, polled, is_wait, visit_call};
+ghost use Rattle.lt_table.specs.Machine.{heard, scan_start, leave_start, may_visit, met, passed, scan_end, polled, visit_call};
 ghost use Rattle.lt_table.specs.Runs.{leave_answers};
 
 use crate::progress::{
-    Mode, Progress, heard, leave_start, may_visit, met, passed, polled, scan_end, scan_start, start,
+    Mode, Progress, heard, leave_start, may_visit, met_as, passed, polled, scan_end, scan_start,
+    start,
 };
 use crate::scan::{Poll, Scan, ScanError};
 use lt_ids::{Access, Key, Ticket, Timestamp, TxnId};
@@ -19,8 +20,9 @@ use std::marker::Model;
 pub(crate) struct Walk {
     keys: Vec<(Key, Access)>,
     number: u64,
-    txn: TxnId,
+    txn: Option<TxnId>,
     ts: Timestamp,
+    longest: u32,
     progress: Progress,
     /// With room for one answer for each key.
     answers: Vec<Answer>,
@@ -35,7 +37,7 @@ impl Model for Walk {
 
     ghost Value = { WalkState };
 
-    ghost view = { λ g. record { asked = record { keys = g.keys.items; number = g.number; txn = g.txn; ts = g.ts }; progress = g.progress; answers = g.answers.items } };
+    ghost view = { λ g. record { asked = record { keys = g.keys.items; number = g.number; txn = g.txn; ts = g.ts; longest = g.longest }; progress = g.progress; answers = g.answers.items } };
 
     ghost invariant = { λ g. IsNumber g.number × (length g.keys.items < 2 ^ 63) × (length g.keys.items ≤ vec_capacity g.answers) × IsSound (length g.keys.items) g.progress (length g.answers.items) };
 }
@@ -48,13 +50,14 @@ impl Walk {
         keys: Vec<(Key, Access)>,
         answers: Vec<Answer>,
         number: u64,
-        txn: TxnId,
+        txn: Option<TxnId>,
         ts: Timestamp,
+        longest: u32,
     ) -> Walk
         requires number { IsNumber number }
         requires empty { answers.items ≡ [] }
         requires room { length keys.items ≤ vec_capacity answers }
-        ensures asked { result.asked ≡ record { keys = keys.items; number = number; txn = txn; ts = ts } }
+        ensures asked { result.asked ≡ record { keys = keys.items; number = number; txn = txn; ts = ts; longest = longest } }
         ensures progress { result.progress ≡ record { place = 0; waits = 0; waited = false; mode = Mode.Free } }
         ensures answers { result.answers ≡ [] }
     {
@@ -63,6 +66,7 @@ impl Walk {
             number,
             txn,
             ts,
+            longest,
             progress: start(),
             answers,
         }
@@ -146,6 +150,7 @@ impl Walk {
             txn: self.txn,
             ts: self.ts,
             access: self.keys[self.progress.place].1,
+            longest: self.longest,
         }
     }
 
@@ -155,16 +160,16 @@ impl Walk {
         requires waits { self.old.progress.waits + 1 < 2 ^ 24 }
         requires free { self.old.progress.mode ≡ Mode.Free }
         requires room { length self.old.answers ≤ self.old.progress.place }
-        ensures { self.new ≡ record self.old { progress = met self.old.progress (is_wait answer.reply); answers = self.old.answers ++ answer ∷ [] } }
+        ensures { self.new ≡ record self.old { progress = met self.old.progress answer.reply; answers = self.old.answers ++ answer ∷ [] } }
     {
         let must_wait = matches!(&answer.reply, Reply::MustWait);
-        self.progress = met(self.progress, must_wait);
+        let too_long = matches!(&answer.reply, Reply::TooLong);
+        self.progress = met_as(self.progress, must_wait, too_long);
         put(&mut self.answers, answer);
     }
 
     /// The scan ends, where no visit comes next.
     pub(crate) fn end_scan(&mut self) -> Result<Scan, ScanError>
-        requires { self.old.progress.mode ≢ Mode.Leaving }
         ensures result { result ≡ (scan_end (length self.old.asked.keys) self.old.progress).result }
         ensures after { self.new ≡ record self.old { progress = (scan_end (length self.old.asked.keys) self.old.progress).after } }
     {

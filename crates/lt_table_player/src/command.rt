@@ -5,10 +5,12 @@ use lt_table::{EnterError, Poll, Scan, ScanError, StepError};
 /// A call of the table by one pass. A key is named by a byte (`key`); times have the logical part 0.
 #[derive(Drop)]
 pub enum Command {
+    /// A request of this transaction or of none enters, with this bound; 0 is none.
     Enter {
-        txn: u64,
+        txn: Option<u64>,
         wall: u64,
         accesses: Vec<(u8, Access)>,
+        longest: u32,
     },
     /// Transaction 1 enters at time 0 to write so many keys, of which the first ones are named twice.
     EnterMany {

@@ -87,9 +87,18 @@ fn named(alloc: Global, txn: u64, wall: u64, key: u8) -> Option<Names> {
 /// A request that is to enter.
 #[derive(Drop)]
 struct Entry {
-    txn: u64,
+    txn: Option<u64>,
     wall: u64,
     keys: Vec<(Key, Access)>,
+    longest: u32,
+}
+
+/// The transaction of this number, or none. Nothing where the number is of none.
+fn owner(number: Option<u64>) -> Option<Option<TxnId>> {
+    match number {
+        None => Some(None),
+        Some(number) => Some(Some(TxnId::new(number)?)),
+    }
 }
 
 /// The request enters.
@@ -102,12 +111,12 @@ fn enter<N: Name, T: KeyTable, R: Wait>(
 ) -> Option<(Seat<N>, Said)>
     requires { pass.of ≡ N.of }
 {
-    let txn = TxnId::new(entry.txn)?;
+    let txn = owner(entry.txn)?;
     let ts = Timestamp {
         wall: entry.wall,
         logical: 0,
     };
-    match table.enter(rt, alloc, pass, txn, ts, &entry.keys) {
+    match table.enter(rt, alloc, pass, txn, ts, &entry.keys, entry.longest) {
         Ok(guard) => {
             let number = guard.number();
             Some((Seat::open(guard), saying(Told::Entered(number))))
@@ -195,15 +204,18 @@ fn entry_of(alloc: Global, command: &Command) -> Option<Option<Entry>> {
             txn,
             wall,
             accesses,
+            longest,
         } => Some(Some(Entry {
             txn: *txn,
             wall: *wall,
             keys: keys_of(alloc, accesses)?,
+            longest: *longest,
         })),
         Command::EnterMany { keys, twice } => Some(Some(Entry {
-            txn: 1,
+            txn: Some(1),
             wall: 0,
             keys: many_keys(alloc, *keys, *twice)?,
+            longest: 0,
         })),
         _ => Some(None),
     }

@@ -55,9 +55,10 @@ fn work<N: Name, T: KeyTable, R: Wait>(
     let mut accesses = Vec::new(alloc);
     accesses.push((key, Access::Read)).ok()?;
     let enter = Command::Enter {
-        txn,
+        txn: Some(txn),
         wall: 1,
         accesses,
+        longest: 0,
     };
     let lines = Vec::new(alloc);
     let mut worked = one(rt, alloc, table, Worked { seat, lines }, &enter)?;

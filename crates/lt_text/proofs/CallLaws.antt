@@ -1,20 +1,18 @@
 -- A call that is read was written so, and each call is read again.
-use Rattle.std.proofs.Common.{◌≡◌, ℕ, ◌^◌, ◌⊎◌, Bool, true, false, cond, List, [], ◌∷◌, ◌++◌, Option, Some, None, refl, ap, subst, ◌∙◌, inl, inr, arith}
+use Rattle.std.proofs.Common.{◌≡◌, ℕ, zero, suc, ◌^◌, ◌<◌, ◌≤◌, ◌⊎◌, Bool, true, false, cond, List, [], ◌∷◌, ◌++◌, Option, Some, None, refl, sym, ap, subst, ◌∙◌, inl, inr, arith}
 use Rattle.std.specs.Prelude.{codes}
 use Rattle.std.specs.Str.{bytes_eq}
 use Rattle.std.specs.Fmt.{decimal}
+use Rattle.std.proofs.lemmas.Bool.{ne_eqb}
 use Rattle.std.proofs.lemmas.Option.{some_pair_parts}
 use Rattle.std.proofs.lemmas.Slice.Eq.{bytes_eq-Decides}
 use Rattle.lt_plain.specs.declared.call.Call.{Call}
 use Rattle.lt_plain.specs.declared.call.Call.TheVariants.{Visit, Acquire, Update, Finish, Leave, Look}
 use Rattle.lt_text.specs.Maybe.{◌>>=◌}
-use Rattle.lt_text.specs.Fields.{ticket_word, time_word, access_word, number_within, ticket_of, time_of, access_of}
-use Rattle.lt_text.specs.Calls.{call_words, IsCall, field_at, visit_at, acquire_at, update_at, finish_at, leave_at, look_at, call_of, call_at}
+use Rattle.lt_text.specs.Fields.{ticket_word, time_word, access_word, owner_word, bound_word, bound_words, number_within, ticket_of, time_of, access_of, owner_of, is_bound, bound_of}
+use Rattle.lt_text.specs.Calls.{call_words, IsCall, AreBoundless, field_at, bound_at, visit_at, acquire_at, update_at, finish_at, leave_at, look_at, call_of, call_at}
 use Rattle.lt_text.proofs.Plain.{ArePlain}
-use Rattle.lt_text.proofs.FieldLaws.{bind_some, IsField, IsWithin, number_field, ticket_field, time_field, access_field, field_takes, field_again}
-
-pub txn_field : IsField ℕ (number_within 1 (2 ^ 64)) (λ n. decimal n) (IsWithin 1 (2 ^ 64))
-txn_field = number_field 1 (2 ^ 64) (omega arith)
+use Rattle.lt_text.proofs.FieldLaws.{bind_some, IsField, IsWithin, number_field, txn_field, owner_field, bound_field, ticket_field, time_field, access_field, field_takes, field_again}
 
 number_of_request : IsField ℕ (number_within 1 (2 ^ 40)) (λ n. decimal n) (IsWithin 1 (2 ^ 40))
 number_of_request = number_field 1 (2 ^ 40) (omega arith)
@@ -22,24 +20,82 @@ number_of_request = number_field 1 (2 ^ 40) (omega arith)
 abbrev Takes : List ℕ → List (List ℕ) → Call → List (List ℕ) → Type 0
 Takes name words c rest = (name ∷ words ≡ call_words c ++ rest) × IsCall c
 
+pub chosen : {A : Type 0} (b : Bool) (x y z : A) → cond b x y ≡ z → ((b ≡ true) × (x ≡ z)) ⊎ ((b ≡ false) × (y ≡ z))
+chosen true x y z e = inl (refl, e)
+chosen false x y z e = inr (refl, e)
+
+-- ---- a bound, where one stands
+
+none_or_some : (n : ℕ) → (n ≡ 0) ⊎ (1 ≤ n)
+none_or_some zero = inl refl
+none_or_some (suc n) = inr (omega arith)
+
+some_bound : (n : ℕ) → 1 ≤ n → bound_words n ≡ bound_word n ∷ []
+some_bound n h = rw (ne_eqb n 0 (λ e. absurd (omega arith))) refl
+
+bound_takes : (words : List (List ℕ)) (n : ℕ) (rest : List (List ℕ)) → bound_at words ≡ Some (n, rest) → (words ≡ bound_words n ++ rest) × (n < 2 ^ 32)
+unfolding bound_at
+bound_takes [] n rest e =
+    let p = some_pair_parts 0 n [] rest e in
+    subst (λ (m : ℕ). ([] ≡ bound_words m ++ rest) × (m < 2 ^ 32)) p.0 (p.1, omega arith)
+bound_takes (word ∷ words) n rest e =
+    elim (chosen (is_bound word) (bound_of word >>= λ longest. Some (longest, words)) (Some (0, word ∷ words)) (Some (n, rest)) e) [
+      | inl q ↦
+          let a = bind_some (bound_of word) (λ longest. Some (longest, words)) (n, rest) q.1 in
+          let p = some_pair_parts a.0 n words rest a.2 in
+          let t = bound_field.takes word a.0 a.1 in
+          let all : word ∷ words ≡ bound_words a.0 ++ rest =
+          ap (λ (w : List ℕ). w ∷ words) t.0 ∙ (ap (λ (ws : List (List ℕ)). bound_word a.0 ∷ ws) p.1 ∙ ap (λ (ws : List (List ℕ)). ws ++ rest) (sym (some_bound a.0 t.1.0))) in
+          subst (λ (m : ℕ). (word ∷ words ≡ bound_words m ++ rest) × (m < 2 ^ 32)) p.0 (all, t.1.1)
+      | inr q ↦
+          let p = some_pair_parts 0 n (word ∷ words) rest q.1 in
+          subst (λ (m : ℕ). (word ∷ words ≡ bound_words m ++ rest) × (m < 2 ^ 32)) p.0 (p.1, omega arith)
+    ]
+
+none_again : (rest : List (List ℕ)) → AreBoundless rest → bound_at rest ≡ Some (0, rest)
+unfolding bound_at
+none_again [] h = refl
+none_again (word ∷ words) h = rw h refl
+
+some_again : (n : ℕ) (rest : List (List ℕ)) → 1 ≤ n → n < 2 ^ 32 → bound_at (bound_word n ∷ rest) ≡ Some (n, rest)
+unfolding bound_at
+some_again n rest low high = rw (bound_field.again n (low, high)) refl
+
+bound_again : (n : ℕ) (rest : List (List ℕ)) → n < 2 ^ 32 → AreBoundless rest → bound_at (bound_words n ++ rest) ≡ Some (n, rest)
+bound_again n rest lt h =
+    elim (none_or_some n) [
+      | inl none ↦ subst (λ (m : ℕ). bound_at (bound_words m ++ rest) ≡ Some (m, rest)) (sym none) (none_again rest h)
+      | inr some ↦ ap (λ (ws : List (List ℕ)). bound_at (ws ++ rest)) (some_bound n some) ∙ some_again n rest some lt
+    ]
+
+bound_plain : (n : ℕ) → n < 2 ^ 32 → ArePlain (bound_words n)
+bound_plain n lt =
+    elim (none_or_some n) [
+      | inl none ↦ subst (λ (m : ℕ). ArePlain (bound_words m)) (sym none) tt
+      | inr some ↦ subst ArePlain (sym (some_bound n some)) (bound_field.plain n (some, lt), tt)
+    ]
+
 visit_takes : (words : List (List ℕ)) (c : Call) (rest : List (List ℕ)) → visit_at words ≡ Some (c, rest) → Takes (codes "visit") words c rest
 unfolding visit_at
 visit_takes words c rest e =
-    let a = bind_some (field_at ticket_of words) (λ ticket. field_at (number_within 1 (2 ^ 64)) ticket.1 >>= λ txn. field_at time_of txn.1 >>= λ ts. field_at access_of ts.1 >>= λ access. Some (Visit ticket.0 txn.0 ts.0 access.0, access.1)) (c, rest) e in
-    let b = bind_some (field_at (number_within 1 (2 ^ 64)) a.0.1) (λ txn. field_at time_of txn.1 >>= λ ts. field_at access_of ts.1 >>= λ access. Some (Visit a.0.0 txn.0 ts.0 access.0, access.1)) (c, rest) a.2 in
-    let d = bind_some (field_at time_of b.0.1) (λ ts. field_at access_of ts.1 >>= λ access. Some (Visit a.0.0 b.0.0 ts.0 access.0, access.1)) (c, rest) b.2 in
-    let f = bind_some (field_at access_of d.0.1) (λ access. Some (Visit a.0.0 b.0.0 d.0.0 access.0, access.1)) (c, rest) d.2 in
-    let p = some_pair_parts (Visit a.0.0 b.0.0 d.0.0 f.0.0) c f.0.1 rest f.2 in
+    let a = bind_some (field_at ticket_of words) (λ ticket. field_at owner_of ticket.1 >>= λ txn. field_at time_of txn.1 >>= λ ts. field_at access_of ts.1 >>= λ access. bound_at access.1 >>= λ longest. Some (Visit ticket.0 txn.0 ts.0 access.0 longest.0, longest.1)) (c, rest) e in
+    let b = bind_some (field_at owner_of a.0.1) (λ txn. field_at time_of txn.1 >>= λ ts. field_at access_of ts.1 >>= λ access. bound_at access.1 >>= λ longest. Some (Visit a.0.0 txn.0 ts.0 access.0 longest.0, longest.1)) (c, rest) a.2 in
+    let d = bind_some (field_at time_of b.0.1) (λ ts. field_at access_of ts.1 >>= λ access. bound_at access.1 >>= λ longest. Some (Visit a.0.0 b.0.0 ts.0 access.0 longest.0, longest.1)) (c, rest) b.2 in
+    let f = bind_some (field_at access_of d.0.1) (λ access. bound_at access.1 >>= λ longest. Some (Visit a.0.0 b.0.0 d.0.0 access.0 longest.0, longest.1)) (c, rest) d.2 in
+    let g = bind_some (bound_at f.0.1) (λ longest. Some (Visit a.0.0 b.0.0 d.0.0 f.0.0 longest.0, longest.1)) (c, rest) f.2 in
+    let p = some_pair_parts (Visit a.0.0 b.0.0 d.0.0 f.0.0 g.0.0) c g.0.1 rest g.2 in
     let t = field_takes ticket_field words a.0.0 a.0.1 a.1 in
-    let u = field_takes txn_field a.0.1 b.0.0 b.0.1 b.1 in
+    let u = field_takes owner_field a.0.1 b.0.0 b.0.1 b.1 in
     let v = field_takes time_field b.0.1 d.0.0 d.0.1 d.1 in
     let w = field_takes access_field d.0.1 f.0.0 f.0.1 f.1 in
-    let all : words ≡ ticket_word a.0.0 ∷ decimal b.0.0 ∷ time_word d.0.0 ∷ access_word f.0.0 ∷ rest =
+    let x = bound_takes f.0.1 g.0.0 g.0.1 g.1 in
+    let front : List (List ℕ) → List (List ℕ) = λ ws. ticket_word a.0.0 ∷ owner_word b.0.0 ∷ time_word d.0.0 ∷ access_word f.0.0 ∷ ws in
+    let all : words ≡ front (bound_words g.0.0 ++ rest) =
     t.0 ∙ (ap (λ (ws : List (List ℕ)). ticket_word a.0.0 ∷ ws) u.0
-    ∙ (ap (λ (ws : List (List ℕ)). ticket_word a.0.0 ∷ decimal b.0.0 ∷ ws) v.0
-    ∙ (ap (λ (ws : List (List ℕ)). ticket_word a.0.0 ∷ decimal b.0.0 ∷ time_word d.0.0 ∷ ws) w.0
-    ∙ ap (λ (ws : List (List ℕ)). ticket_word a.0.0 ∷ decimal b.0.0 ∷ time_word d.0.0 ∷ access_word f.0.0 ∷ ws) p.1))) in
-    subst (λ (x : Call). Takes (codes "visit") words x rest) p.0 (ap (λ (ws : List (List ℕ)). codes "visit" ∷ ws) all, (t.1, u.1, v.1))
+    ∙ (ap (λ (ws : List (List ℕ)). ticket_word a.0.0 ∷ owner_word b.0.0 ∷ ws) v.0
+    ∙ (ap (λ (ws : List (List ℕ)). ticket_word a.0.0 ∷ owner_word b.0.0 ∷ time_word d.0.0 ∷ ws) w.0
+    ∙ (ap front x.0 ∙ ap (λ (ws : List (List ℕ)). front (bound_words g.0.0 ++ ws)) p.1)))) in
+    subst (λ (y : Call). Takes (codes "visit") words y rest) p.0 (ap (λ (ws : List (List ℕ)). codes "visit" ∷ ws) all, (t.1, u.1, v.1, x.1))
 
 acquire_takes : (words : List (List ℕ)) (c : Call) (rest : List (List ℕ)) → acquire_at words ≡ Some (c, rest) → Takes (codes "acquire") words c rest
 unfolding acquire_at
@@ -95,10 +151,6 @@ look_takes words c rest e =
     let a = one_takes (codes "look") (2 ^ 40) number_of_request (λ n. Look n) words c rest e in
     subst (λ (x : Call). Takes (codes "look") words x rest) a.3 (ap (λ (ws : List (List ℕ)). codes "look" ∷ ws) a.1, a.2)
 
-pub chosen : {A : Type 0} (b : Bool) (x y z : A) → cond b x y ≡ z → ((b ≡ true) × (x ≡ z)) ⊎ ((b ≡ false) × (y ≡ z))
-chosen true x y z e = inl (refl, e)
-chosen false x y z e = inr (refl, e)
-
 named : (name word : List ℕ) (words : List (List ℕ)) (c : Call) (rest : List (List ℕ)) → bytes_eq name word ≡ true → Takes word words c rest → Takes name words c rest
 named name word words c rest e t = (ap (λ (w : List ℕ). w ∷ words) ((bytes_eq-Decides name word).0 e) ∙ t.0, t.1)
 
@@ -132,18 +184,19 @@ pub call_takes : (words : List (List ℕ)) (c : Call) (rest : List (List ℕ)) �
 call_takes [] c rest e = absurd (no_none (c, rest) e)
 call_takes (name ∷ words) c rest e = call_of_takes name words c rest e
 
-pub call_again : (c : Call) (rest : List (List ℕ)) → IsCall c → call_at (call_words c ++ rest) ≡ Some (c, rest)
+pub call_again : (c : Call) (rest : List (List ℕ)) → IsCall c → AreBoundless rest → call_at (call_words c ++ rest) ≡ Some (c, rest)
 unfolding call_of visit_at acquire_at update_at finish_at leave_at look_at
-call_again (Visit ticket txn ts access) rest h =
-    rw (field_again ticket_field ticket (decimal txn ∷ time_word ts ∷ access_word access ∷ rest) h.0, field_again txn_field txn (time_word ts ∷ access_word access ∷ rest) h.1, field_again time_field ts (access_word access ∷ rest) h.2, field_again access_field access rest tt) refl
-call_again (Acquire txn ts) rest h = rw (field_again txn_field txn (time_word ts ∷ rest) h.0, field_again time_field ts rest h.1) refl
-call_again (Update txn ts) rest h = rw (field_again txn_field txn (time_word ts ∷ rest) h.0, field_again time_field ts rest h.1) refl
-call_again (Finish txn) rest h = rw (field_again txn_field txn rest h) refl
-call_again (Leave number) rest h = rw (field_again number_of_request number rest h) refl
-call_again (Look number) rest h = rw (field_again number_of_request number rest h) refl
+call_again (Visit ticket txn ts access longest) rest h b =
+    let more : List (List ℕ) = bound_words longest ++ rest in
+    rw (field_again ticket_field ticket (owner_word txn ∷ time_word ts ∷ access_word access ∷ more) h.0, field_again owner_field txn (time_word ts ∷ access_word access ∷ more) h.1, field_again time_field ts (access_word access ∷ more) h.2, field_again access_field access more tt, bound_again longest rest h.3 b) refl
+call_again (Acquire txn ts) rest h b = rw (field_again txn_field txn (time_word ts ∷ rest) h.0, field_again time_field ts rest h.1) refl
+call_again (Update txn ts) rest h b = rw (field_again txn_field txn (time_word ts ∷ rest) h.0, field_again time_field ts rest h.1) refl
+call_again (Finish txn) rest h b = rw (field_again txn_field txn rest h) refl
+call_again (Leave number) rest h b = rw (field_again number_of_request number rest h) refl
+call_again (Look number) rest h b = rw (field_again number_of_request number rest h) refl
 
 pub call_plain : (c : Call) → IsCall c → ArePlain (call_words c)
-call_plain (Visit ticket txn ts access) h = (refl, (ticket_field.plain ticket h.0, (txn_field.plain txn h.1, (time_field.plain ts h.2, (access_field.plain access tt, tt)))))
+call_plain (Visit ticket txn ts access longest) h = (refl, (ticket_field.plain ticket h.0, (owner_field.plain txn h.1, (time_field.plain ts h.2, (access_field.plain access tt, bound_plain longest h.3)))))
 call_plain (Acquire txn ts) h = (refl, (txn_field.plain txn h.0, (time_field.plain ts h.1, tt)))
 call_plain (Update txn ts) h = (refl, (txn_field.plain txn h.0, (time_field.plain ts h.1, tt)))
 call_plain (Finish txn) h = (refl, (txn_field.plain txn h, tt))

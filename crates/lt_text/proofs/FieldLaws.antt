@@ -1,11 +1,12 @@
 -- Each word inside a line: what is read was written so, what is written is read again, and it is plain.
-use Rattle.std.proofs.Common.{◌≡◌, ℕ, ◌^◌, ◌<◌, ◌≤◌, ◌⊎◌, ◌&&◌, Bool, true, false, cond, ltb, leb, eqb, List, [], ◌∷◌, ◌++◌, Option, Some, None, refl, ap, subst, ◌∙◌, inl, inr, arith}
+use Rattle.std.proofs.Common.{◌≡◌, ℕ, ◌^◌, ◌<◌, ◌≤◌, ◌⊎◌, ◌&&◌, Bool, true, false, cond, ltb, leb, eqb, List, [], ◌∷◌, ◌++◌, take, drop, Option, Some, None, refl, sym, ap, subst, ◌∙◌, inl, inr, arith}
 use Rattle.std.specs.Prelude.{codes}
 use Rattle.std.specs.Str.{bytes_eq}
 use Rattle.std.specs.Fmt.{decimal}
 use Rattle.std.specs.List.{All}
-use Rattle.std.proofs.lemmas.Bool.{and_parts, and_from, ltb-true, lt-ltb, leb-true, le-leb}
+use Rattle.std.proofs.lemmas.Bool.{and_parts, and_from, ltb-true, lt-ltb, leb-true, le-leb, ne_eqb}
 use Rattle.std.proofs.lemmas.Option.{cond_some, some_pair_parts, same_Some}
+use Rattle.std.proofs.lemmas.List.{take-append-drop}
 use Rattle.std.proofs.lemmas.Slice.Eq.{bytes_eq-Decides}
 use Rattle.lt_ids.specs.Ticket.{Wait}
 use Rattle.lt_ids.specs.declared.timestamp.Timestamp.{Timestamp}
@@ -14,7 +15,7 @@ use Rattle.lt_ids.specs.declared.request.Access.TheVariants.{Read, Write}
 use Rattle.lt_text.specs.Maybe.{◌>>=◌}
 use Rattle.lt_text.specs.Words.{cut_of}
 use Rattle.lt_text.specs.Number.{number_of}
-use Rattle.lt_text.specs.Fields.{pair_word, ticket_word, time_word, access_word, IsTicket, IsTime, number_within, pair_of, ticket_of, time_of, access_of}
+use Rattle.lt_text.specs.Fields.{pair_word, ticket_word, time_word, access_word, owner_word, bound_word, IsTicket, IsTime, IsOwner, number_within, pair_of, ticket_of, time_of, access_of, owner_of, is_bound, bound_of}
 use Rattle.lt_text.specs.Calls.{field_at}
 use Rattle.lt_text.specs.Replies.{held_word, held_of}
 use Rattle.lt_text.proofs.Numbers.{number_of_is, number_of-decimal}
@@ -138,6 +139,69 @@ held_plain false u = refl
 
 pub held_field : IsField Bool held_of held_word (λ h. Unit {0})
 held_field = record { takes = held_takes; again = held_again; plain = held_plain }
+
+-- ---- a transaction or none, and a bound
+
+pub txn_field : IsField ℕ (number_within 1 (2 ^ 64)) (λ n. decimal n) (IsWithin 1 (2 ^ 64))
+txn_field = number_field 1 (2 ^ 64) (omega arith)
+
+no_owner : (b : Bool) (o : Option (Option ℕ)) (x : Option ℕ) → cond b (Some None) o ≡ Some x → ((b ≡ true) × (None ≡ x)) ⊎ (o ≡ Some x)
+no_owner true o x e = inl (refl, same_Some None x e)
+no_owner false o x e = inr e
+
+owner_takes : (word : List ℕ) (x : Option ℕ) → owner_of word ≡ Some x → (word ≡ owner_word x) × IsOwner x
+unfolding owner_of
+owner_takes word x e =
+    elim (no_owner (bytes_eq word (codes "-")) (number_within 1 (2 ^ 64) word >>= λ txn. Some (Some txn)) x e) [
+      | inl p ↦ subst (λ (y : Option ℕ). (word ≡ owner_word y) × IsOwner y) p.1 ((bytes_eq-Decides word (codes "-")).0 p.0, tt)
+      | inr p ↦
+          let a = bind_some (number_within 1 (2 ^ 64) word) (λ txn. Some (Some txn)) x p in
+          subst (λ (y : Option ℕ). (word ≡ owner_word y) × IsOwner y) (same_Some (Some a.0) x a.2) (txn_field.takes word a.0 a.1)
+    ]
+
+-- The word of a transaction is not that of none.
+no_hyphen : (ds : List ℕ) → above 47 ds ≡ true → bytes_eq ds (codes "-") ≡ false
+no_hyphen [] p = refl
+no_hyphen (d ∷ ds) p =
+    let lt = ltb-true 47 d (and_parts (ltb 47 d) (above 47 ds) p).0 in
+    rw (ne_eqb d 45 (λ e. absurd (omega arith))) refl
+
+owner_again : (x : Option ℕ) → IsOwner x → owner_of (owner_word x) ≡ Some x
+unfolding owner_of
+owner_again None h = refl
+owner_again (Some txn) h = rw (no_hyphen (decimal txn) (digits_above txn h.1), txn_field.again txn h) refl
+
+owner_plain : (x : Option ℕ) → IsOwner x → above 32 (owner_word x) ≡ true
+owner_plain None h = refl
+owner_plain (Some txn) h = txn_field.plain txn h
+
+pub owner_field : IsField (Option ℕ) owner_of owner_word IsOwner
+owner_field = record { takes = owner_takes; again = owner_again; plain = owner_plain }
+
+bound_number : IsField ℕ (number_within 1 (2 ^ 32)) (λ n. decimal n) (IsWithin 1 (2 ^ 32))
+bound_number = number_field 1 (2 ^ 32) (omega arith)
+
+only : {A : Type 0} (b : Bool) (o : Option A) (x : A) → cond b o None ≡ Some x → (b ≡ true) × (o ≡ Some x)
+only true o x e = (refl, e)
+only false o x e = absurd cc
+
+bound_takes : (word : List ℕ) (n : ℕ) → bound_of word ≡ Some n → (word ≡ bound_word n) × IsWithin 1 (2 ^ 32) n
+unfolding bound_of
+bound_takes word n e =
+    let p = only (is_bound word) (number_within 1 (2 ^ 32) (drop 4 word)) n e in
+    let t = bound_number.takes (drop 4 word) n p.1 in
+    let front : take 4 word ≡ codes "max=" = (bytes_eq-Decides (take 4 word) (codes "max=")).0 p.0 in
+    (sym (take-append-drop 4 word) ∙ (ap (λ (xs : List ℕ). xs ++ drop 4 word) front ∙ ap (λ (xs : List ℕ). codes "max=" ++ xs) t.0), t.1)
+
+bound_again : (n : ℕ) → IsWithin 1 (2 ^ 32) n → bound_of (bound_word n) ≡ Some n
+unfolding bound_of
+bound_again n h = bound_number.again n h
+
+bound_plain : (n : ℕ) → IsWithin 1 (2 ^ 32) n → above 32 (bound_word n) ≡ true
+bound_plain n h = above_append 32 (codes "max=") (decimal n) refl (bound_number.plain n h)
+
+pub bound_field : IsField ℕ bound_of bound_word (IsWithin 1 (2 ^ 32))
+bound_field = record { takes = bound_takes; again = bound_again; plain = bound_plain }
 
 -- ---- fields of a line
 

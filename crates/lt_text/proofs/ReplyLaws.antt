@@ -7,21 +7,21 @@ use Rattle.std.specs.Fmt.{decimal}
 use Rattle.std.proofs.lemmas.Option.{some_pair_parts, same_Some}
 use Rattle.std.proofs.lemmas.Slice.Eq.{bytes_eq-Decides}
 use Rattle.lt_plain.specs.declared.call.Reply.{Reply}
-use Rattle.lt_plain.specs.declared.call.Reply.TheVariants.{Passed, MustWait, Taken, Kept, Raised, Other, Freed, Left, Absent, Nothing, Reserved, Idle, WaitFor, WaitFirst, WaitOwn}
+use Rattle.lt_plain.specs.declared.call.Reply.TheVariants.{Passed, MustWait, TooLong, Taken, Kept, Raised, Other, Freed, Left, Absent, Nothing, Reserved, Idle, WaitFor, WaitFirst, WaitOwn}
 use Rattle.lt_text.specs.Maybe.{◌>>=◌}
 use Rattle.lt_text.specs.Fields.{number_within}
 use Rattle.lt_text.specs.Calls.{field_at}
 use Rattle.lt_text.specs.Replies.{reply_name, reply_numbers, reply_words, held_word, held_of, IsReply, fixed_replies, fixed_reply, waits_at, own_at, reply_of, reply_at}
 use Rattle.lt_text.proofs.Plain.{ArePlain}
-use Rattle.lt_text.proofs.FieldLaws.{bind_some, IsWithin, held_field, field_takes, field_again}
-use Rattle.lt_text.proofs.CallLaws.{txn_field, chosen}
+use Rattle.lt_text.proofs.FieldLaws.{bind_some, IsWithin, txn_field, held_field, field_takes, field_again}
+use Rattle.lt_text.proofs.CallLaws.{chosen}
 
 -- a reply of one word
 abbrev IsFixed : Reply → Type 0
 IsFixed r = (reply_numbers r ≡ []) × IsReply r
 
 are_fixed : AllByRecursion IsFixed fixed_replies
-are_fixed = ((refl, tt), ((refl, tt), ((refl, tt), ((refl, tt), ((refl, tt), ((refl, tt), ((refl, tt), ((refl, tt), ((refl, tt), ((refl, tt), ((refl, tt), ((refl, tt), tt))))))))))))
+are_fixed = ((refl, tt), ((refl, tt), ((refl, tt), ((refl, tt), ((refl, tt), ((refl, tt), ((refl, tt), ((refl, tt), ((refl, tt), ((refl, tt), ((refl, tt), ((refl, tt), ((refl, tt), tt)))))))))))))
 
 find_takes : (rs : List Reply) (word : List ℕ) (r : Reply) → AllByRecursion IsFixed rs → find (λ x. bytes_eq (reply_name x) word) rs ≡ Some r → (reply_name r ≡ word) × IsFixed r
 find_takes [] word r h e = absurd cc
@@ -101,6 +101,7 @@ reply_again (WaitFirst txn held) rest h = rw (field_again txn_field txn (held_wo
 reply_again (WaitOwn txn) rest h = rw (field_again txn_field txn rest h) refl
 reply_again Passed rest h = refl
 reply_again MustWait rest h = refl
+reply_again TooLong rest h = refl
 reply_again Taken rest h = refl
 reply_again Kept rest h = refl
 reply_again Raised rest h = refl
@@ -118,6 +119,7 @@ reply_plain (WaitFirst txn held) h = (refl, (txn_field.plain txn h, (held_field.
 reply_plain (WaitOwn txn) h = (refl, (txn_field.plain txn h, tt))
 reply_plain Passed h = (refl, tt)
 reply_plain MustWait h = (refl, tt)
+reply_plain TooLong h = (refl, tt)
 reply_plain Taken h = (refl, tt)
 reply_plain Kept h = (refl, tt)
 reply_plain Raised h = (refl, tt)

@@ -1,15 +1,15 @@
 -- The calls as words, and read from words.
-use Rattle.std.specs.Prelude.{ℕ, ◌≡◌, ◌^◌, if◌then◌else◌, List, [], ◌∷◌, Option, Some, None, decimal, codes}
+use Rattle.std.specs.Prelude.{ℕ, ◌≡◌, ◌^◌, ◌<◌, false, if◌then◌else◌, List, [], ◌∷◌, Option, Some, None, decimal, codes}
 use Rattle.std.specs.Str.{bytes_eq}
 use Rattle.lt_ids.specs.Ticket.{IsNumber}
 use Rattle.lt_plain.specs.declared.call.Call.{Call}
 use Rattle.lt_plain.specs.declared.call.Call.TheVariants.{Visit, Acquire, Update, Finish, Leave, Look}
 use Rattle.lt_text.specs.Maybe.{◌>>=◌}
-use Rattle.lt_text.specs.Fields.{ticket_word, time_word, access_word, IsTxn, IsTicket, IsTime, number_within, ticket_of, time_of, access_of}
+use Rattle.lt_text.specs.Fields.{ticket_word, time_word, access_word, owner_word, bound_words, IsTxn, IsOwner, IsTicket, IsTime, number_within, ticket_of, time_of, access_of, owner_of, is_bound, bound_of}
 
 -- the words of a call
 abbrev pub call_words : Call → List (List ℕ)
-call_words (Visit ticket txn ts access) = codes "visit" ∷ ticket_word ticket ∷ decimal txn ∷ time_word ts ∷ access_word access ∷ []
+call_words (Visit ticket txn ts access longest) = codes "visit" ∷ ticket_word ticket ∷ owner_word txn ∷ time_word ts ∷ access_word access ∷ bound_words longest
 call_words (Acquire txn ts) = codes "acquire" ∷ decimal txn ∷ time_word ts ∷ []
 call_words (Update txn ts) = codes "update" ∷ decimal txn ∷ time_word ts ∷ []
 call_words (Finish txn) = codes "finish" ∷ decimal txn ∷ []
@@ -18,7 +18,7 @@ call_words (Look number) = codes "look" ∷ decimal number ∷ []
 
 -- Its numbers are in their ranges.
 abbrev pub IsCall : Call → Type 0
-IsCall (Visit ticket txn ts access) = IsTicket ticket × IsTxn txn × IsTime ts
+IsCall (Visit ticket txn ts access longest) = IsTicket ticket × IsOwner txn × IsTime ts × (longest < 2 ^ 32)
 IsCall (Acquire txn ts) = IsTxn txn × IsTime ts
 IsCall (Update txn ts) = IsTxn txn × IsTime ts
 IsCall (Finish txn) = IsTxn txn
@@ -37,13 +37,24 @@ abbrev pub field_at : {A : Type 0} → (List ℕ → Option A) → List (List �
 field_at read [] = None
 field_at read (word ∷ words) = read word >>= λ x. Some (x, words)
 
+-- the bound of the first word, and the words after it; 0, and all of them, where none begins as a bound does
+unfoldable pub bound_at : List (List ℕ) → Option (ℕ × List (List ℕ))
+bound_at [] = Some (0, [])
+bound_at (word ∷ words) = if is_bound word then (bound_of word >>= λ longest. Some (longest, words)) else Some (0, word ∷ words)
+
+-- Their first word does not begin as a bound does, so that they can stand after a call.
+abbrev pub AreBoundless : List (List ℕ) → Type 0
+AreBoundless [] = Unit {0}
+AreBoundless (word ∷ words) = is_bound word ≡ false
+
 unfoldable pub visit_at : List (List ℕ) → Option (Call × List (List ℕ))
 visit_at words = do
   ticket ← field_at ticket_of words
-  txn ← field_at (number_within 1 (2 ^ 64)) ticket.1
+  txn ← field_at owner_of ticket.1
   ts ← field_at time_of txn.1
   access ← field_at access_of ts.1
-  Some (Visit ticket.0 txn.0 ts.0 access.0, access.1)
+  longest ← bound_at access.1
+  Some (Visit ticket.0 txn.0 ts.0 access.0 longest.0, longest.1)
 
 unfoldable pub acquire_at : List (List ℕ) → Option (Call × List (List ℕ))
 acquire_at words = do

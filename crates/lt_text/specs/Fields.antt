@@ -1,5 +1,5 @@
 -- What the words inside a line spell, and how each is written.
-use Rattle.std.specs.Prelude.{ℕ, ◌^◌, ◌<◌, ◌≤◌, ◌&&◌, nat_lt, nat_le, if◌then◌else◌, List, ◌∷◌, ◌++◌, Option, Some, None, decimal, codes}
+use Rattle.std.specs.Prelude.{ℕ, ◌^◌, ◌<◌, ◌≤◌, ◌==◌, Bool, ◌&&◌, nat_lt, nat_le, if◌then◌else◌, List, [], ◌∷◌, ◌++◌, take, drop, Option, Some, None, decimal, codes}
 use Rattle.std.specs.Str.{bytes_eq}
 use Rattle.lt_ids.specs.Ticket.{Wait, IsNumber, IsWaitNumber}
 use Rattle.lt_ids.specs.declared.timestamp.Timestamp.{Timestamp}
@@ -25,10 +25,27 @@ abbrev pub access_word : Access → List ℕ
 access_word Read = codes "r"
 access_word Write = codes "w"
 
+-- a transaction, or none
+abbrev pub owner_word : Option ℕ → List ℕ
+owner_word None = codes "-"
+owner_word (Some txn) = decimal txn
+
+-- a bound on how many may wait to write before it
+abbrev pub bound_word : ℕ → List ℕ
+bound_word longest = codes "max=" ++ decimal longest
+
+-- no bound has no word
+abbrev pub bound_words : ℕ → List (List ℕ)
+bound_words longest = if longest == 0 then [] else (bound_word longest ∷ [])
+
 -- ---- what can be written
 
 abbrev pub IsTxn : ℕ → Type 0
 IsTxn n = (1 ≤ n) × (n < 2 ^ 64)
+
+abbrev pub IsOwner : Option ℕ → Type 0
+IsOwner None = Unit {0}
+IsOwner (Some txn) = IsTxn txn
 
 abbrev pub IsTicket : Wait → Type 0
 IsTicket t = IsNumber t.number × IsWaitNumber t.wait
@@ -64,3 +81,17 @@ time_of word = do
 
 unfoldable pub access_of : List ℕ → Option Access
 access_of word = if bytes_eq word (codes "r") then Some Read else (if bytes_eq word (codes "w") then Some Write else None)
+
+-- `-`, or the number of a transaction
+unfoldable pub owner_of : List ℕ → Option (Option ℕ)
+owner_of word =
+    if bytes_eq word (codes "-") then Some None
+    else (number_within 1 (2 ^ 64) word >>= λ txn. Some (Some txn))
+
+-- The word begins as a bound does.
+abbrev pub is_bound : List ℕ → Bool
+is_bound word = bytes_eq (take 4 word) (codes "max=")
+
+-- the bound of the word: at least 1, since no bound has no word
+unfoldable pub bound_of : List ℕ → Option ℕ
+bound_of word = if is_bound word then number_within 1 (2 ^ 32) (drop 4 word) else None

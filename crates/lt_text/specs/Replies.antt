@@ -4,7 +4,7 @@ use Rattle.std.specs.Str.{bytes_eq}
 use Rattle.lt_plain.specs.declared.call.Call.{Call}
 use Rattle.lt_plain.specs.declared.call.Call.TheVariants.{Visit, Acquire, Update, Finish, Leave, Look}
 use Rattle.lt_plain.specs.declared.call.Reply.{Reply}
-use Rattle.lt_plain.specs.declared.call.Reply.TheVariants.{Passed, MustWait, Taken, Kept, Raised, Other, Freed, Left, Absent, Nothing, Reserved, Idle, WaitFor, WaitFirst, WaitOwn}
+use Rattle.lt_plain.specs.declared.call.Reply.TheVariants.{Passed, MustWait, TooLong, Taken, Kept, Raised, Other, Freed, Left, Absent, Nothing, Reserved, Idle, WaitFor, WaitFirst, WaitOwn}
 use Rattle.lt_text.specs.Maybe.{◌>>=◌}
 use Rattle.lt_text.specs.Fields.{IsTxn, number_within}
 use Rattle.lt_text.specs.Calls.{field_at}
@@ -13,6 +13,7 @@ use Rattle.lt_text.specs.Calls.{field_at}
 abbrev pub reply_name : Reply → List ℕ
 reply_name Passed = codes "pass"
 reply_name MustWait = codes "wait"
+reply_name TooLong = codes "long"
 reply_name Taken = codes "taken"
 reply_name Kept = codes "kept"
 reply_name Raised = codes "raised"
@@ -53,6 +54,7 @@ IsReply _ = Unit {0}
 abbrev pub is_visit_reply : Reply → Bool
 is_visit_reply Passed = true
 is_visit_reply MustWait = true
+is_visit_reply TooLong = true
 is_visit_reply _ = false
 
 abbrev pub is_acquire_reply : Reply → Bool
@@ -89,7 +91,7 @@ is_look_reply _ = false
 
 -- The reply is one of those that the call can have.
 abbrev pub is_reply_of : Call → Reply → Bool
-is_reply_of (Visit ticket txn ts access) r = is_visit_reply r
+is_reply_of (Visit ticket txn ts access longest) r = is_visit_reply r
 is_reply_of (Acquire txn ts) r = is_acquire_reply r
 is_reply_of (Update txn ts) r = is_update_reply r
 is_reply_of (Finish txn) r = is_finish_reply r
@@ -100,7 +102,7 @@ is_reply_of (Look number) r = is_look_reply r
 
 -- the replies of one word
 abbrev pub fixed_replies : List Reply
-fixed_replies = Passed ∷ MustWait ∷ Taken ∷ Kept ∷ Raised ∷ Other ∷ Freed ∷ Left ∷ Absent ∷ Nothing ∷ Reserved ∷ Idle ∷ []
+fixed_replies = Passed ∷ MustWait ∷ TooLong ∷ Taken ∷ Kept ∷ Raised ∷ Other ∷ Freed ∷ Left ∷ Absent ∷ Nothing ∷ Reserved ∷ Idle ∷ []
 
 unfoldable pub fixed_reply : List ℕ → Option Reply
 fixed_reply word = find (λ r. bytes_eq (reply_name r) word) fixed_replies

@@ -1,25 +1,42 @@
 ghost use Rattle.std.specs.Prelude.{◌≡◌, ◌^◌};
 ghost use Rattle.lt_text.specs.Fields.{number_within};
-ghost use Rattle.lt_text.specs.Calls.{Gives, visit_at, acquire_at, update_at, finish_at, leave_at, look_at, call_of, call_at};
+ghost use Rattle.lt_text.specs.Calls.{Gives, bound_at, visit_at, acquire_at, update_at, finish_at, leave_at, look_at, call_of, call_at};
 
-use crate::field::{access, ticket, timestamp, txn};
+use crate::field::{access, bound, is_bound, owner, ticket, timestamp, txn};
 use crate::number::number;
 use crate::words::Words;
 use lt_plain::Call;
+
+/// The bound at the front, or 0 where no word there begins as a bound does.
+#[tactic(auto, unfolding(crate::specs::Calls::bound_at))]
+fn longest(words: &mut Words) -> Option<u32>
+    ensures { Gives result words.new (bound_at words.old) }
+{
+    let Some(word) = words.peek() else {
+        return Some(0);
+    };
+    if !is_bound(word) {
+        return Some(0);
+    }
+    let _ = words.next();
+    bound(word)
+}
 
 #[tactic(auto, unfolding(crate::specs::Calls::visit_at))]
 fn visit(words: &mut Words) -> Option<Call>
     ensures { Gives result words.new (visit_at words.old) }
 {
     let ticket = ticket(words.next()?)?;
-    let txn = txn(words.next()?)?;
+    let txn = owner(words.next()?)?;
     let ts = timestamp(words.next()?)?;
     let access = access(words.next()?)?;
+    let longest = longest(words)?;
     Some(Call::Visit {
         ticket,
         txn,
         ts,
         access,
+        longest,
     })
 }
 

@@ -1,5 +1,5 @@
 ghost use Rattle.std.specs.Prelude.{◌≡◌, ◌^◌};
-ghost use Rattle.lt_text.specs.Fields.{number_within, pair_of, ticket_of, time_of, access_of};
+ghost use Rattle.lt_text.specs.Fields.{number_within, pair_of, ticket_of, time_of, access_of, owner_of, is_bound, bound_of};
 
 use crate::number::number;
 use crate::words::cut;
@@ -10,6 +10,17 @@ pub fn txn(word: &[u8]) -> Option<TxnId>
     ensures { result ≡ number_within 1 (2 ^ 64) word.now }
 {
     TxnId::new(number(word)?)
+}
+
+/// The transaction that the word names, or none where the word is `-`.
+#[tactic(auto, unfolding(crate::specs::Fields::owner_of))]
+pub fn owner(word: &[u8]) -> Option<Option<TxnId>>
+    ensures { result ≡ owner_of word.now }
+{
+    if word == b"-".as_slice() {
+        return Some(None);
+    }
+    Some(Some(txn(word)?))
 }
 
 /// The two numbers that stand on either side of a dot.
@@ -51,4 +62,23 @@ pub fn access(word: &[u8]) -> Option<Access>
         return Some(Access::Write);
     }
     None
+}
+
+/// Whether the word begins as a bound does: with `max=`.
+pub fn is_bound(word: &[u8]) -> bool
+    ensures { result ≡ is_bound word.now }
+{
+    word.strip_prefix(b"max=").is_some()
+}
+
+/// The bound that the word spells: `max=` and a number from 1 to 2^32 - 1.
+#[tactic(auto, unfolding(crate::specs::Fields::bound_of))]
+pub fn bound(word: &[u8]) -> Option<u32>
+    ensures { result ≡ bound_of word.now }
+{
+    let n = number(word.strip_prefix(b"max=")?)?;
+    if n == 0 {
+        return None;
+    }
+    u32::try_from(n).ok()
 }

@@ -1,8 +1,9 @@
 //! The numbers and words that scripts, answers and histories have in common: how they are read, and how written.
 //!
 //! A number is decimal digits without a leading zero. A timestamp is `WALL.LOGICAL`, a ticket `NUMBER.WAIT`. A call is
-//! its name and its arguments, as `visit 1.1 8 20.0 r`; a reply is its name, with a transaction and `held` or
-//! `reserved` where it tells whom one waits for. Between two words of a line stands one space.
+//! its name and its arguments, as `visit 1.1 8 20.0 r`, or `visit 1.1 - 20.0 w max=2` for a request without a transaction
+//! that has a bound; a reply is its name, with a transaction and `held` or `reserved` where it tells whom one waits for.
+//! Between two words of a line stands one space.
 //!
 //! Each kind of word has one definition of how it is written and one of how it is read (`specs/Fields.antt`,
 //! `specs/Calls.antt`, `specs/Replies.antt`), and each function here gives what its definition says: [`call::call`] and

@@ -1,6 +1,6 @@
 ghost use Rattle.std.specs.Prelude.{◌≡◌, ◌++◌, ◌∷◌, [], OnOk, decimal};
 ghost use Rattle.lt_text.specs.Replies.{held_word, reply_words};
-ghost use Rattle.lt_text.specs.Fields.{pair_word, access_word};
+ghost use Rattle.lt_text.specs.Fields.{pair_word, access_word, owner_word, bound_words};
 ghost use Rattle.lt_text.specs.Calls.{call_words};
 ghost use Rattle.lt_text.specs.Compose.{spaced};
 
@@ -65,6 +65,27 @@ pub fn put_ticket(out: &mut Vec<u8>, ticket: Ticket) -> Result<(), AllocError>
     put_pair_word(out, ticket.number(), ticket.wait() as u64)
 }
 
+/// Puts a space and the word of the transaction, or of none, at the end.
+pub fn put_owner(out: &mut Vec<u8>, txn: Option<TxnId>) -> Result<(), AllocError>
+    ensures { OnOk result (out.new.items ≡ out.old.items ++ 32 ∷ owner_word txn) }
+{
+    match txn {
+        None => put_word(out, b"-"),
+        Some(txn) => put_number_word(out, txn.number()),
+    }
+}
+
+/// Puts a space and the bound at the end, if it is one: 0 is none.
+pub fn put_bound(out: &mut Vec<u8>, longest: u32) -> Result<(), AllocError>
+    ensures { OnOk result (out.new.items ≡ out.old.items ++ spaced (bound_words longest)) }
+{
+    if longest == 0 {
+        return Ok(());
+    }
+    put_word(out, b"max=")?;
+    put_number(out, longest as u64)
+}
+
 /// The word of the access.
 fn access_name(access: Access) -> &'static [u8]
     ensures { result.now ≡ access_word access }
@@ -85,12 +106,14 @@ pub fn put_call(out: &mut Vec<u8>, call: Call) -> Result<(), AllocError>
             txn,
             ts,
             access,
+            longest,
         } => {
             put_word(out, b"visit")?;
             put_ticket(out, ticket)?;
-            put_number_word(out, txn.number())?;
+            put_owner(out, txn)?;
             put_time(out, ts)?;
-            put_word(out, access_name(access))
+            put_word(out, access_name(access))?;
+            put_bound(out, longest)
         }
         Call::Acquire { txn, ts } => {
             put_word(out, b"acquire")?;

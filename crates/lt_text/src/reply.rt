@@ -13,6 +13,7 @@ pub fn name(reply: Reply) -> &'static [u8]
     match reply {
         Reply::Passed => b"pass",
         Reply::MustWait => b"wait",
+        Reply::TooLong => b"long",
         Reply::Taken => b"taken",
         Reply::Kept => b"kept",
         Reply::Raised => b"raised",
@@ -30,9 +31,10 @@ pub fn name(reply: Reply) -> &'static [u8]
 }
 
 /// The replies of one word.
-const FIXED: [Reply; 12] = [
+const FIXED: [Reply; 13] = [
     Reply::Passed,
     Reply::MustWait,
+    Reply::TooLong,
     Reply::Taken,
     Reply::Kept,
     Reply::Raised,
@@ -115,7 +117,7 @@ pub fn reply(words: &mut Words) -> Option<Reply>
 fn is_reply_of_visit(reply: Reply) -> bool
     ensures { result ≡ is_visit_reply reply }
 {
-    matches!(reply, Reply::Passed | Reply::MustWait)
+    matches!(reply, Reply::Passed | Reply::MustWait | Reply::TooLong)
 }
 
 fn is_reply_of_acquire(reply: Reply) -> bool

@@ -1,6 +1,6 @@
 ghost use Rattle.std.specs.Prelude.{◌≡◌, ◌==◌, ◌∷◌, [], List, ℕ, MatchOption, None, Some, position};
 ghost use Rattle.std.specs.List.{slice_split};
-ghost use Rattle.lt_text.specs.Words.{cut_of, words_of};
+ghost use Rattle.lt_text.specs.Words.{cut_of, words_of, IsFirst};
 ghost use Rattle.std.specs.Option.{option_copied};
 
 use std::marker::Model;
@@ -59,6 +59,14 @@ impl<'a> Words<'a> {
         ensures { result ≡ slice_split (λ b. b == 32) line.now }
     {
         Words { rest: Some(line) }
+    }
+
+    /// The next word, which is left; `None` after the last.
+    pub fn peek(&self) -> Option<&'a [u8]>
+        ensures { MatchOption result (self.now ≡ []) (λ word. IsFirst word.now self.now) }
+    {
+        let (word, _) = first_word(self.rest?);
+        Some(word)
     }
 
     /// The next word, or `None` after the last.

@@ -91,9 +91,25 @@ fn transactions_and_requests_keep_their_ranges(rt: HostRuntime) -> Result<(), Fa
         (1, 0, false),
         (1, 1025, false),
     ] {
-        let request = Request::new(number, txn, ts, pass);
+        let request = Request::new(number, Some(txn), ts, pass, 0);
         assert_eq!(rt; request.is_some(), is_some);
     }
+    Ok(())
+}
+
+#[test]
+fn a_request_keeps_its_transaction_and_its_bound(rt: HostRuntime) -> Result<(), Fail> {
+    let ts = Timestamp {
+        wall: 0,
+        logical: 0,
+    };
+    let without_txn = Request::new(1, None, ts, 1, 0).ok_or("no transaction and no bound")?;
+    assert!(rt; without_txn.txn.is_none());
+    assert_eq!(rt; without_txn.longest, 0);
+    let txn = TxnId::new(7).ok_or("a transaction")?;
+    let bounded = Request::new(1, Some(txn), ts, 1, u32::MAX).ok_or("the greatest bound")?;
+    assert_eq!(rt; bounded.txn.map(|txn| txn.number()), Some(7));
+    assert_eq!(rt; bounded.longest, u32::MAX);
     Ok(())
 }
 

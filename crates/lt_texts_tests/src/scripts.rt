@@ -4,7 +4,7 @@ use std::alloc::Global;
 use std::test::*;
 
 const MIXED: &str =
-    "# a comment\n\n   \r\n7 scan\r\n 64  open 18446744073709551615 0.4294967295 a::r   b:w  \n\n1 leave\n2 finish 7 k";
+    "# a comment\n\n   \r\n7 scan\r\n 64  open 18446744073709551615 0.4294967295 a::r   b:w  \n\n1 leave\n2 finish 7 k\n3 open - 1.0  max=4294967295  a::r b:w";
 
 fn reads_and_writes(alloc: Global) -> Option<Accesses> {
     let mut list = Vec::new(alloc);
@@ -17,12 +17,22 @@ fn reads_and_writes(alloc: Global) -> Option<Accesses> {
 
 fn mixed(alloc: Global) -> Option<Vec<Command>> {
     let open = Action::Open {
-        txn: TxnId::new(u64::MAX)?,
+        txn: Some(TxnId::new(u64::MAX)?),
         ts: Timestamp {
             wall: 0,
             logical: u32::MAX,
         },
         accesses: reads_and_writes(alloc)?,
+        longest: 0,
+    };
+    let open_without_txn = Action::Open {
+        txn: None,
+        ts: Timestamp {
+            wall: 1,
+            logical: 0,
+        },
+        accesses: reads_and_writes(alloc)?,
+        longest: u32::MAX,
     };
     let finish = Action::Finish {
         txn: TxnId::new(7)?,
@@ -34,6 +44,7 @@ fn mixed(alloc: Global) -> Option<Vec<Command>> {
         (5, 64, open),
         (7, 1, Action::Leave),
         (8, 2, finish),
+        (9, 3, open_without_txn),
     ] {
         let pass = ScriptPass::new(pass)?;
         commands.push(Command { line, pass, action }).ok()?;
@@ -59,7 +70,7 @@ fn lines_are_counted_and_words_are_cut(rt: HostRuntime) -> Result<(), Fail> {
     }
     let expected = expected.ok_or("memory is refused once")?;
     assert_eq!(rt; script.as_slice(), expected.as_slice());
-    assert_eq!(rt; script.into_vec().len(), 4);
+    assert_eq!(rt; script.into_vec().len(), 5);
     Ok(())
 }
 
@@ -89,6 +100,46 @@ fn a_request_names_any_number_of_keys(rt: HostRuntime) -> Result<(), Fail> {
     Ok(())
 }
 
+/// The bound that the first line gives its request, and how many keys that has.
+fn bounded(script: &Script) -> Option<(u32, usize)> {
+    match &script.as_slice().first()?.action {
+        Action::Open {
+            accesses,
+            longest,
+            ..
+        } => Some((*longest, accesses.as_slice().len())),
+        _ => None,
+    }
+}
+
+/// A bound is the fifth word alone, and not where that is a key with its access.
+#[test]
+fn a_bound_stands_before_the_keys(rt: HostRuntime) -> Result<(), Fail> {
+    for (text, longest, keys) in [
+        ("1 open 7 1.0", 0, 0),
+        ("1 open 7 1.0 a:w", 0, 1),
+        ("1 open 7 1.0 max=1", 1, 0),
+        ("1 open 7 1.0 max=2 a:w b:r", 2, 2),
+        ("1 open - 1.0 max=4294967295 max=1:w", u32::MAX, 1),
+        ("1 open 7 1.0 a:r max=1:w", 0, 2),
+        ("1 open 7 1.0 max=2:w max=1:r", 0, 2),
+    ] {
+        let script = read(&rt, text)?;
+        assert_eq!(rt; bounded(&script), Some((longest, keys)), "{text}");
+    }
+    for (text, key, access) in [
+        ("1 open 7 1.0 max=0:r", b"max=0".as_slice(), Access::Read),
+        ("1 open 7 1.0 max=5:w", b"max=5".as_slice(), Access::Write),
+        ("1 open 7 1.0 max=:w", b"max=".as_slice(), Access::Write),
+        ("1 open 7 1.0 max:r", b"max".as_slice(), Access::Read),
+    ] {
+        let script = read(&rt, text)?;
+        assert_eq!(rt; bounded(&script), Some((0, 1)), "{text}");
+        assert_eq!(rt; named(&script, 0), Some((key, access)), "{text}");
+    }
+    Ok(())
+}
+
 fn first_fault(read: Result<Script, ScriptError>) -> Option<(usize, Fault)> {
     match read {
         Err(ScriptError::Fault { line, fault }) => Some((line, fault)),
@@ -114,6 +165,26 @@ fn each_fault_is_told_with_its_line(rt: HostRuntime) {
         ("1 open 0 1.0", 1, Fault::BadTxn),
         ("1 open 0 01.0 a b", 1, Fault::BadTxn),
         ("1 open 7 a:r b:r", 1, Fault::BadTime),
+        ("1 open - 01.0 max=0 a", 1, Fault::BadTime),
+        ("1 open -- 1.0 a:r", 1, Fault::BadTxn),
+        ("1 open 0 1.0 max=0 a", 1, Fault::BadTxn),
+        ("1 acquire - 1.0 a", 1, Fault::BadTxn),
+        ("1 update - 1.0 a", 1, Fault::BadTxn),
+        ("1 finish - a", 1, Fault::BadTxn),
+        ("1 open 7 1.0 max=0 a:r", 1, Fault::BadMax),
+        ("1 open 7 1.0 max=0 a", 1, Fault::BadMax),
+        ("1 open 7 1.0 max=01 a:r", 1, Fault::BadMax),
+        ("1 open 7 1.0 max=4294967296 a:r", 1, Fault::BadMax),
+        ("1 open 7 1.0 max=", 1, Fault::BadMax),
+        ("1 open 7 1.0 max=+5", 1, Fault::BadMax),
+        ("1 open 7 1.0 max=5: a:r", 1, Fault::BadMax),
+        ("1 open 7 1.0 max=5:x", 1, Fault::BadMax),
+        ("1 open 7 1.0 max=5 max=5", 1, Fault::BadAccess),
+        ("1 open 7 1.0 a:r max=5", 1, Fault::BadAccess),
+        ("1 open 7 1.0 max", 1, Fault::BadAccess),
+        ("1 open 7 1.0 max5 a:r", 1, Fault::BadAccess),
+        ("1 open 7 1.0 MAX=5 a:r", 1, Fault::BadAccess),
+        ("1 open 7 1.0 max=5 :r", 1, Fault::BadKey),
         ("1 open 7 1.0 a:r b", 1, Fault::BadAccess),
         ("1 open 7 1.0 a:r :w", 1, Fault::BadKey),
         ("1 open 7 1.0 a:r b:x :r", 1, Fault::BadAccess),

@@ -5,7 +5,7 @@ use Rattle.std.specs.List.{flat_map}
 use Rattle.lt_text.specs.Compose.{spaced}
 use Rattle.lt_text.specs.Replies.{reply_words}
 use Rattle.lt_desk.specs.declared.answer.LineAnswer.{LineAnswer}
-use Rattle.lt_desk.specs.declared.answer.LineAnswer.TheVariants.{Request, Busy, Proceed, Rescan, WaitingAt, Let, Waiting, Idle, Turns, Replied, Stranger, Done, NoRequest, Refused}
+use Rattle.lt_desk.specs.declared.answer.LineAnswer.TheVariants.{Request, Busy, Proceed, Rescan, WaitingAt, TooLongAt, Let, Waiting, Idle, Turns, Replied, Stranger, Done, NoRequest, Refused}
 use Rattle.lt_desk.specs.declared.answer.Refusal.{Refusal}
 use Rattle.lt_desk.specs.declared.answer.Refusal.TheVariants.{NoKeys, TooManyKeys, NumbersOut, Leaving, StillWaiting, WaitsOut, HistoryFull}
 use Rattle.lt_desk.specs.declared.answer.AnswerLine.{AnswerLine}
@@ -26,6 +26,7 @@ answer_words Busy = codes "busy" ∷ []
 answer_words Proceed = codes "proceed" ∷ []
 answer_words Rescan = codes "rescan" ∷ []
 answer_words (WaitingAt key) = codes "waiting" ∷ key ∷ []
+answer_words (TooLongAt key) = codes "long" ∷ key ∷ []
 answer_words Let = codes "let" ∷ []
 answer_words Waiting = codes "waiting" ∷ []
 answer_words Idle = codes "idle" ∷ []

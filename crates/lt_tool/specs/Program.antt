@@ -4,7 +4,7 @@ use Rattle.lt_history.specs.declared.checker.CheckError.TheVariants as checks
 use Rattle.lt_history.specs.declared.error.Fault.{Fault as HistoryFault}
 use Rattle.lt_history.specs.declared.error.Fault.TheVariants as histories
 use Rattle.lt_script.specs.declared.error.Fault.{Fault}
-use Rattle.lt_script.specs.declared.error.Fault.TheVariants.{BadPass, BadCall, BadWords, BadTxn, BadTime, BadKey, BadAccess}
+use Rattle.lt_script.specs.declared.error.Fault.TheVariants.{BadPass, BadCall, BadWords, BadTxn, BadTime, BadMax, BadKey, BadAccess}
 use Rattle.lt_desk.specs.declared.outcome.Finish.{Finish}
 use Rattle.lt_desk.specs.declared.outcome.Finish.TheVariants.{Done, TurnsOut}
 use Rattle.lt_tool.specs.declared.run.RunError.{RunError}
@@ -47,6 +47,7 @@ fault_end BadCall = codes ": BadCall\n"
 fault_end BadWords = codes ": BadWords\n"
 fault_end BadTxn = codes ": BadTxn\n"
 fault_end BadTime = codes ": BadTime\n"
+fault_end BadMax = codes ": BadMax\n"
 fault_end BadKey = codes ": BadKey\n"
 fault_end BadAccess = codes ": BadAccess\n"
 

@@ -36,6 +36,10 @@ fn put_answer(out: &mut Vec<u8>, answer: &LineAnswer) -> Result<(), AllocError>
             put_word(out, b"waiting")?;
             put_word(out, key.as_bytes())
         }
+        LineAnswer::TooLongAt(key) => {
+            put_word(out, b"long")?;
+            put_word(out, key.as_bytes())
+        }
         LineAnswer::Let => put_word(out, b"let"),
         LineAnswer::Waiting => put_word(out, b"waiting"),
         LineAnswer::Idle => put_word(out, b"idle"),

@@ -76,6 +76,7 @@ fn fault_end(fault: Fault) -> &'static [u8]
         Fault::BadWords => b": BadWords\n",
         Fault::BadTxn => b": BadTxn\n",
         Fault::BadTime => b": BadTime\n",
+        Fault::BadMax => b": BadMax\n",
         Fault::BadKey => b": BadKey\n",
         Fault::BadAccess => b": BadAccess\n",
     }

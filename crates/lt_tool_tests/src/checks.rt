@@ -6,7 +6,7 @@ use std::test::*;
 
 /// A key that is taken, a reader that waits for it, and a look at the reader.
 const THREE_STEPS: &str =
-    "locks 1\na 1 1 acquire 7 20.0 = taken\na 2 2 visit 1.1 8 20.0 r = wait\na 3 2 look 1 = first 7 held\n";
+    "locks 2\na 1 1 acquire 7 20.0 = taken\na 2 2 visit 1.1 8 20.0 r = wait\na 3 2 look 1 = first 7 held\n";
 
 const LINE: &str = "ok 1 keys 3 steps\n";
 

@@ -12,123 +12,148 @@ use std::sync::Wait;
 use std::test::*;
 use std::thread::Threads;
 
-/// What each run shows, its script, and what it writes. Six runs are the scripts of `examples/`, whose files say the same.
-const RUNS: [(&'static str, &'static str, &'static str); 24] = [
-    ("an empty script", "", "locks 1\n"),
+/// What each run shows, its script, and what it writes. Eight runs are the scripts of `examples/`, whose files say the same.
+const RUNS: [(&'static str, &'static str, &'static str); 29] = [
+    ("an empty script", "", "locks 2\n"),
     (
         "a reader at the time of the holder waits",
         "1 acquire 7 20.0 a\n2 open 8 20.0 a:r\n2 scan\n2 look a\n",
-        "1 1 taken\n2 2 request 1\n2 3 waiting a\n2 4 first 7 held\nlocks 1\na 1 1 acquire 7 20.0 = taken\na 2 2 visit 1.1 8 20.0 r = wait\na 3 2 look 1 = first 7 held\n",
+        "1 1 taken\n2 2 request 1\n2 3 waiting a\n2 4 first 7 held\nlocks 2\na 1 1 acquire 7 20.0 = taken\na 2 2 visit 1.1 8 20.0 r = wait\na 3 2 look 1 = first 7 held\n",
     ),
     (
         "examples/a-reader-below-the-lock-passes",
         "1 acquire 7 20.0 a\n2 open 8 19.4294967295 a:r\n2 scan\n3 open 9 20.1 a:r\n3 scan\n1 finish 7 a\n",
-        "1 1 taken\n1 6 freed\n2 2 request 1\n2 3 proceed\n3 4 request 2\n3 5 waiting a\nlocks 1\na 1 1 acquire 7 20.0 = taken\na 2 2 visit 1.1 8 19.4294967295 r = pass\na 3 3 visit 2.1 9 20.1 r = wait\na 4 1 finish 7 = freed let 2.1\n",
+        "1 1 taken\n1 6 freed\n2 2 request 1\n2 3 proceed\n3 4 request 2\n3 5 waiting a\nlocks 2\na 1 1 acquire 7 20.0 = taken\na 2 2 visit 1.1 8 19.4294967295 r = pass\na 3 3 visit 2.1 9 20.1 r = wait\na 4 1 finish 7 = freed let 2.1\n",
     ),
     (
         "examples/writers-go-by-number",
         "3 acquire 9 10.0 a\n1 open 1 10.0 a:w\n2 open 2 10.0 a:w\n2 scan\n1 scan\n3 finish 9 a\n1 await\n2 look a\n",
-        "1 2 request 1\n1 5 waiting a\n1 7 let\n2 3 request 2\n2 4 waiting a\n2 8 first 1 reserved\n3 1 taken\n3 6 freed\nlocks 1\na 1 3 acquire 9 10.0 = taken\na 2 2 visit 2.1 2 10.0 w = wait\na 3 1 visit 1.1 1 10.0 w = wait\na 4 3 finish 9 = freed let 1.1\na 5 2 look 2 = first 1 reserved\n",
+        "1 2 request 1\n1 5 waiting a\n1 7 let\n2 3 request 2\n2 4 waiting a\n2 8 first 1 reserved\n3 1 taken\n3 6 freed\nlocks 2\na 1 3 acquire 9 10.0 = taken\na 2 2 visit 2.1 2 10.0 w = wait\na 3 1 visit 1.1 1 10.0 w = wait\na 4 3 finish 9 = freed let 1.1\na 5 2 look 2 = first 1 reserved\n",
     ),
     (
         "a smaller number takes the reservation",
         "3 acquire 9 10.0 a\n1 open 1 10.0 a:w\n2 open 2 10.0 a:w\n2 scan\n3 finish 9 a\n1 scan\n2 look a\n1 look a\n",
-        "1 2 request 1\n1 6 proceed\n1 8 reserved\n2 3 request 2\n2 4 waiting a\n2 7 idle\n3 1 taken\n3 5 freed\nlocks 1\na 1 3 acquire 9 10.0 = taken\na 2 2 visit 2.1 2 10.0 w = wait\na 3 3 finish 9 = freed let 2.1\na 4 1 visit 1.1 1 10.0 w = pass\na 5 2 look 2 = idle\na 6 1 look 1 = reserved\n",
+        "1 2 request 1\n1 6 proceed\n1 8 reserved\n2 3 request 2\n2 4 waiting a\n2 7 idle\n3 1 taken\n3 5 freed\nlocks 2\na 1 3 acquire 9 10.0 = taken\na 2 2 visit 2.1 2 10.0 w = wait\na 3 3 finish 9 = freed let 2.1\na 4 1 visit 1.1 1 10.0 w = pass\na 5 2 look 2 = idle\na 6 1 look 1 = reserved\n",
     ),
     (
         "examples/a-reservation-is-passed-over",
         "3 acquire 9 10.0 a\n1 open 1 10.0 a:w\n2 open 2 10.0 a:w\n2 scan\n3 finish 9 a\n1 scan\n2 look a\n1 look a\n1 acquire 1 11.0 a\n1 finish 1 a\n2 look a\n2 await\n2 scan\n2 scan\n",
-        "1 2 request 1\n1 6 proceed\n1 8 reserved\n1 9 taken\n1 10 freed\n2 3 request 2\n2 4 waiting a\n2 7 idle\n2 11 reserved\n2 12 let\n2 13 rescan\n2 14 proceed\n3 1 taken\n3 5 freed\nlocks 1\na 1 3 acquire 9 10.0 = taken\na 2 2 visit 2.1 2 10.0 w = wait\na 3 3 finish 9 = freed let 2.1\na 4 1 visit 1.1 1 10.0 w = pass\na 5 2 look 2 = idle\na 6 1 look 1 = reserved\na 7 1 acquire 1 11.0 = taken\na 8 1 finish 1 = freed\na 9 2 look 2 = reserved\na 10 2 visit 2.2 2 10.0 w = pass\n",
+        "1 2 request 1\n1 6 proceed\n1 8 reserved\n1 9 taken\n1 10 freed\n2 3 request 2\n2 4 waiting a\n2 7 idle\n2 11 reserved\n2 12 let\n2 13 rescan\n2 14 proceed\n3 1 taken\n3 5 freed\nlocks 2\na 1 3 acquire 9 10.0 = taken\na 2 2 visit 2.1 2 10.0 w = wait\na 3 3 finish 9 = freed let 2.1\na 4 1 visit 1.1 1 10.0 w = pass\na 5 2 look 2 = idle\na 6 1 look 1 = reserved\na 7 1 acquire 1 11.0 = taken\na 8 1 finish 1 = freed\na 9 2 look 2 = reserved\na 10 2 visit 2.2 2 10.0 w = pass\n",
     ),
     (
         "a lock is taken over a reservation",
         "3 acquire 9 10.0 a\n1 open 1 10.0 a:w\n2 open 2 10.0 a:w\n1 scan\n2 scan\n3 finish 9 a\n3 acquire 5 12.0 a\n1 look a\n2 look a\n",
-        "1 2 request 1\n1 4 waiting a\n1 8 idle\n2 3 request 2\n2 5 waiting a\n2 9 first 5 held\n3 1 taken\n3 6 freed\n3 7 taken\nlocks 1\na 1 3 acquire 9 10.0 = taken\na 2 1 visit 1.1 1 10.0 w = wait\na 3 2 visit 2.1 2 10.0 w = wait\na 4 3 finish 9 = freed let 1.1\na 5 3 acquire 5 12.0 = taken\na 6 1 look 1 = idle\na 7 2 look 2 = first 5 held\n",
+        "1 2 request 1\n1 4 waiting a\n1 8 idle\n2 3 request 2\n2 5 waiting a\n2 9 first 5 held\n3 1 taken\n3 6 freed\n3 7 taken\nlocks 2\na 1 3 acquire 9 10.0 = taken\na 2 1 visit 1.1 1 10.0 w = wait\na 3 2 visit 2.1 2 10.0 w = wait\na 4 3 finish 9 = freed let 1.1\na 5 3 acquire 5 12.0 = taken\na 6 1 look 1 = idle\na 7 2 look 2 = first 5 held\n",
     ),
     (
         "examples/nobody-waits-for-himself",
         "3 acquire 9 10.0 a\n1 open 4 10.0 a:w\n2 open 4 10.0 a:w\n1 scan\n2 scan\n3 finish 9 a\n2 look a\n1 acquire 4 10.0 a\n2 await\n",
-        "1 2 request 1\n1 4 waiting a\n1 8 taken\n2 3 request 2\n2 5 waiting a\n2 7 own 4\n2 9 let\n3 1 taken\n3 6 freed\nlocks 1\na 1 3 acquire 9 10.0 = taken\na 2 1 visit 1.1 4 10.0 w = wait\na 3 2 visit 2.1 4 10.0 w = wait\na 4 3 finish 9 = freed let 1.1\na 5 2 look 2 = own 4\na 6 1 acquire 4 10.0 = taken let 2.1\n",
+        "1 2 request 1\n1 4 waiting a\n1 8 taken\n2 3 request 2\n2 5 waiting a\n2 7 own 4\n2 9 let\n3 1 taken\n3 6 freed\nlocks 2\na 1 3 acquire 9 10.0 = taken\na 2 1 visit 1.1 4 10.0 w = wait\na 3 2 visit 2.1 4 10.0 w = wait\na 4 3 finish 9 = freed let 1.1\na 5 2 look 2 = own 4\na 6 1 acquire 4 10.0 = taken let 2.1\n",
     ),
     (
         "a raised time lets the readers below it through",
         "3 acquire 9 10.0 a\n1 open 1 12.0 a:r\n1 scan\n2 open 2 15.0 a:r\n2 scan\n3 update 9 15.0 a\n1 await\n2 look a\n2 await\n",
-        "1 2 request 1\n1 3 waiting a\n1 7 let\n2 4 request 2\n2 5 waiting a\n2 8 first 9 held\n2 9 waiting\n3 1 taken\n3 6 raised\nlocks 1\na 1 3 acquire 9 10.0 = taken\na 2 1 visit 1.1 1 12.0 r = wait\na 3 2 visit 2.1 2 15.0 r = wait\na 4 3 update 9 15.0 = raised let 1.1\na 5 2 look 2 = first 9 held\n",
+        "1 2 request 1\n1 3 waiting a\n1 7 let\n2 4 request 2\n2 5 waiting a\n2 8 first 9 held\n2 9 waiting\n3 1 taken\n3 6 raised\nlocks 2\na 1 3 acquire 9 10.0 = taken\na 2 1 visit 1.1 1 12.0 r = wait\na 3 2 visit 2.1 2 15.0 r = wait\na 4 3 update 9 15.0 = raised let 1.1\na 5 2 look 2 = first 9 held\n",
     ),
     (
         "a lower time is kept, and others change nothing",
         "1 acquire 7 20.0 a\n1 acquire 7 5.0 a\n1 update 7 20.0 a\n2 acquire 8 30.0 a\n2 update 8 40.0 a\n2 finish 8 a\n2 finish 8 b\n",
-        "1 1 taken\n1 2 kept\n1 3 kept\n2 4 other\n2 5 other\n2 6 other\n2 7 other\nlocks 1\na 1 1 acquire 7 20.0 = taken\na 2 1 acquire 7 5.0 = kept\na 3 1 update 7 20.0 = kept\na 4 2 acquire 8 30.0 = other\na 5 2 update 8 40.0 = other\na 6 2 finish 8 = other\nb 1 2 finish 8 = other\n",
+        "1 1 taken\n1 2 kept\n1 3 kept\n2 4 other\n2 5 other\n2 6 other\n2 7 other\nlocks 2\na 1 1 acquire 7 20.0 = taken\na 2 1 acquire 7 5.0 = kept\na 3 1 update 7 20.0 = kept\na 4 2 acquire 8 30.0 = other\na 5 2 update 8 40.0 = other\na 6 2 finish 8 = other\nb 1 2 finish 8 = other\n",
     ),
     (
         "a leave gives the reservation on",
         "3 acquire 9 10.0 a\n1 open 1 10.0 a:w\n2 open 2 10.0 a:w\n1 scan\n2 scan\n3 finish 9 a\n1 leave\n2 await\n2 leave\n3 open 6 1.0 a:r\n3 leave\n",
-        "1 2 request 1\n1 4 waiting a\n1 7 done\n2 3 request 2\n2 5 waiting a\n2 8 let\n2 9 done\n3 1 taken\n3 6 freed\n3 10 request 3\n3 11 done\nlocks 1\na 1 3 acquire 9 10.0 = taken\na 2 1 visit 1.1 1 10.0 w = wait\na 3 2 visit 2.1 2 10.0 w = wait\na 4 3 finish 9 = freed let 1.1\na 5 1 leave 1 = left let 2.1\na 6 2 leave 2 = left\na 7 3 leave 3 = absent\n",
+        "1 2 request 1\n1 4 waiting a\n1 7 done\n2 3 request 2\n2 5 waiting a\n2 8 let\n2 9 done\n3 1 taken\n3 6 freed\n3 10 request 3\n3 11 done\nlocks 2\na 1 3 acquire 9 10.0 = taken\na 2 1 visit 1.1 1 10.0 w = wait\na 3 2 visit 2.1 2 10.0 w = wait\na 4 3 finish 9 = freed let 1.1\na 5 1 leave 1 = left let 2.1\na 6 2 leave 2 = left\na 7 3 leave 3 = absent\n",
     ),
     (
         "a scan of a request that waits is refused",
         "1 acquire 7 20.0 a\n2 open 8 20.0 a:r\n2 scan\n2 look a\n2 scan\n",
-        "1 1 taken\n2 2 request 1\n2 3 waiting a\n2 4 first 7 held\n2 5 refused StillWaiting\nlocks 1\na 1 1 acquire 7 20.0 = taken\na 2 2 visit 1.1 8 20.0 r = wait\na 3 2 look 1 = first 7 held\n",
+        "1 1 taken\n2 2 request 1\n2 3 waiting a\n2 4 first 7 held\n2 5 refused StillWaiting\nlocks 2\na 1 1 acquire 7 20.0 = taken\na 2 2 visit 1.1 8 20.0 r = wait\na 3 2 look 1 = first 7 held\n",
     ),
     (
         "a key of 64 bytes",
         "1 open 1 1.0 kkkkkkkkkkkkkkkkkkkkkkkkkkkkkkkkkkkkkkkkkkkkkkkkkkkkkkkkkkkkkkkk:r\n1 scan\n",
-        "1 1 request 1\n1 2 proceed\nlocks 1\nkkkkkkkkkkkkkkkkkkkkkkkkkkkkkkkkkkkkkkkkkkkkkkkkkkkkkkkkkkkkkkkk 1 1 visit 1.1 1 1.0 r = pass\n",
+        "1 1 request 1\n1 2 proceed\nlocks 2\nkkkkkkkkkkkkkkkkkkkkkkkkkkkkkkkkkkkkkkkkkkkkkkkkkkkkkkkkkkkkkkkk 1 1 visit 1.1 1 1.0 r = pass\n",
     ),
     (
         "readers are let through before the first writer",
         "4 acquire 9 10.0 a\n1 open 1 12.0 a:r\n1 scan\n2 open 2 15.0 a:r\n2 scan\n3 open 3 1.0 a:w\n3 scan\n4 finish 9 a\n3 look a\n",
-        "1 2 request 1\n1 3 waiting a\n2 4 request 2\n2 5 waiting a\n3 6 request 3\n3 7 waiting a\n3 9 reserved\n4 1 taken\n4 8 freed\nlocks 1\na 1 4 acquire 9 10.0 = taken\na 2 1 visit 1.1 1 12.0 r = wait\na 3 2 visit 2.1 2 15.0 r = wait\na 4 3 visit 3.1 3 1.0 w = wait\na 5 4 finish 9 = freed let 2.1 1.1 3.1\na 6 3 look 3 = reserved\n",
+        "1 2 request 1\n1 3 waiting a\n2 4 request 2\n2 5 waiting a\n3 6 request 3\n3 7 waiting a\n3 9 reserved\n4 1 taken\n4 8 freed\nlocks 2\na 1 4 acquire 9 10.0 = taken\na 2 1 visit 1.1 1 12.0 r = wait\na 3 2 visit 2.1 2 15.0 r = wait\na 4 3 visit 3.1 3 1.0 w = wait\na 5 4 finish 9 = freed let 2.1 1.1 3.1\na 6 3 look 3 = reserved\n",
     ),
     (
         "examples/the-distinguished-waiter-leaves",
         "4 acquire 9 10.0 a\n1 open 1 12.0 a:r\n1 scan\n2 open 2 15.0 a:r\n2 scan\n3 open 3 1.0 a:w\n3 scan\n3 look a\n1 leave\n3 look a\n2 look a\n",
-        "1 2 request 1\n1 3 waiting a\n1 9 done\n2 4 request 2\n2 5 waiting a\n2 11 first 9 held\n3 6 request 3\n3 7 waiting a\n3 8 for 9 held\n3 10 for 9 held\n4 1 taken\nlocks 1\na 1 4 acquire 9 10.0 = taken\na 2 1 visit 1.1 1 12.0 r = wait\na 3 2 visit 2.1 2 15.0 r = wait\na 4 3 visit 3.1 3 1.0 w = wait\na 5 3 look 3 = for 9 held\na 6 1 leave 1 = left\na 7 3 look 3 = for 9 held\na 8 2 look 2 = first 9 held\n",
+        "1 2 request 1\n1 3 waiting a\n1 9 done\n2 4 request 2\n2 5 waiting a\n2 11 first 9 held\n3 6 request 3\n3 7 waiting a\n3 8 for 9 held\n3 10 for 9 held\n4 1 taken\nlocks 2\na 1 4 acquire 9 10.0 = taken\na 2 1 visit 1.1 1 12.0 r = wait\na 3 2 visit 2.1 2 15.0 r = wait\na 4 3 visit 3.1 3 1.0 w = wait\na 5 3 look 3 = for 9 held\na 6 1 leave 1 = left\na 7 3 look 3 = for 9 held\na 8 2 look 2 = first 9 held\n",
     ),
     (
         "two keys apart",
         "1 acquire 7 20.0 a\n2 acquire 8 20.0 b\n1 finish 7 a\n2 finish 8 b\n",
-        "1 1 taken\n1 3 freed\n2 2 taken\n2 4 freed\nlocks 1\na 1 1 acquire 7 20.0 = taken\na 2 1 finish 7 = freed\nb 1 2 acquire 8 20.0 = taken\nb 2 2 finish 8 = freed\n",
+        "1 1 taken\n1 3 freed\n2 2 taken\n2 4 freed\nlocks 2\na 1 1 acquire 7 20.0 = taken\na 2 1 finish 7 = freed\nb 1 2 acquire 8 20.0 = taken\nb 2 2 finish 8 = freed\n",
     ),
     (
         "a scan without a request",
         "1 scan\n",
-        "1 1 none\nlocks 1\n",
+        "1 1 none\nlocks 2\n",
     ),
     (
         "a look at a key that was not named",
         "1 open 7 1.0 a:r\n1 look b\n",
-        "1 1 request 1\n1 2 stranger\nlocks 1\n",
+        "1 1 request 1\n1 2 stranger\nlocks 2\n",
     ),
     (
         "an update of a pass with a request",
         "1 open 7 1.0 a:w\n1 acquire 7 1.0 a\n1 update 7 2.0 a\n",
-        "1 1 request 1\n1 2 taken\n1 3 raised\nlocks 1\na 1 1 acquire 7 1.0 = taken\na 2 1 update 7 2.0 = raised\n",
+        "1 1 request 1\n1 2 taken\n1 3 raised\nlocks 2\na 1 1 acquire 7 1.0 = taken\na 2 1 update 7 2.0 = raised\n",
     ),
     (
         "a let of an earlier wait lets nothing through",
         "2 acquire 9 1.0 a\n2 acquire 9 1.0 b\n1 open 1 1.0 a:w\n1 scan\n2 finish 9 a\n1 leave\n1 open 1 1.0 b:w\n1 scan\n1 await\n2 finish 9 b\n1 await\n",
-        "1 3 request 1\n1 4 waiting a\n1 6 done\n1 7 request 2\n1 8 waiting b\n1 9 waiting\n1 11 let\n2 1 taken\n2 2 taken\n2 5 freed\n2 10 freed\nlocks 1\na 1 2 acquire 9 1.0 = taken\na 2 1 visit 1.1 1 1.0 w = wait\na 3 2 finish 9 = freed let 1.1\na 4 1 leave 1 = left\nb 1 2 acquire 9 1.0 = taken\nb 2 1 visit 2.1 1 1.0 w = wait\nb 3 2 finish 9 = freed let 2.1\n",
+        "1 3 request 1\n1 4 waiting a\n1 6 done\n1 7 request 2\n1 8 waiting b\n1 9 waiting\n1 11 let\n2 1 taken\n2 2 taken\n2 5 freed\n2 10 freed\nlocks 2\na 1 2 acquire 9 1.0 = taken\na 2 1 visit 1.1 1 1.0 w = wait\na 3 2 finish 9 = freed let 1.1\na 4 1 leave 1 = left\nb 1 2 acquire 9 1.0 = taken\nb 2 1 visit 2.1 1 1.0 w = wait\nb 3 2 finish 9 = freed let 2.1\n",
     ),
     (
         "examples/a-scan-over-three-keys",
         "2 acquire 9 10.0 b\n1 open 1 20.0 c:r a:w b:w\n1 scan\n1 await\n2 finish 9 b\n1 await\n1 scan\n1 scan\n1 await\n",
-        "1 2 request 1\n1 3 waiting b\n1 4 waiting\n1 6 let\n1 7 rescan\n1 8 proceed\n1 9 idle\n2 1 taken\n2 5 freed\nlocks 1\na 1 1 visit 1.1 1 20.0 w = pass\na 2 1 visit 1.2 1 20.0 w = pass\nb 1 2 acquire 9 10.0 = taken\nb 2 1 visit 1.1 1 20.0 w = wait\nb 3 2 finish 9 = freed let 1.1\nb 4 1 visit 1.2 1 20.0 w = pass\nc 1 1 visit 1.2 1 20.0 r = pass\nc 2 1 visit 1.2 1 20.0 r = pass\n",
+        "1 2 request 1\n1 3 waiting b\n1 4 waiting\n1 6 let\n1 7 rescan\n1 8 proceed\n1 9 idle\n2 1 taken\n2 5 freed\nlocks 2\na 1 1 visit 1.1 1 20.0 w = pass\na 2 1 visit 1.2 1 20.0 w = pass\nb 1 2 acquire 9 10.0 = taken\nb 2 1 visit 1.1 1 20.0 w = wait\nb 3 2 finish 9 = freed let 1.1\nb 4 1 visit 1.2 1 20.0 w = pass\nc 1 1 visit 1.2 1 20.0 r = pass\nc 2 1 visit 1.2 1 20.0 r = pass\n",
     ),
     (
         "a request without a key",
         "1 open 1 1.0\n1 scan\n",
-        "1 1 refused NoKeys\n1 2 none\nlocks 1\n",
+        "1 1 refused NoKeys\n1 2 none\nlocks 2\n",
     ),
     (
         "a key that is named twice is visited once, as a write",
         "1 open 1 1.0 a:r a:w\n1 scan\n",
-        "1 1 request 1\n1 2 proceed\nlocks 1\na 1 1 visit 1.1 1 1.0 w = pass\n",
+        "1 1 request 1\n1 2 proceed\nlocks 2\na 1 1 visit 1.1 1 1.0 w = pass\n",
     ),
     (
         "a pass with a request opens no other one",
         "1 open 1 1.0 a:r\n1 open 2 1.0 b:r\n1 leave\n1 open 2 1.0 b:r\n",
-        "1 1 request 1\n1 2 busy\n1 3 done\n1 4 request 2\nlocks 1\na 1 1 leave 1 = absent\n",
+        "1 1 request 1\n1 2 busy\n1 3 done\n1 4 request 2\nlocks 2\na 1 1 leave 1 = absent\n",
+    ),
+    (
+        "examples/writers-without-a-transaction",
+        "4 acquire 9 10.0 a\n1 open - 1.0 a:w\n1 scan\n2 open 2 1.0 a:w\n2 scan\n3 open - 1.0 a:w\n3 scan\n4 finish 9 a\n3 look a\n2 leave\n3 await\n",
+        "1 2 request 1\n1 3 waiting a\n2 4 request 2\n2 5 waiting a\n2 10 done\n3 6 request 3\n3 7 waiting a\n3 9 first 2 reserved\n3 11 let\n4 1 taken\n4 8 freed\nlocks 2\na 1 4 acquire 9 10.0 = taken\na 2 1 visit 1.1 - 1.0 w = wait\na 3 2 visit 2.1 2 1.0 w = wait\na 4 3 visit 3.1 - 1.0 w = wait\na 5 4 finish 9 = freed let 1.1 2.1\na 6 3 look 3 = first 2 reserved\na 7 2 leave 2 = left let 3.1\n",
+    ),
+    (
+        "a request without a transaction passes where a greater number has the lock reserved, and leaves it reserved",
+        "4 acquire 9 10.0 a\n1 open - 1.0 a:w\n2 open 2 1.0 a:w\n2 scan\n4 finish 9 a\n1 scan\n2 look a\n3 open - 1.0 a:w\n3 scan\n3 look a\n",
+        "1 2 request 1\n1 6 proceed\n2 3 request 2\n2 4 waiting a\n2 7 reserved\n3 8 request 3\n3 9 waiting a\n3 10 first 2 reserved\n4 1 taken\n4 5 freed\nlocks 2\na 1 4 acquire 9 10.0 = taken\na 2 2 visit 2.1 2 1.0 w = wait\na 3 4 finish 9 = freed let 2.1\na 4 1 visit 1.1 - 1.0 w = pass\na 5 2 look 2 = reserved\na 6 3 visit 3.1 - 1.0 w = wait\na 7 3 look 3 = first 2 reserved\n",
+    ),
+    (
+        "examples/a-bound-on-a-queue",
+        "4 acquire 9 10.0 a\n1 open 1 1.0 a:w\n1 scan\n2 open 2 1.0 max=1 a:w\n2 scan\n2 await\n3 open 3 1.0 max=2 a:w\n3 scan\n4 finish 9 a\n2 scan\n2 leave\n",
+        "1 2 request 1\n1 3 waiting a\n2 4 request 2\n2 5 long a\n2 6 idle\n2 10 long a\n2 11 done\n3 7 request 3\n3 8 waiting a\n4 1 taken\n4 9 freed\nlocks 2\na 1 4 acquire 9 10.0 = taken\na 2 1 visit 1.1 1 1.0 w = wait\na 3 2 visit 2.1 2 1.0 w max=1 = long\na 4 3 visit 3.1 3 1.0 w max=2 = wait\na 5 4 finish 9 = freed let 1.1\na 6 2 visit 2.1 2 1.0 w max=1 = long\na 7 2 leave 2 = absent\n",
+    ),
+    (
+        "a request that stands already is not refused by its bound",
+        "3 acquire 9 10.0 a\n1 open 1 10.0 a:w\n2 open 2 10.0 max=1 a:w\n2 scan\n3 finish 9 a\n1 scan\n2 scan\n2 scan\n2 await\n",
+        "1 2 request 1\n1 6 proceed\n2 3 request 2\n2 4 waiting a\n2 7 rescan\n2 8 waiting a\n2 9 waiting\n3 1 taken\n3 5 freed\nlocks 2\na 1 3 acquire 9 10.0 = taken\na 2 2 visit 2.1 2 10.0 w max=1 = wait\na 3 3 finish 9 = freed let 2.1\na 4 1 visit 1.1 1 10.0 w = pass\na 5 2 visit 2.2 2 10.0 w max=1 = wait\n",
+    ),
+    (
+        "a bound that ends like an access is a key",
+        "1 open 7 1.0 max=0:r\n1 scan\n",
+        "1 1 request 1\n1 2 proceed\nlocks 2\nmax=0 1 1 visit 1.1 7 1.0 r = pass\n",
     ),
 ];
 
@@ -142,7 +167,7 @@ const OTHERWISE: [(
         (
             "a full history refuses steps, and a refused leave stays on its way",
             "1 acquire 7 20.0 a\n1 update 7 21.0 a\n1 finish 7 a\n2 open 8 1.0 a:w\n2 leave\n2 scan\n2 open 8 1.0 a:w\n",
-            "1 1 taken\n1 2 raised\n1 3 refused HistoryFull\n2 4 request 1\n2 5 refused HistoryFull\n2 6 refused Leaving\n2 7 busy\nlocks 1\na 1 1 acquire 7 20.0 = taken\na 2 1 update 7 21.0 = raised\n",
+            "1 1 taken\n1 2 raised\n1 3 refused HistoryFull\n2 4 request 1\n2 5 refused HistoryFull\n2 6 refused Leaving\n2 7 busy\nlocks 2\na 1 1 acquire 7 20.0 = taken\na 2 1 update 7 21.0 = raised\n",
         ),
         (1, 2, false, 1000000),
         Finish::Done,
@@ -151,7 +176,7 @@ const OTHERWISE: [(
         (
             "a history that fills in the middle of a scan",
             "1 open 5 1.0 a:w b:w c:w d:w\n1 scan\n1 scan\n1 await\n1 leave\n",
-            "1 1 request 1\n1 2 refused HistoryFull\n1 3 refused HistoryFull\n1 4 idle\n1 5 refused HistoryFull\nlocks 1\na 1 1 visit 1.1 5 1.0 w = pass\nb 1 1 visit 1.1 5 1.0 w = pass\nc 1 1 visit 1.1 5 1.0 w = pass\n",
+            "1 1 request 1\n1 2 refused HistoryFull\n1 3 refused HistoryFull\n1 4 idle\n1 5 refused HistoryFull\nlocks 2\na 1 1 visit 1.1 5 1.0 w = pass\nb 1 1 visit 1.1 5 1.0 w = pass\nc 1 1 visit 1.1 5 1.0 w = pass\n",
         ),
         (1, 3, false, 1000000),
         Finish::Done,
@@ -160,7 +185,7 @@ const OTHERWISE: [(
         (
             "a history that is full in the middle of a leave",
             "1 acquire 7 1.0 b\n2 open 8 1.0 a:w b:w\n2 leave\n2 leave\n2 scan\n2 await\n",
-            "1 1 taken\n2 2 request 1\n2 3 refused HistoryFull\n2 4 refused HistoryFull\n2 5 refused Leaving\n2 6 idle\nlocks 1\na 1 2 leave 1 = absent\nb 1 1 acquire 7 1.0 = taken\n",
+            "1 1 taken\n2 2 request 1\n2 3 refused HistoryFull\n2 4 refused HistoryFull\n2 5 refused Leaving\n2 6 idle\nlocks 2\na 1 2 leave 1 = absent\nb 1 1 acquire 7 1.0 = taken\n",
         ),
         (2, 1, false, 1000000),
         Finish::Done,
@@ -169,7 +194,7 @@ const OTHERWISE: [(
         (
             "each shard has room of its own",
             "1 acquire 7 1.0 a\n1 acquire 7 1.0 b\n1 finish 7 a\n1 finish 7 c\n",
-            "1 1 taken\n1 2 taken\n1 3 refused HistoryFull\n1 4 refused HistoryFull\nlocks 1\na 1 1 acquire 7 1.0 = taken\nb 1 1 acquire 7 1.0 = taken\n",
+            "1 1 taken\n1 2 taken\n1 3 refused HistoryFull\n1 4 refused HistoryFull\nlocks 2\na 1 1 acquire 7 1.0 = taken\nb 1 1 acquire 7 1.0 = taken\n",
         ),
         (2, 1, false, 1000000),
         Finish::Done,
@@ -183,7 +208,7 @@ const OTHERWISE: [(
         (
             "turns that are used up end a pass",
             "1 acquire 7 1.0 a\n1 open 8 1.0 a:w\n1 scan\n1 await\n1 leave\n",
-            "1 1 taken\n1 2 request 1\n1 3 waiting a\n1 4 turns\nlocks 1\na 1 1 acquire 7 1.0 = taken\na 2 1 visit 1.1 8 1.0 w = wait\n",
+            "1 1 taken\n1 2 request 1\n1 3 waiting a\n1 4 turns\nlocks 2\na 1 1 acquire 7 1.0 = taken\na 2 1 visit 1.1 8 1.0 w = wait\n",
         ),
         (4, 1000000, true, 10),
         Finish::TurnsOut,
@@ -194,11 +219,11 @@ const OTHERWISE: [(
 const TWO_KEYS: &str = "1 acquire 7 20.0 a\n2 acquire 8 20.0 b\n1 finish 7 a\n2 finish 8 b\n";
 
 const TWO_KEYS_ANSWERED: &str =
-    "1 1 taken\n1 3 freed\n2 2 taken\n2 4 freed\nlocks 1\na 1 1 acquire 7 20.0 = taken\na 2 1 finish 7 = freed\nb 1 2 acquire 8 20.0 = taken\nb 2 2 finish 8 = freed\n";
+    "1 1 taken\n1 3 freed\n2 2 taken\n2 4 freed\nlocks 2\na 1 1 acquire 7 20.0 = taken\na 2 1 finish 7 = freed\nb 1 2 acquire 8 20.0 = taken\nb 2 2 finish 8 = freed\n";
 
 /// The same without the last line.
 const TWO_KEYS_BUT_ONE_LINE: &str =
-    "1 1 taken\n1 3 freed\n2 2 taken\nlocks 1\na 1 1 acquire 7 20.0 = taken\na 2 1 finish 7 = freed\nb 1 2 acquire 8 20.0 = taken\n";
+    "1 1 taken\n1 3 freed\n2 2 taken\nlocks 2\na 1 1 acquire 7 20.0 = taken\na 2 1 finish 7 = freed\nb 1 2 acquire 8 20.0 = taken\n";
 
 type Ending = Result<Finish, RunError>;
 
@@ -283,8 +308,8 @@ fn many_accesses(alloc: Global, count: usize) -> Result<Vec<u8>, AllocError> {
 #[test]
 fn a_request_has_up_to_256_accesses(rt: HostRuntime) {
     for (count, answer) in [
-        (256, "1 1 request 1\nlocks 1\n"),
-        (257, "1 1 refused TooManyKeys\nlocks 1\n"),
+        (256, "1 1 request 1\nlocks 2\n"),
+        (257, "1 1 refused TooManyKeys\nlocks 2\n"),
     ] {
         let mut script = many_accesses(rt.alloc(), count).unwrap_or(Vec::new(rt.alloc()));
         if script.is_empty() {
@@ -337,7 +362,7 @@ fn passes_work_at_once(rt: HostRuntime) {
 /// A lock that is taken, and a request for it.
 const TWO_LINES: &str = "1 acquire 7 20.0 a\n2 open 8 20.0 a:r\n";
 
-const ANSWERED: &str = "1 1 taken\n2 2 request 1\nlocks 1\na 1 1 acquire 7 20.0 = taken\n";
+const ANSWERED: &str = "1 1 taken\n2 2 request 1\nlocks 2\na 1 1 acquire 7 20.0 = taken\n";
 
 fn torn(fails_at: usize) -> Torn<'static> {
     Torn {
@@ -400,7 +425,7 @@ fn writes_that_fail(rt: HostRuntime) {
 #[test]
 fn long_scripts(rt: HostRuntime) {
     for (left, ending, written) in [
-        (16_777_216, Ok(Finish::Done), "locks 1\n"),
+        (16_777_216, Ok(Finish::Done), "locks 2\n"),
         (16_777_217, Err(RunError::TooLong), ""),
         (usize::MAX, Err(RunError::TooLong), ""),
     ] {
@@ -419,14 +444,14 @@ fn long_scripts(rt: HostRuntime) {
 /// From which length and before which one the fronts of the two lines have this fault, or this output. The last line may
 /// lack its end.
 const FRONTS: [(usize, usize, Option<(usize, Fault)>, &str); 10] = [
-    (0, 1, None, "locks 1\n"),
+    (0, 1, None, "locks 2\n"),
     (1, 9, Some((1, Fault::BadCall)), ""),
     (9, 18, Some((1, Fault::BadWords)), ""),
     (
         18,
         20,
         None,
-        "1 1 taken\nlocks 1\na 1 1 acquire 7 20.0 = taken\n",
+        "1 1 taken\nlocks 2\na 1 1 acquire 7 20.0 = taken\n",
     ),
     (20, 25, Some((2, Fault::BadCall)), ""),
     (25, 29, Some((2, Fault::BadWords)), ""),
@@ -435,7 +460,7 @@ const FRONTS: [(usize, usize, Option<(usize, Fault)>, &str); 10] = [
         32,
         34,
         None,
-        "1 1 taken\n2 2 refused NoKeys\nlocks 1\na 1 1 acquire 7 20.0 = taken\n",
+        "1 1 taken\n2 2 refused NoKeys\nlocks 2\na 1 1 acquire 7 20.0 = taken\n",
     ),
     (34, 36, Some((2, Fault::BadAccess)), ""),
     (36, 38, None, ANSWERED),

@@ -22,7 +22,7 @@ type Case = (
     &'static str,
 );
 
-const ENDS: [Case; 38] = [
+const ENDS: [Case; 39] = [
     (
         "a script that is not there",
         &["run", "no-such-file"],
@@ -44,7 +44,7 @@ const ENDS: [Case; 38] = [
         &["run"],
         "1 acquire 7 20.0 a\n2 open 8 19.4294967295 a:r\n2 scan\n3 open 9 20.1 a:r\n3 scan\n1 finish 7 a\n",
         0,
-        "1 1 taken\n1 6 freed\n2 2 request 1\n2 3 proceed\n3 4 request 2\n3 5 waiting a\nlocks 1\na 1 1 acquire 7 20.0 = taken\na 2 2 visit 1.1 8 19.4294967295 r = pass\na 3 3 visit 2.1 9 20.1 r = wait\na 4 1 finish 7 = freed let 2.1\n",
+        "1 1 taken\n1 6 freed\n2 2 request 1\n2 3 proceed\n3 4 request 2\n3 5 waiting a\nlocks 2\na 1 1 acquire 7 20.0 = taken\na 2 2 visit 1.1 8 19.4294967295 r = pass\na 3 3 visit 2.1 9 20.1 r = wait\na 4 1 finish 7 = freed let 2.1\n",
         "",
     ),
     (
@@ -82,7 +82,7 @@ const ENDS: [Case; 38] = [
     (
         "a command that is none",
         &["upgrade"],
-        "locks 1\na 1 1 acquire 7 20.0 = taken\na 2 2 visit 1.1 8 20.0 r = wait\na 3 2 look 1 = first 7 held\n",
+        "locks 2\na 1 1 acquire 7 20.0 = taken\na 2 2 visit 1.1 8 20.0 r = wait\na 3 2 look 1 = first 7 held\n",
         2,
         "",
         "lockrun: command line\n",
@@ -90,7 +90,7 @@ const ENDS: [Case; 38] = [
     (
         "a reader that waits",
         &["check"],
-        "locks 1\na 1 1 acquire 7 20.0 = taken\na 2 2 visit 1.1 8 20.0 r = wait\na 3 2 look 1 = first 7 held\n",
+        "locks 2\na 1 1 acquire 7 20.0 = taken\na 2 2 visit 1.1 8 20.0 r = wait\na 3 2 look 1 = first 7 held\n",
         0,
         "ok 1 keys 3 steps\n",
         "",
@@ -98,7 +98,7 @@ const ENDS: [Case; 38] = [
     (
         "a reader that should wait",
         &["check"],
-        "locks 1\na 1 1 acquire 7 20.0 = taken\na 2 2 visit 1.1 8 20.0 r = pass\na 3 2 look 1 = first 7 held\n",
+        "locks 2\na 1 1 acquire 7 20.0 = taken\na 2 2 visit 1.1 8 20.0 r = pass\na 3 2 look 1 = first 7 held\n",
         1,
         "",
         "lockrun: line 3: WrongReply\n",
@@ -106,7 +106,7 @@ const ENDS: [Case; 38] = [
     (
         "a step left out",
         &["check"],
-        "locks 1\na 1 1 acquire 7 20.0 = taken\na 3 2 visit 1.1 8 20.0 r = wait\na 3 2 look 1 = first 7 held\n",
+        "locks 2\na 1 1 acquire 7 20.0 = taken\na 3 2 visit 1.1 8 20.0 r = wait\na 3 2 look 1 = first 7 held\n",
         1,
         "",
         "lockrun: line 3: Index\n",
@@ -114,7 +114,7 @@ const ENDS: [Case; 38] = [
     (
         "a number with a zero before it",
         &["check"],
-        "locks 1\na 1 1 acquire 7 20.0 = taken\na 02 2 visit 1.1 8 20.0 r = wait\na 3 2 look 1 = first 7 held\n",
+        "locks 2\na 1 1 acquire 7 20.0 = taken\na 02 2 visit 1.1 8 20.0 r = wait\na 3 2 look 1 = first 7 held\n",
         1,
         "",
         "lockrun: line 3: Shape\n",
@@ -122,7 +122,7 @@ const ENDS: [Case; 38] = [
     (
         "a cut in the last line",
         &["check"],
-        "locks 1\na 1 1 acquire 7 20.0 = taken\na 2 2 visit 1.1 8 20.0 r = wait\na 3 2 look 1 = first 7 he",
+        "locks 2\na 1 1 acquire 7 20.0 = taken\na 2 2 visit 1.1 8 20.0 r = wait\na 3 2 look 1 = first 7 he",
         1,
         "",
         "lockrun: line 4: Shape\n",
@@ -130,7 +130,7 @@ const ENDS: [Case; 38] = [
     (
         "no last line end",
         &["check"],
-        "locks 1\na 1 1 acquire 7 20.0 = taken\na 2 2 visit 1.1 8 20.0 r = wait\na 3 2 look 1 = first 7 held",
+        "locks 2\na 1 1 acquire 7 20.0 = taken\na 2 2 visit 1.1 8 20.0 r = wait\na 3 2 look 1 = first 7 held",
         1,
         "",
         "lockrun: line 4: Shape\n",
@@ -138,7 +138,7 @@ const ENDS: [Case; 38] = [
     (
         "a cut after a line",
         &["check"],
-        "locks 1\na 1 1 acquire 7 20.0 = taken\na 2 2 visit 1.1 8 20.0 r = wait\n",
+        "locks 2\na 1 1 acquire 7 20.0 = taken\na 2 2 visit 1.1 8 20.0 r = wait\n",
         0,
         "ok 1 keys 2 steps\n",
         "",
@@ -154,7 +154,7 @@ const ENDS: [Case; 38] = [
     (
         "a let that is missing",
         &["check"],
-        "locks 1\na 1 3 acquire 9 10.0 = taken\na 2 2 visit 2.1 2 10.0 w = wait\na 3 1 visit 1.1 1 10.0 w = wait\na 4 3 finish 9 = freed\na 5 2 look 2 = first 1 reserved\n",
+        "locks 2\na 1 3 acquire 9 10.0 = taken\na 2 2 visit 2.1 2 10.0 w = wait\na 3 1 visit 1.1 1 10.0 w = wait\na 4 3 finish 9 = freed\na 5 2 look 2 = first 1 reserved\n",
         1,
         "",
         "lockrun: line 5: WrongLets\n",
@@ -162,7 +162,7 @@ const ENDS: [Case; 38] = [
     (
         "keys that fall",
         &["check"],
-        "locks 1\nb 1 2 finish 8 = other\na 1 1 acquire 7 20.0 = taken\na 2 1 acquire 7 5.0 = kept\na 3 1 update 7 20.0 = kept\na 4 2 acquire 8 30.0 = other\na 5 2 update 8 40.0 = other\na 6 2 finish 8 = other\n",
+        "locks 2\nb 1 2 finish 8 = other\na 1 1 acquire 7 20.0 = taken\na 2 1 acquire 7 5.0 = kept\na 3 1 update 7 20.0 = kept\na 4 2 acquire 8 30.0 = other\na 5 2 update 8 40.0 = other\na 6 2 finish 8 = other\n",
         1,
         "",
         "lockrun: line 3: KeyOrder\n",
@@ -178,7 +178,7 @@ const ENDS: [Case; 38] = [
     (
         "the least numbers",
         &["check"],
-        "locks 1\na 1 1 visit 1.1 1 1.0 w = pass\n",
+        "locks 2\na 1 1 visit 1.1 1 1.0 w = pass\n",
         0,
         "ok 1 keys 1 steps\n",
         "",
@@ -186,7 +186,7 @@ const ENDS: [Case; 38] = [
     (
         "the greatest numbers",
         &["check"],
-        "locks 1\na 1 1 visit 1099511627775.16777215 18446744073709551615 1.0 w = pass\n",
+        "locks 2\na 1 1 visit 1099511627775.16777215 18446744073709551615 1.0 w = pass\n",
         0,
         "ok 1 keys 1 steps\n",
         "",
@@ -194,7 +194,7 @@ const ENDS: [Case; 38] = [
     (
         "a number of 0",
         &["check"],
-        "locks 1\na 1 1 visit 0.1 1 1.0 w = pass\n",
+        "locks 2\na 1 1 visit 0.1 1 1.0 w = pass\n",
         1,
         "",
         "lockrun: line 2: Shape\n",
@@ -202,7 +202,7 @@ const ENDS: [Case; 38] = [
     (
         "a number too great",
         &["check"],
-        "locks 1\na 1 1 visit 1099511627776.1 1 1.0 w = pass\n",
+        "locks 2\na 1 1 visit 1099511627776.1 1 1.0 w = pass\n",
         1,
         "",
         "lockrun: line 2: Shape\n",
@@ -210,7 +210,7 @@ const ENDS: [Case; 38] = [
     (
         "a wait of 0",
         &["check"],
-        "locks 1\na 1 1 visit 1.0 1 1.0 w = pass\n",
+        "locks 2\na 1 1 visit 1.0 1 1.0 w = pass\n",
         1,
         "",
         "lockrun: line 2: Shape\n",
@@ -218,7 +218,7 @@ const ENDS: [Case; 38] = [
     (
         "a wait too great",
         &["check"],
-        "locks 1\na 1 1 visit 1.16777216 1 1.0 w = pass\n",
+        "locks 2\na 1 1 visit 1.16777216 1 1.0 w = pass\n",
         1,
         "",
         "lockrun: line 2: Shape\n",
@@ -226,7 +226,7 @@ const ENDS: [Case; 38] = [
     (
         "a transaction of 0",
         &["check"],
-        "locks 1\na 1 1 visit 1.1 0 1.0 w = pass\n",
+        "locks 2\na 1 1 visit 1.1 0 1.0 w = pass\n",
         1,
         "",
         "lockrun: line 2: Shape\n",
@@ -234,7 +234,7 @@ const ENDS: [Case; 38] = [
     (
         "a transaction too great",
         &["check"],
-        "locks 1\na 1 1 visit 1.1 18446744073709551616 1.0 w = pass\n",
+        "locks 2\na 1 1 visit 1.1 18446744073709551616 1.0 w = pass\n",
         1,
         "",
         "lockrun: line 2: Shape\n",
@@ -242,7 +242,7 @@ const ENDS: [Case; 38] = [
     (
         "a request that waits twice",
         &["check"],
-        "locks 1\na 1 9 acquire 9 10.0 = taken\na 2 1 visit 1.1 1 12.0 r = wait\na 3 1 visit 1.2 1 12.0 r = wait\na 4 9 update 9 13.0 = raised let 1.2\na 5 2 visit 2.1 2 12.0 w = wait\na 6 2 visit 2.2 2 12.0 r = pass\na 7 3 visit 3.1 3 20.0 w = wait\na 8 3 visit 3.2 3 20.0 r = wait\na 9 9 finish 9 = freed let 2.1\na 10 3 look 3 = first 2 reserved\na 11 2 leave 2 = left let 3.2\na 12 3 look 3 = reserved\na 13 3 leave 3 = left\na 14 3 look 3 = nothing\n",
+        "locks 2\na 1 9 acquire 9 10.0 = taken\na 2 1 visit 1.1 1 12.0 r = wait\na 3 1 visit 1.2 1 12.0 r = wait\na 4 9 update 9 13.0 = raised let 1.2\na 5 2 visit 2.1 2 12.0 w = wait\na 6 2 visit 2.2 2 12.0 r = pass\na 7 3 visit 3.1 3 20.0 w = wait\na 8 3 visit 3.2 3 20.0 r = wait\na 9 9 finish 9 = freed let 2.1\na 10 3 look 3 = first 2 reserved\na 11 2 leave 2 = left let 3.2\na 12 3 look 3 = reserved\na 13 3 leave 3 = left\na 14 3 look 3 = nothing\n",
         0,
         "ok 1 keys 14 steps\n",
         "",
@@ -250,7 +250,7 @@ const ENDS: [Case; 38] = [
     (
         "no steps",
         &["check"],
-        "locks 1\n",
+        "locks 2\n",
         0,
         "ok 0 keys 0 steps\n",
         "",
@@ -276,18 +276,26 @@ const ENDS: [Case; 38] = [
         &["run", "/dev/null"],
         "1 jump\n",
         0,
-        "locks 1\n",
+        "locks 2\n",
         "",
     ),
     (
         "a file without bytes is no histories",
         &["check", "/dev/null"],
-        "locks 1\n",
+        "locks 2\n",
         1,
         "",
         "lockrun: line 1: Header\n",
     ),
-    ("no words", &[], "1 scan\n", 0, "1 1 none\nlocks 1\n", ""),
+    ("no words", &[], "1 scan\n", 0, "1 1 none\nlocks 2\n", ""),
+    (
+        "a bound of 0",
+        &["run"],
+        "1 open 7 1.0 max=0 a:r\n",
+        1,
+        "",
+        "lockrun: line 1: BadMax\n",
+    ),
     (
         "a refused script",
         &["run"],
@@ -329,7 +337,7 @@ const ENDS_WITH_OPTIONS: [Case; 3] = [
         &["run", "--threads", "--turns", "10"],
         "1 acquire 7 1.0 a\n1 open 8 1.0 a:w\n1 scan\n1 await\n1 leave\n",
         3,
-        "1 1 taken\n1 2 request 1\n1 3 waiting a\n1 4 turns\nlocks 1\na 1 1 acquire 7 1.0 = taken\na 2 1 visit 1.1 8 1.0 w = wait\n",
+        "1 1 taken\n1 2 request 1\n1 3 waiting a\n1 4 turns\nlocks 2\na 1 1 acquire 7 1.0 = taken\na 2 1 visit 1.1 8 1.0 w = wait\n",
         "lockrun: turns\n",
     ),
     (
@@ -337,7 +345,7 @@ const ENDS_WITH_OPTIONS: [Case; 3] = [
         &["run", "--shards", "1", "--steps", "2"],
         "1 acquire 7 20.0 a\n1 update 7 21.0 a\n1 finish 7 a\n",
         0,
-        "1 1 taken\n1 2 raised\n1 3 refused HistoryFull\nlocks 1\na 1 1 acquire 7 20.0 = taken\na 2 1 update 7 21.0 = raised\n",
+        "1 1 taken\n1 2 raised\n1 3 refused HistoryFull\nlocks 2\na 1 1 acquire 7 20.0 = taken\na 2 1 update 7 21.0 = raised\n",
         "",
     ),
     (
@@ -345,7 +353,7 @@ const ENDS_WITH_OPTIONS: [Case; 3] = [
         &["run", "--threads"],
         "1 acquire 7 20.0 a\n2 acquire 8 20.0 b\n1 finish 7 a\n2 finish 8 b\n",
         0,
-        "1 1 taken\n1 3 freed\n2 2 taken\n2 4 freed\nlocks 1\na 1 1 acquire 7 20.0 = taken\na 2 1 finish 7 = freed\nb 1 2 acquire 8 20.0 = taken\nb 2 2 finish 8 = freed\n",
+        "1 1 taken\n1 3 freed\n2 2 taken\n2 4 freed\nlocks 2\na 1 1 acquire 7 20.0 = taken\na 2 1 finish 7 = freed\nb 1 2 acquire 8 20.0 = taken\nb 2 2 finish 8 = freed\n",
         "",
     ),
 ];

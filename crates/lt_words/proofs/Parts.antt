@@ -1,5 +1,5 @@
 -- What the parts of a legal history tell, and those of its beginnings.
-use Rattle.std.proofs.Common.{◌≡◌, ◌≢◌, ℕ, ◌+◌, ◌==◌, ◌⊎◌, Bool, true, false, cond, Some, List, [], ◌∷◌, ◌++◌, map, refl, ap, sym, subst, ◌∙◌}
+use Rattle.std.proofs.Common.{◌≡◌, ◌≢◌, ℕ, ◌+◌, ◌==◌, ◌⊎◌, Bool, true, false, cond, Option, Some, List, [], ◌∷◌, ◌++◌, map, refl, ap, sym, subst, ◌∙◌}
 use Rattle.std.specs.Prelude.{slice_get}
 use Rattle.std.specs.List.{AllByRecursion}
 use Rattle.std.specs.Str.{bytes_eq}
@@ -102,6 +102,6 @@ parts_are_legal shards shard h legal = λ k. dite (ℕ_discrete shard (shard_of 
 pub one_holder_at_each_key : OneHolder → (es : List Entry) (key : List ℕ) (past rest : List KeyEvent) (T U : ℕ) → AreLegalKeys es → key_history key es ≡ past ++ rest → Holds past T → Holds past U → T ≡ U
 one_holder_at_each_key law es key past rest T U legal is t u = law past rest T U (subst IsLegal is (legal key)) t u
 
-pub reads_pass_at_each_key : ReadsPass → (es : List Entry) (key : List ℕ) (past rest : List KeyEvent) (e : KeyEvent) (ticket : Wait) (txn : ℕ) (ts : Timestamp) → AreLegalKeys es → key_history key es ≡ past ++ e ∷ rest → e.call ≡ Visit ticket txn ts Read
+pub reads_pass_at_each_key : ReadsPass → (es : List Entry) (key : List ℕ) (past rest : List KeyEvent) (e : KeyEvent) (ticket : Wait) (txn : Option ℕ) (ts : Timestamp) (longest : ℕ) → AreLegalKeys es → key_history key es ≡ past ++ e ∷ rest → e.call ≡ Visit ticket txn ts Read longest
     → ((e.reply ≡ Passed) × IsBelowOthers past txn ts) ⊎ ((e.reply ≡ MustWait) × (IsBelowOthers past txn ts → ⊥))
-reads_pass_at_each_key law es key past rest e ticket txn ts legal is call = law past rest e ticket txn ts (subst IsLegal is (legal key)) call
+reads_pass_at_each_key law es key past rest e ticket txn ts longest legal is call = law past rest e ticket txn ts longest (subst IsLegal is (legal key)) call

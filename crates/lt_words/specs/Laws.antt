@@ -1,6 +1,6 @@
 -- Laws of table histories. What a pass or a front has seen is a legal one, and it only grows: so of two histories below
 -- where one is a beginning of the other, the first is what was seen at some time, and the other what is seen later.
-use Rattle.std.specs.Prelude.{ℕ, ◌≡◌, ◌+◌, ◌<◌, ◌≤◌, ◌⊎◌, Some, List, ◌∷◌, ◌++◌, map, slice_get}
+use Rattle.std.specs.Prelude.{ℕ, ◌≡◌, ◌+◌, ◌<◌, ◌≤◌, ◌⊎◌, Option, Some, List, ◌∷◌, ◌++◌, map, slice_get}
 use Rattle.std.specs.List.{AllByRecursion}
 use mathlib.Core.List.{IsPrefix}
 use Rattle.lt_ids.specs.Ticket.{Wait}
@@ -86,6 +86,6 @@ OneHolderAtEachKey = (es : List Entry) (key : List ℕ) (past rest : List KeyEve
 
 -- A read passes exactly where each other holder's stamp is above its time, and else has to wait.
 abbrev pub ReadsPassAtEachKey : Type 0
-ReadsPassAtEachKey = (es : List Entry) (key : List ℕ) (past rest : List KeyEvent) (e : KeyEvent) (ticket : Wait) (txn : ℕ) (ts : Timestamp) → AreLegalKeys es →
-    key_history key es ≡ past ++ e ∷ rest → e.call ≡ Visit ticket txn ts Read →
+ReadsPassAtEachKey = (es : List Entry) (key : List ℕ) (past rest : List KeyEvent) (e : KeyEvent) (ticket : Wait) (txn : Option ℕ) (ts : Timestamp) (longest : ℕ) → AreLegalKeys es →
+    key_history key es ≡ past ++ e ∷ rest → e.call ≡ Visit ticket txn ts Read longest →
     ((e.reply ≡ Passed) × IsBelowOthers past txn ts) ⊎ ((e.reply ≡ MustWait) × (IsBelowOthers past txn ts → ⊥))

@@ -1,6 +1,6 @@
 -- Four steps of one key: a transaction takes the lock, two requests of one pass wait to read, and the first frees the lock,
 -- which lets both through.
-use Rattle.std.specs.Prelude.{ℕ, [], ◌∷◌}
+use Rattle.std.specs.Prelude.{ℕ, Some, [], ◌∷◌}
 use Rattle.lt_ids.specs.declared.timestamp.Timestamp.{Timestamp}
 use Rattle.lt_ids.specs.declared.request.Access.TheVariants.{Read}
 use Rattle.lt_ids.specs.Ticket.{Wait}
@@ -19,7 +19,7 @@ abbrev pub taking : ℕ → Entry
 taking pass = record { key = 97 ∷ []; pass = pass; call = Acquire 9 time; reply = Taken; lets = [] }
 
 abbrev pub waiting : ℕ → ℕ → Entry
-waiting pass number = record { key = 97 ∷ []; pass = pass; call = Visit (ticket_of number) 1 time Read; reply = MustWait; lets = [] }
+waiting pass number = record { key = 97 ∷ []; pass = pass; call = Visit (ticket_of number) (Some 1) time Read 0; reply = MustWait; lets = [] }
 
 -- The later request stands first.
 abbrev pub freeing : ℕ → ℕ → Entry

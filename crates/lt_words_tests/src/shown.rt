@@ -45,9 +45,10 @@ fn waiting(alloc: Global, pass: u32, number: u64) -> Option<Entry>
         pass,
         call: Call::Visit {
             ticket,
-            txn,
+            txn: Some(txn),
             ts: time(),
             access: Access::Read,
+            longest: 0,
         },
         reply: Reply::MustWait,
         lets: Lets::new(Vec::new(alloc)),

@@ -22,7 +22,7 @@ fn has_record(links: &Links, id: RecordId) -> bool
 fn stand_of(rt: &impl Abort, number: u64, wait: u32) -> Stand {
     Stand {
         number,
-        txn: TxnId::new(7).expect(rt, "a transaction"),
+        txn: Some(TxnId::new(7).expect(rt, "a transaction")),
         ts: Timestamp {
             wall: number,
             logical: 0,
@@ -188,7 +188,8 @@ impl Plain {
         let mut owned = without(self.alloc, self.owned(stand.number), node)?;
         owned.push(node)?;
         self.numbers.insert(stand.number, owned)?;
-        self.stands.insert(node.key(), *stand)?;
+        let txn = stand.txn;
+        self.stands.insert(node.key(), Stand { txn, ..*stand })?;
         Ok(())
     }
 

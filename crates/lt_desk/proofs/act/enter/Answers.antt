@@ -8,7 +8,7 @@ use Rattle.lt_desk.proofs.act.enter.Goals as goal
 
 pub returns-in-Ok : goal.returns-in-Ok
 returns-in-Ok g c =
-    let e : IsEntered c.args.pass c.args.accesses.now c.args.txn c.args.ts c.args.table.now.max_requests c.in-Ok.guard = c.in-Ok.ensures.entered in
+    let e : IsEntered c.args.pass c.args.accesses.now c.args.txn c.args.ts c.args.longest c.args.table.now.max_requests c.in-Ok.guard = c.in-Ok.ensures.entered in
     record {
       word = 0;
       steps = [];
@@ -19,8 +19,8 @@ returns-in-Ok g c =
           few = e.few;
           keys = c.in-Ok.guard.walk.asked.keys;
           list = e.keys;
-          state = ap (λ (w : WalkState). Some w) (is_entered c.in-Ok.guard.walk c.number-number.result c.args.txn c.args.ts c.number-number.ensures.number e.txn_is e.ts_is e.progress e.answers);
+          state = ap (λ (w : WalkState). Some w) (is_entered c.in-Ok.guard.walk c.number-number.result c.args.txn c.args.ts c.args.longest c.number-number.ensures.number e.txn_is e.ts_is e.longest_is e.progress e.answers);
         },
       );
-      tells = subst (λ (n : ℕ). Tells c.args.pass c.in-Ok.guard.pass [] (n ∷ []) []) (sym c.number-number.ensures.number) (tells_entered c.args.pass c.args.accesses.now c.args.txn c.args.ts c.args.table.now.max_requests c.in-Ok.guard e);
+      tells = subst (λ (n : ℕ). Tells c.args.pass c.in-Ok.guard.pass [] (n ∷ []) []) (sym c.number-number.ensures.number) (tells_entered c.args.pass c.args.accesses.now c.args.txn c.args.ts c.args.longest c.args.table.now.max_requests c.in-Ok.guard e);
     }

@@ -1,4 +1,4 @@
-use Rattle.std.proofs.Common.{ℕ, List, Some, refl, ap, sym, subst, ◌∙◌}
+use Rattle.std.proofs.Common.{ℕ, ◌<◌, length, List, Some, refl, ap, sym, subst, ◌∙◌}
 use Rattle.lt_ids.specs.declared.request.Access.{Access}
 use Rattle.lt_table.specs.Machine.{Asked}
 use Rattle.lt_table.specs.Reported.{IsScan, GuardState}
@@ -26,3 +26,9 @@ returns g c =
       tells = subst (λ (ns : List ℕ). Tells old.pass new.pass s.steps ns (let_gone_on (Some old.walk) s.word)) (sym (scans_draw_none old.walk.asked.keys c.scan-ended.result c.in_ok-answer.answer told))
           (tells_scan c.args.table.now.max_waits old new c.scan-ended.result s c.scan-ended.ensures.stays.pass.number c.scan-ended.ensures.went_on);
     }
+
+pub scan_answer-requires-clause-waiting : goal.scan_answer-requires-clause-waiting
+scan_answer-requires-clause-waiting g c = λ place e. subst (λ (ks : List (List ℕ × Access)). place < length ks) (sym c.keys.ensures) (c.scan-ended.ensures.waiting place e)
+
+pub scan_answer-requires-clause-stopped : goal.scan_answer-requires-clause-stopped
+scan_answer-requires-clause-stopped g c = λ place e. subst (λ (ks : List (List ℕ × Access)). place < length ks) (sym c.keys.ensures) (c.scan-ended.ensures.stopped place e)

@@ -2,6 +2,7 @@ use Rattle.std.proofs.Common.{length, ap, subst}
 use Rattle.lt_table.specs.Runs.{WalkState}
 use Rattle.lt_table.specs.Sound.{IsSound}
 use Rattle.lt_table.proofs.WentOn.{went_on, scan_stays, waits_inside}
+use Rattle.lt_table.proofs.Stopping.{too_long, long_inside}
 use Rattle.lt_table.proofs.table.Table.scan.Goals as goal
 
 abbrev IsSoundWalk : WalkState → Type 0
@@ -14,6 +15,14 @@ pub returns-clause-waiting : goal.returns-clause-waiting
 returns-clause-waiting g c = λ place.
     let sound : IsSoundWalk c.visit_on-result.new.guard.walk = subst IsSoundWalk (ap (λ s. s.walk) c.guard.view_is) c.sound.ensures.sound in
     waits_inside c.args.self.now.max_waits c.args.guard.now c.visit_on-result.new.guard c.visit_on-result.result place c.visit_on-result.ensures.scan sound
+
+pub returns-clause-stopped : goal.returns-clause-stopped
+returns-clause-stopped g c = λ place.
+    long_inside c.args.self.now.max_waits c.args.guard.now c.visit_on-result.new.guard c.visit_on-result.result place c.visit_on-result.ensures.scan
+    (scan_stays c.args.self.now.max_waits c.args.guard.now c.visit_on-result.new.guard c.visit_on-result.result c.visit_on-result.ensures.scan).asked
+
+pub returns-clause-too_long : goal.returns-clause-too_long
+returns-clause-too_long g c = λ place. too_long c.args.self.now.max_waits c.args.guard.now c.visit_on-result.new.guard c.visit_on-result.result place c.visit_on-result.ensures.scan
 
 pub returns-clause-stays : goal.returns-clause-stays
 returns-clause-stays g c = scan_stays c.args.self.now.max_waits c.args.guard.now c.visit_on-result.new.guard c.visit_on-result.result c.visit_on-result.ensures.scan

@@ -1,4 +1,4 @@
-use Rattle.std.proofs.Common.{arith, ◌≡◌, length, ap, sym, ◌∙◌}
+use Rattle.std.proofs.Common.{arith, ◌≡◌, length, ap, ◌∙◌}
 use Rattle.lt_table.specs.Machine.{scan_end}
 use Rattle.lt_table.proofs.Sounds.{sound_at_end}
 use Rattle.lt_table.proofs.walk.Walk.end_scan.Goals as goal
@@ -9,5 +9,5 @@ invariant_of-self c =
       c.self.invariant.0,
       c.self.invariant.1,
       c.self.invariant.2,
-      sound_at_end _ _ _ _ (c.scan_end-ended.ensures ∙ ap (λ n. scan_end n c.self.inside.progress) same_length) (λ e. c.requires (ap (λ s. s.progress.mode) (sym c.self.view_is) ∙ e)) c.self.invariant.3,
+      sound_at_end _ _ _ _ (c.scan_end-ended.ensures ∙ ap (λ n. scan_end n c.self.inside.progress) same_length) c.self.invariant.3,
     )

@@ -1,13 +1,13 @@
-use Rattle.std.proofs.Common.{[], refl, sym, subst}
+use Rattle.std.proofs.Common.{[], ◌++◌, Some, refl, sym, subst}
 use Rattle.lt_plain.specs.declared.call.Reply.TheVariants.{Passed}
-use Rattle.lt_plain.specs.Rules.{stop_reading}
-use Rattle.lt_plain.specs.Visit as visits
+use Rattle.lt_plain.specs.Rules.{set_back, stop_reading}
+use Rattle.lt_plain.specs.Visit.{pass}
 use Rattle.lt_links.specs.Maps.{Maps}
 use Rattle.lt_lock.specs.Linked.{record_of, request_of}
 use Rattle.lt_lock.specs.Went.{Went}
 use Rattle.lt_lock.proofs.Visits.{has_last, displaced}
-use Rattle.lt_lock.proofs.visit.displace.Goals.{in-Some, in_default}
-use Rattle.lt_lock.proofs.visit.displace.Goals as goal
+use Rattle.lt_lock.proofs.visit.take_reservation.Goals.{in-Some, in_default}
+use Rattle.lt_lock.proofs.visit.take_reservation.Goals as goal
 
 pub returns-clause-ok : goal.returns-clause-ok
 returns-clause-ok c =
@@ -20,7 +20,7 @@ returns-clause-ok c =
     let put = c.in_ok-put_first.ensures.ok in
     elim c.match-last.branch [
       | in-Some w ↦
-          subst (λ (new : Maps). Went old new r r.id (visits.displace (stop_reading (record_of old r) s.number) (request_of t) (request_of s)) Passed []) (sym w.links-is)
+          subst (λ (new : Maps). Went old new r r.id (pass (record (stop_reading (record_of old r) s.number) { reservation = Some (request_of s); writers = set_back (Some (request_of t)) ++ (record_of old r).writers })) Passed []) (sym w.links-is)
           (displaced old mid r s t c.requires.row c.requires.reserved q c.queue-reserved.ensures put w.in-Some.node w.in-Some.ensures.last
           w.renew.new.links w.bring_first.new.links _ w.stand-back.result _ c.requires.unheld c.requires.named w.queue.ensures w.stand-back.ensures.stand refl
           w.renew.ensures.queues (w.renew.ensures.writes q) (w.bring_first.ensures q))
