@@ -6,7 +6,7 @@
 The programs must have been built, as `rt ci` does. Each part prints what it tried; the last line is `N passed, M failed`.
 
 - Tests that hold whichever one allocation is refused run once for each of their allocations.
-- `lockrun` runs the scripts of examples/, checks their histories and tells its help, once for each allocation that is
+- `lockrun` runs the scripts of examples/, checks and upgrades their histories and tells its help, once for each allocation that is
   refused, each read that fails, each write that fails, and each write that takes one byte. It must end as
   docs/FORMATS.md says: status 4 or 5 with its message and, but for a failed write, nothing written; a front of the
   output after a failed write; or just what it writes otherwise.
@@ -148,7 +148,7 @@ def refuse_in_program(report, shim, lanes):
     scripts = example_scripts()
     runs = [(['run'], open(it, 'rb').read()) for it in scripts] + [(['run'], APART), (['run', '--threads'], APART)]
     histories = [open(it + '.stdout', 'rb').read() for it in scripts]
-    runs += [(['check'], it[it.index(b'locks 2\n'):]) for it in histories]
+    runs += [([word], it[it.index(b'locks 2\n'):]) for it in histories for word in ('check', 'upgrade')]
     runs += [(['run', scripts[0]], b''), (['--help'], b''), (['run', '--help'], b'')]
     totals, faults = {}, []
     for words, text in runs:
@@ -220,14 +220,16 @@ def script_told(text):
     return b''
 
 
-def histories_told(text, n):
-    """What is written of the first n bytes of these histories, to standard output and to standard error."""
+def histories_told(command, text, n):
+    """What the command writes of the first n bytes of these histories, to standard output and to standard error."""
     front = text[:n]
     lines = front.count(b'\n')
     if not lines:
         return b'', b'lockrun: line 1: Header\n'
     if not front.endswith(b'\n'):
         return b'', f'lockrun: line {lines + 1}: Shape\n'.encode()
+    if command == 'upgrade':
+        return front, b''
     keys = {line.split(b' ')[0] for line in front.split(b'\n')[1:-1]}
     return f'ok {len(keys)} keys {lines - 1} steps\n'.encode(), b''
 
@@ -246,9 +248,12 @@ def cut_script(program, text, n):
 
 
 def cut_histories(program, text, n):
-    ran = subprocess.run([program, 'check'], input=text[:n], capture_output=True)
-    out, err = histories_told(text, n)
-    return (ran.returncode, ran.stdout, ran.stderr) == (1 if err else 0, out, err)
+    for command in ('check', 'upgrade'):
+        ran = subprocess.run([program, command], input=text[:n], capture_output=True)
+        out, err = histories_told(command, text, n)
+        if (ran.returncode, ran.stdout, ran.stderr) != (1 if err else 0, out, err):
+            return False
+    return True
 
 
 def cut_everywhere(report, lanes):

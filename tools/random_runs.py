@@ -7,7 +7,9 @@ PROGRAM is crates/lockrun/out/lockrun, unless it is named. Each script has 4 to 
 every pass is answered over a front of its lines, and over all of them unless its last answer is `turns`; each answer is the
 one that the state of its request demands (docs/RULES.md), and takes its key steps, with their calls and replies, from the
 histories, in order; no step is left over; numbers of requests are drawn once; who went on after a wait was let through;
-and `check` accepts the histories with their numbers of keys and steps. The last line is `N runs, M wrong (A answers)`.
+and `check` accepts the histories with their numbers of keys and steps. With `locks 1` for their first line they are refused
+for the first line with a word that came later; where there is none, `check` tells the same of them, and `upgrade` gives
+them back. About half of the scripts have no such words. The last line is `N runs, M wrong (A answers, U upgraded)`.
 
 --self-test changes outputs in one place each, and ends with `N of N changed outputs refused`.
 """
@@ -30,6 +32,7 @@ def ask(fact, *words):
 
 def script(rng):
     """A random script: a list of lines of words."""
+    is_older = rng.random() < 0.5
     passes = rng.randint(4, 16)
     keys = [chr(97 + i) * rng.randint(1, 2) for i in range(rng.randint(1, 6))]
     lines = []
@@ -43,8 +46,8 @@ def script(rng):
         if call == 'open':
             many = rng.choices([0, 1, 2, 3, 257], [1, 20, 15, 10, 1])[0]
             accesses = [f'{rng.choice(keys)}:{rng.choice("rw")}' for _ in range(many)]
-            owner = txn if rng.random() < 0.75 else '-'
-            bound = [f'max={rng.randint(1, 3)}'] if rng.random() < 0.3 else []
+            owner = txn if is_older or rng.random() < 0.75 else '-'
+            bound = [f'max={rng.randint(1, 3)}'] if not is_older and rng.random() < 0.3 else []
             lines.append([number, call, owner, ts] + bound + accesses)
         elif call in ('acquire', 'update'):
             lines.append([number, call, txn, ts, key])
@@ -221,6 +224,31 @@ def run(program, words, text):
     return done.returncode, done.stdout.decode(), done.stderr.decode()
 
 
+def later_word(histories):
+    """The first line that no text of the first version has, from 1."""
+    for number, line in enumerate(histories.split('\n')[:-1], 1):
+        words = line.split(' ')
+        if number > 1 and words[3] == 'visit' and (words[5] == '-' or words[8] != '=' or words[9] == 'long'):
+            return number
+    return None
+
+
+def ask_of_versions(program, output):
+    """Asks that the histories are upgraded, and gives whether those of the first version were."""
+    told = f'ok {len(output.keys)} keys {output.count} steps\n'
+    ask(run(program, ['check'], output.histories) == (0, told, ''), 'check')
+    ask(run(program, ['upgrade'], output.histories) == (0, output.histories, ''), 'upgrade')
+    older, later = output.histories.replace('locks 2', 'locks 1', 1), later_word(output.histories)
+    checked, upgraded = run(program, ['check'], older), run(program, ['upgrade'], older)
+    if later:
+        refused = (1, '', f'lockrun: line {later}: Shape\n')
+        ask(checked == refused and upgraded == refused, 'a later word in line', later, 'of the first version')
+        return False
+    ask(checked == (0, told, ''), 'check of the first version', checked)
+    ask(upgraded == (0, output.histories, ''), 'upgrade of the first version')
+    return True
+
+
 def one(program, rng, limited):
     """One run; where it may be limited, some histories get full, and a refused call does not tell how many steps it made."""
     lines = script(rng)
@@ -262,14 +290,13 @@ def main():
     asked.add_argument('--seed', type=int, default=1)
     asked.add_argument('--self-test', action='store_true')
     told = asked.parse_args()
-    rng, wrong, answers, refused, tried = random.Random(told.seed), 0, 0, 0, 0
+    rng, wrong, answers, older, refused, tried = random.Random(told.seed), 0, 0, 0, 0, 0
     for number in range(told.runs):
         lines, text, status = one(told.program, rng, not told.self_test)
         try:
             output = judge(lines, text, status)
             answers += output.total
-            verdict = run(told.program, ['check'], output.histories)
-            ask(verdict[1] == f'ok {len(output.keys)} keys {output.count} steps\n', 'check', verdict)
+            older += ask_of_versions(told.program, output)
         except Wrong as why:
             wrong += 1
             print(f'run {number}: {why}', file=sys.stderr)
@@ -290,7 +317,7 @@ def main():
                 refused += 1
     if told.self_test:
         print(f'{refused} of {tried} changed outputs refused')
-    print(f'{told.runs} runs, {wrong} wrong ({answers} answers)')
+    print(f'{told.runs} runs, {wrong} wrong ({answers} answers, {older} upgraded)')
     return 1 if wrong or refused < tried else 0
 
 

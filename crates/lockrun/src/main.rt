@@ -1,4 +1,5 @@
-//! Runs a script over an empty lock table, or checks a text of histories: `lockrun run [SCRIPT]`, `lockrun check [FILE]`.
+//! Runs a script over an empty lock table, checks a text of histories, or upgrades one: `lockrun run [SCRIPT]`,
+//! `lockrun check [FILE]`, `lockrun upgrade [FILE]`.
 //! The program hands its words and streams over to `lt_tool`, which decides everything.
 #![tactic(auto)]
 

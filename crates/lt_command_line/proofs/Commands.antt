@@ -10,7 +10,7 @@ use Rattle.clap.specs.declared.parser.matches.SubCommand.{SubCommand}
 use Rattle.clap.proofs.WalkLemmas.{first_value-rows}
 use Rattle.lt_command_line.specs.declared.options.Options.{Options}
 use Rattle.lt_command_line.specs.Options.{options_of}
-use Rattle.lt_command_line.specs.Words.{Order, run, check, chosen_of, order_of, run_of}
+use Rattle.lt_command_line.specs.Words.{Order, run, check, upgrade, chosen_of, order_of, run_of}
 
 module _ {Z : Type 0} where
   rows_met : (sub : Option (Box SubCommand Z)) (name : Text) (rows : List Row) → Some name ≡ option_map (λ b. (out-SubCommand (box_value b)).name.now) sub → Some rows ≡ option_map (λ p. p.1) (subcommand_rows sub) → subcommand_rows sub ≡ Some (name, rows)
@@ -33,6 +33,13 @@ pub checks : (m : ArgMatches) (found : Found) (name : Text) (file : Option Text)
 checks m found name file n r is_name is_file =
     let met : subcommand_rows_of m ≡ Some (name, rows_of found) = rows_met (out-ArgMatches m).subcommand name (rows_of found) n r in
     rw (met, named (name, rows_of found) (codes "check") is_name, is_file, first_value-rows found (codes "file")) refl
+
+pub upgrades : (m : ArgMatches) (found : Found) (name : Text) (file : Option Text) → Some name ≡ option_map (λ b. (out-SubCommand (box_value b)).name.now) (out-ArgMatches m).subcommand
+    → Some (rows_of found) ≡ option_map (λ p. p.1) (subcommand_rows (out-ArgMatches m).subcommand) → name ≡ codes "upgrade" → file ≡ first_value found (codes "file")
+    → Some (upgrade file) ≡ order_of (subcommand_rows_of m)
+upgrades m found name file n r is_name is_file =
+    let met : subcommand_rows_of m ≡ Some (name, rows_of found) = rows_met (out-ArgMatches m).subcommand name (rows_of found) n r in
+    rw (met, named (name, rows_of found) (codes "upgrade") is_name, is_file, first_value-rows found (codes "file")) refl
 
 pub chosen : (found : Found) (shards steps threads turns : Option Text) (options : Option Options) → shards ≡ first_value found (codes "shards") → steps ≡ first_value found (codes "steps")
     → threads ≡ first_value found (codes "threads") → turns ≡ first_value found (codes "turns") → options ≡ options_of shards steps threads turns → options ≡ chosen_of (rows_of found)

@@ -7,7 +7,7 @@ use Rattle.clap.specs.Words.{Text, IsAmong, is_simple_and_free, is_simple}
 use Rattle.clap.specs.declared.error.kind.ErrorKind.TheVariants as kind
 use Rattle.clap.proofs.OnLiterals.{clap_on_literals}
 use Rattle.lt_command_line.specs.Options.{default_options, joined, number_or, options_of}
-use Rattle.lt_command_line.specs.Words.{run, check, lockrun, named, faults, is_option, HasMost, IsCommand, IsOutOfRange, IsStray}
+use Rattle.lt_command_line.specs.Words.{run, check, upgrade, lockrun, named, faults, is_option, HasMost, IsCommand, ReadsHistories, IsOutOfRange, IsStray}
 use Rattle.lt_command_line.proofs.Ranges.{digit_in_range, in_range, out_of_range, plain_decimal}
 
 pub is_plain : is_simple_and_free lockrun ≡ true
@@ -133,29 +133,50 @@ together_named file e =
     ∙ (ap (λ (o : Option ℕ). option_map (run (Some file)) (joined o (number_or 1000000 (2 ^ 32) (Some (codes "2"))) false (Some 1000000))) (digit_in_range 4 64 1 (omega arith) (omega arith) (omega arith) (omega arith))
     ∙ ap (λ (o : Option ℕ). option_map (run (Some file)) (joined (Some 1) o false (Some 1000000))) (digit_in_range 1000000 (2 ^ 32) 2 (omega arith) (omega arith) (omega arith) (omega arith)))
 
-pub check_option_faults : (name word : Text) (most : ℕ) → HasMost name most → faults (codes "check" ∷ name ∷ word ∷ []) ≡ kind.UnknownArgument ∷ []
+pub check_option_faults : (command name word : Text) (most : ℕ) → ReadsHistories command → HasMost name most → faults (command ∷ name ∷ word ∷ []) ≡ kind.UnknownArgument ∷ []
 unfolding clap_on_literals
-check_option_faults name word most (inl h) = rw h.0 refl
-check_option_faults name word most (inr (inl h)) = rw h.0 refl
-check_option_faults name word most (inr (inr h)) = rw h.0 refl
+check_option_faults command name word most (inl c) (inl h) = rw (c, h.0) refl
+check_option_faults command name word most (inl c) (inr (inl h)) = rw (c, h.0) refl
+check_option_faults command name word most (inl c) (inr (inr h)) = rw (c, h.0) refl
+check_option_faults command name word most (inr c) (inl h) = rw (c, h.0) refl
+check_option_faults command name word most (inr c) (inr (inl h)) = rw (c, h.0) refl
+check_option_faults command name word most (inr c) (inr (inr h)) = rw (c, h.0) refl
 
 pub check_faults : faults (codes "check" ∷ []) ≡ []
 unfolding clap_on_literals
 check_faults = refl
 
+pub upgrade_faults : faults (codes "upgrade" ∷ []) ≡ []
+unfolding clap_on_literals
+upgrade_faults = refl
+
 pub check_named : named (codes "check" ∷ []) ≡ Some (check None)
 unfolding clap_on_literals
 check_named = refl
+
+pub upgrade_named : named (codes "upgrade" ∷ []) ≡ Some (upgrade None)
+unfolding clap_on_literals
+upgrade_named = refl
 
 pub histories_faults : (file : Text) → is_option file ≡ false → faults (codes "check" ∷ file ∷ []) ≡ []
 unfolding clap_on_literals
 histories_faults [] e = refl
 histories_faults (b ∷ rest) e = rw (e, e) refl
 
+pub upgraded_faults : (file : Text) → is_option file ≡ false → faults (codes "upgrade" ∷ file ∷ []) ≡ []
+unfolding clap_on_literals
+upgraded_faults [] e = refl
+upgraded_faults (b ∷ rest) e = rw (e, e) refl
+
 pub histories_named : (file : Text) → is_option file ≡ false → named (codes "check" ∷ file ∷ []) ≡ Some (check (Some file))
 unfolding clap_on_literals
 histories_named [] e = refl
 histories_named (b ∷ rest) e = rw (e, e) refl
+
+pub upgraded_named : (file : Text) → is_option file ≡ false → named (codes "upgrade" ∷ file ∷ []) ≡ Some (upgrade (Some file))
+unfolding clap_on_literals
+upgraded_named [] e = refl
+upgraded_named (b ∷ rest) e = rw (e, e) refl
 
 pub help_faults : faults (codes "--help" ∷ []) ≡ kind.DisplayHelp ∷ []
 unfolding clap_on_literals
@@ -164,18 +185,23 @@ help_faults = refl
 pub help_of_faults : (name : Text) → IsCommand name → faults (name ∷ codes "--help" ∷ []) ≡ kind.DisplayHelp ∷ []
 unfolding clap_on_literals
 help_of_faults name (inl e) = rw e refl
-help_of_faults name (inr e) = rw e refl
+help_of_faults name (inr (inl e)) = rw e refl
+help_of_faults name (inr (inr e)) = rw e refl
 
 pub two_faults : (name first second : Text) → IsCommand name → is_option first ≡ false → is_option second ≡ false → faults (name ∷ first ∷ second ∷ []) ≡ kind.UnknownArgument ∷ []
 unfolding clap_on_literals
 two_faults name [] [] (inl c) e f = rw c refl
-two_faults name [] [] (inr c) e f = rw c refl
+two_faults name [] [] (inr (inl c)) e f = rw c refl
+two_faults name [] [] (inr (inr c)) e f = rw c refl
 two_faults name (a ∷ left) [] (inl c) e f = rw (c, e, e) refl
-two_faults name (a ∷ left) [] (inr c) e f = rw (c, e, e) refl
+two_faults name (a ∷ left) [] (inr (inl c)) e f = rw (c, e, e) refl
+two_faults name (a ∷ left) [] (inr (inr c)) e f = rw (c, e, e) refl
 two_faults name [] (b ∷ right) (inl c) e f = rw (c, f, f) refl
-two_faults name [] (b ∷ right) (inr c) e f = rw (c, f, f) refl
+two_faults name [] (b ∷ right) (inr (inl c)) e f = rw (c, f, f) refl
+two_faults name [] (b ∷ right) (inr (inr c)) e f = rw (c, f, f) refl
 two_faults name (a ∷ left) (b ∷ right) (inl c) e f = rw (c, e, e, f, f) refl
-two_faults name (a ∷ left) (b ∷ right) (inr c) e f = rw (c, e, e, f, f) refl
+two_faults name (a ∷ left) (b ∷ right) (inr (inl c)) e f = rw (c, e, e, f, f) refl
+two_faults name (a ∷ left) (b ∷ right) (inr (inr c)) e f = rw (c, e, e, f, f) refl
 
 differs : (a b : Text) → a ≢ b → bytes_eq a b ≡ false
 differs a b other = go (bytes_eq a b) refl
@@ -184,15 +210,15 @@ differs a b other = go (bytes_eq a b) refl
     go true e = absurd (other ((bytes_eq-Decides a b).0 e))
     go false e = e
 
-stray : (word : Text) (rest : List Text) → is_option word ≡ false → bytes_eq (codes "run") word ≡ false → bytes_eq (codes "check") word ≡ false → bytes_eq (codes "help") word ≡ false
+stray : (word : Text) (rest : List Text) → is_option word ≡ false → bytes_eq (codes "run") word ≡ false → bytes_eq (codes "check") word ≡ false → bytes_eq (codes "upgrade") word ≡ false → bytes_eq (codes "help") word ≡ false
     → faults (word ∷ rest) ≡ kind.UnknownArgument ∷ kind.InvalidSubcommand ∷ []
 unfolding clap_on_literals
-stray [] rest o r c h = refl
-stray (b ∷ bs) rest o r c h = rw (r, c, h, o, o) refl
+stray [] rest o r c u h = refl
+stray (b ∷ bs) rest o r c u h = rw (r, c, u, h, o, o) refl
 
 pub stray_faults : (word : Text) (rest : List Text) → IsStray word → faults (word ∷ rest) ≡ kind.UnknownArgument ∷ kind.InvalidSubcommand ∷ []
 stray_faults word rest s =
-    stray word rest s.plain (differs (codes "run") word (λ e. s.command (inl (sym e)))) (differs (codes "check") word (λ e. s.command (inr (sym e)))) (differs (codes "help") word (λ e. s.help (sym e)))
+    stray word rest s.plain (differs (codes "run") word (λ e. s.command (inl (sym e)))) (differs (codes "check") word (λ e. s.command (inr (inl (sym e))))) (differs (codes "upgrade") word (λ e. s.command (inr (inr (sym e))))) (differs (codes "help") word (λ e. s.help (sym e)))
 
 pub no_help_of_one : IsAmong kind.DisplayHelp (kind.UnknownArgument ∷ []) → ⊥
 no_help_of_one (inl e) = cc

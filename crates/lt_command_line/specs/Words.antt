@@ -20,15 +20,18 @@ use Rattle.lt_command_line.specs.declared.words.WordsError.TheVariants as errors
 pub data Order : Type 0 where
   run : Option Text → Options → Order
   check : Option Text → Order
+  upgrade : Option Text → Order
 
 abbrev pub order : Job → Order
 order (jobs.Run file options) = run (option_map (λ s. s.now) file) options
 order (jobs.Check file) = check (option_map (λ s. s.now) file)
+order (jobs.Upgrade file) = upgrade (option_map (λ s. s.now) file)
 
 -- A job to run has options in their ranges.
 abbrev pub HasOptionsInRange : Job → Type 0
 HasOptionsInRange (jobs.Run file options) = AreInRange options
 HasOptionsInRange (jobs.Check file) = Unit {0}
+HasOptionsInRange (jobs.Upgrade file) = Unit {0}
 
 -- ---- the command line
 
@@ -57,7 +60,7 @@ abbrev pub program : App
 program = record { top = record (new_app (codes "lockrun")).top { no_binary_name = true }; subs = [] }
 
 abbrev pub lockrun : App
-lockrun = with_subcommand (with_subcommand program runner.top) (reader (codes "check")).top
+lockrun = with_subcommand (with_subcommand (with_subcommand program runner.top) (reader (codes "check")).top) (reader (codes "upgrade")).top
 
 -- what the options of `run` say
 abbrev pub chosen_of : List Row → Option Options
@@ -74,7 +77,9 @@ abbrev pub order_of : Option (Text × List Row) → Option Order
 order_of None = Some (run None default_options)
 order_of (Some p) =
     if bytes_eq p.0 (codes "run") then run_of p.1
-    else (if bytes_eq p.0 (codes "check") then Some (check (first_of (codes "file") p.1)) else None)
+    else if bytes_eq p.0 (codes "check") then Some (check (first_of (codes "file") p.1))
+    else if bytes_eq p.0 (codes "upgrade") then Some (upgrade (first_of (codes "file") p.1))
+    else None
 
 -- what an error of this kind is told as
 abbrev pub IsToldBy : ErrorKind → WordsError → Type 0
@@ -116,8 +121,12 @@ abbrev pub is_option : Text → Bool
 is_option [] = false
 is_option (b ∷ rest) = b == 45
 
+-- a command that reads a text of histories
+abbrev pub ReadsHistories : Text → Type 0
+ReadsHistories word = (word ≡ codes "check") ⊎ (word ≡ codes "upgrade")
+
 abbrev pub IsCommand : Text → Type 0
-IsCommand word = (word ≡ codes "run") ⊎ (word ≡ codes "check")
+IsCommand word = (word ≡ codes "run") ⊎ ReadsHistories word
 
 -- The option bears a number from 1 to this one.
 abbrev pub HasMost : Text → ℕ → Type 0

@@ -2,7 +2,7 @@ ghost use Rattle.std.specs.Prelude.{◌≡◌, ◌<◌, ◌≤◌, ◌^◌, [], 
 ghost use Rattle.clap.specs.Words.{Text, app_of, found_of, new_app, rows_of, rule_of, kind_of, subcommand_rows_of, with_rule};
 ghost use Rattle.clap.specs.declared.builder.command.Command.TheViews.{out-Command};
 ghost use Rattle.lt_command_line.specs.Options.{AreInRange, default_options, is_set, joined, number_or, options_of};
-ghost use Rattle.lt_command_line.specs.Words.{file_rule, number_rule, threads_rule, program, reader, runner, lockrun, order, order_of, run_of, chosen_of, IsToldBy, run as runs, check as checks, texts, HasOptionsInRange, IsReadOf, is_option, HasMost, IsOutOfRange, IsCommand, IsStray, Gives, Helps, Refuses};
+ghost use Rattle.lt_command_line.specs.Words.{file_rule, number_rule, threads_rule, program, reader, runner, lockrun, order, order_of, run_of, chosen_of, IsToldBy, run as runs, check as checks, upgrade as upgrades, texts, HasOptionsInRange, IsReadOf, is_option, HasMost, IsOutOfRange, IsCommand, ReadsHistories, IsStray, Gives, Helps, Refuses};
 
 use crate::Options;
 use clap::error::ErrorKind;
@@ -17,6 +17,8 @@ pub enum Job<'a> {
     Run(Option<&'a str>, Options),
     /// To check a text of histories.
     Check(Option<&'a str>),
+    /// To write a text of histories as one of the latest version.
+    Upgrade(Option<&'a str>),
 }
 
 /// Why the words name no job.
@@ -119,9 +121,54 @@ fn program<'a>(alloc: Global) -> Result<Command<'a>, AllocError>
     Command::new(alloc, "lockrun")
         .no_binary_name(true)
         .about(
-            "Runs scripts of calls of a lock table, and checks histories of its keys. Without a word it is `run`.",
+            "Runs scripts of calls of a lock table, and checks and upgrades histories of its keys. Without a word it is `run`.",
         )
         .bin_name("lockrun")
+}
+
+/// A command that reads a text of histories.
+fn histories_reader<'a>(
+    alloc: Global,
+    name: &'a str,
+    about: &'a str,
+) -> Result<Command<'a>, AllocError>
+    ensures reads { IfOk result (λ c. app_of c ≡ reader name.now) }
+    ensures alone { IfOk result (λ c. (out-Command c).has_globals ≡ false) }
+{
+    reader(
+        alloc,
+        name,
+        about,
+        file(
+            alloc,
+            "FILE",
+            "The text; standard input where none is named",
+        ),
+    )
+}
+
+/// The command that checks histories.
+fn checker<'a>(alloc: Global) -> Result<Command<'a>, AllocError>
+    ensures reads { IfOk result (λ c. app_of c ≡ reader (codes "check")) }
+    ensures alone { IfOk result (λ c. (out-Command c).has_globals ≡ false) }
+{
+    histories_reader(
+        alloc,
+        "check",
+        "Checks whether a text tells legal histories of keys",
+    )
+}
+
+/// The command that writes histories as a text of the latest version.
+fn upgrader<'a>(alloc: Global) -> Result<Command<'a>, AllocError>
+    ensures reads { IfOk result (λ c. app_of c ≡ reader (codes "upgrade")) }
+    ensures alone { IfOk result (λ c. (out-Command c).has_globals ≡ false) }
+{
+    histories_reader(
+        alloc,
+        "upgrade",
+        "Writes a text of legal histories as one of the latest version",
+    )
 }
 
 /// The program's command line.
@@ -129,17 +176,12 @@ fn command<'a>(alloc: Global) -> Result<Command<'a>, AllocError>
     ensures { IfOk result (λ c. app_of c ≡ lockrun) }
 {
     let run = runner(alloc)?;
-    let check = reader(
-        alloc,
-        "check",
-        "Checks whether a text tells legal histories of keys",
-        file(
-            alloc,
-            "FILE",
-            "The text; standard input where none is named",
-        ),
-    )?;
-    program(alloc)?.subcommand(run)?.subcommand(check)
+    let check = checker(alloc)?;
+    let upgrade = upgrader(alloc)?;
+    program(alloc)?
+        .subcommand(run)?
+        .subcommand(check)?
+        .subcommand(upgrade)
 }
 
 /// The number that an option's word spells, if it is from 1 to `most`; where there is no word, the default.
@@ -245,6 +287,9 @@ fn job_of<'a>(matches: &ArgMatches<'a>) -> Option<Job<'a>>
     if name == "check" {
         return Some(Job::Check(inner.get_str("file")));
     }
+    if name == "upgrade" {
+        return Some(Job::Upgrade(inner.get_str("file")));
+    }
     None
 }
 
@@ -279,8 +324,8 @@ fn parsed<'a>(alloc: Global, words: &'a [&'a str]) -> Result<Job<'a>, WordsError
     }
 }
 
-/// Reads the words behind the program's name: `run` or `check`, and a file's name or none, and behind `run` its options. Without
-/// a word it is `run`.
+/// Reads the words behind the program's name: `run`, `check` or `upgrade`, and a file's name or none, and behind `run` its
+/// options. Without a word it is `run`.
 ///
 /// An option's number is decimal digits alone, as `lt_text` reads numbers: no sign, and no zero before other digits. A number
 /// that is out of its range, or a word that spells none, is refused as the command line.
@@ -294,6 +339,8 @@ pub fn read_words<'a>(alloc: Global, words: &'a [&'a str]) -> Result<Job<'a>, Wo
     ensures script { (file : Text) → is_option file ≡ false → texts words.now ≡ codes "run" ∷ file ∷ [] → Gives result (runs (Some file) default_options) }
     ensures check { texts words.now ≡ codes "check" ∷ [] → Gives result (checks None) }
     ensures histories { (file : Text) → is_option file ≡ false → texts words.now ≡ codes "check" ∷ file ∷ [] → Gives result (checks (Some file)) }
+    ensures upgrade { texts words.now ≡ codes "upgrade" ∷ [] → Gives result (upgrades None) }
+    ensures upgraded { (file : Text) → is_option file ≡ false → texts words.now ≡ codes "upgrade" ∷ file ∷ [] → Gives result (upgrades (Some file)) }
 
     // Each option says what it says, and those that are left out have their defaults.
     ensures threads { texts words.now ≡ codes "run" ∷ codes "--threads" ∷ [] → Gives result (runs None (record default_options { threads = true })) }
@@ -305,12 +352,12 @@ pub fn read_words<'a>(alloc: Global, words: &'a [&'a str]) -> Result<Job<'a>, Wo
     ensures help { texts words.now ≡ codes "--help" ∷ [] → Helps result }
     ensures help_of { (name : Text) → IsCommand name → texts words.now ≡ name ∷ codes "--help" ∷ [] → Helps result }
 
-    // A first word that is no command and no option, two files, an option of check, and a number of run that is out of its
-    // range, or no number, are refused.
+    // A first word that is no command and no option, two files, an option of check or upgrade, and a number of run that is
+    // out of its range, or no number, are refused.
     ensures stray { (word : Text) (rest : List Text) → IsStray word → texts words.now ≡ word ∷ rest → Refuses result }
     ensures two { (name first second : Text) → IsCommand name → is_option first ≡ false → is_option second ≡ false → texts words.now ≡ name ∷ first ∷ second ∷ [] → Refuses result }
     ensures out_of_range { (name word : Text) (most : ℕ) → HasMost name most → is_option word ≡ false → IsOutOfRange word most → texts words.now ≡ codes "run" ∷ name ∷ word ∷ [] → Refuses result }
-    ensures option_of_check { (name word : Text) (most : ℕ) → HasMost name most → texts words.now ≡ codes "check" ∷ name ∷ word ∷ [] → Refuses result }
+    ensures option_of_check { (command name word : Text) (most : ℕ) → ReadsHistories command → HasMost name most → texts words.now ≡ command ∷ name ∷ word ∷ [] → Refuses result }
 {
     parsed(alloc, words)
 }

@@ -34,7 +34,7 @@ pub enum LineAnswer {
     Rescan,
     /// The request waits at this key.
     WaitingAt(Key),
-    /// At this key too many wait to write for the request, which is at the start of its keys again.
+    /// This key has too many writers for the request, which is at the start of its keys again.
     TooLongAt(Key),
     /// The request was let through.
     Let,

@@ -13,7 +13,7 @@ pub fn waiting_has_visit()
     ensures { WaitingHasVisit }
 {}
 
-/// A line that is answered `long KEY` has visited that key, and was told that too many wait there.
+/// A line that is answered `long KEY` has visited that key, and was told that it has too many writers.
 pub fn long_has_visit()
     ensures { LongHasVisit }
 {}

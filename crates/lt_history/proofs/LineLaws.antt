@@ -1,5 +1,5 @@
 -- A line that is read is a line, and is written as it stands; each line is read again.
-use Rattle.std.proofs.Common.{◌≡◌, ◌≢◌, ℕ, ◌<◌, List, [], ◌∷◌, ◌++◌, length, Option, Some, None, Result, Ok, Err, eqb, sym, ap, ◌∙◌, append_assoc, arith}
+use Rattle.std.proofs.Common.{◌≡◌, ◌≢◌, ℕ, ◌<◌, List, [], ◌∷◌, ◌++◌, length, Option, Some, None, Result, Ok, Err, eqb, sym, ap, subst, ◌∙◌, append_assoc, arith}
 use Rattle.std.specs.Prelude.{IfOk, IfErr}
 use Rattle.std.specs.List.{slice_split, join_with_byte}
 use Rattle.std.proofs.lemmas.Option.{some_pair_parts}
@@ -11,7 +11,7 @@ use Rattle.lt_history.specs.declared.error.Refusal.TheVariants as refusals
 use Rattle.lt_history.specs.declared.line.Line.{Line}
 use Rattle.lt_text.specs.Words.{cut_of}
 use Rattle.lt_history.specs.Lines.{Parts, IsLine, line_words, line_text, parts_at, parts_of, Reads, IsShapeless}
-use Rattle.lt_history.specs.Text.{Spot, Follows, IsWrongOr, HasFault, HasFaultOr, TakesLine, spot_after}
+use Rattle.lt_history.specs.Text.{Spot, IsOf, IsShapelessIn, Follows, IsWrongOr, HasFault, HasFaultOr, TakesLine, spot_after}
 use Rattle.lt_text.proofs.Plain.{cut_again, cut_takes, split_join, no_line_end}
 use Rattle.lt_history.proofs.PartsLaws.{parts_takes, parts_again, parts_plain}
 
@@ -67,8 +67,8 @@ nonempty (b ∷ bs) lt = λ e. absurd cc
 no_pair : (x : List ℕ × List ℕ) → ◌≡◌ {A = Option (List ℕ × List ℕ)} None (Some x) → ⊥
 no_pair x e = absurd cc
 
-pub uncut_is_shapeless : (s : Spot) (text : List ℕ) → 0 < length text → cut_of 10 text ≡ None → HasFault s text Shape
-uncut_is_shapeless s text lt e = (nonempty text lt, λ p more line same. no_pair (join_with_byte 32 (line_words p), more) (sym e ∙ (ap (λ (t : List ℕ). cut_of 10 t) same ∙ line_cut p more line)))
+pub uncut_is_shapeless : (version : ℕ) (s : Spot) (text : List ℕ) → 0 < length text → cut_of 10 text ≡ None → HasFault version s text Shape
+uncut_is_shapeless version s text lt e = (nonempty text lt, λ p more line old same. no_pair (join_with_byte 32 (line_words p), more) (sym e ∙ (ap (λ (t : List ℕ). cut_of 10 t) same ∙ line_cut p more line)))
 
 bytes_are : (text bytes rest : List ℕ) (p : Parts) (more : List ℕ) → IsLine p → cut_of 10 text ≡ Some (bytes, rest) → text ≡ line_text p ++ more → line_text p ≡ bytes ++ 10 ∷ []
 unfolding line_text
@@ -76,30 +76,30 @@ bytes_are text bytes rest p more line cut same =
     let e = some_pair_parts (join_with_byte 32 (line_words p)) bytes more rest (sym (line_cut p more line) ∙ (ap (λ (t : List ℕ). cut_of 10 t) (sym same) ∙ cut)) in
     ap (λ (t : List ℕ). t ++ 10 ∷ []) e.0
 
-pub shapeless : (s : Spot) (text bytes rest : List ℕ) (e : Refusal) → 0 < length text → cut_of 10 text ≡ Some (bytes, rest) → IsShapeless e bytes → HasFaultOr s text e
-shapeless s text bytes rest refusals.Memory lt cut h = nonempty text lt
-shapeless s text bytes rest (refusals.Fault Shape) lt cut h = (nonempty text lt, λ p more line same. h p line (bytes_are text bytes rest p more line cut same))
-shapeless s text bytes rest (refusals.Fault Header) lt cut h = h
-shapeless s text bytes rest (refusals.Fault KeyOrder) lt cut h = absurd h
-shapeless s text bytes rest (refusals.Fault Index) lt cut h = absurd h
-shapeless s text bytes rest (refusals.Fault WrongReply) lt cut h = absurd h
-shapeless s text bytes rest (refusals.Fault WrongLets) lt cut h = absurd h
+pub shapeless : (version : ℕ) (s : Spot) (text bytes rest : List ℕ) (e : Refusal) → 0 < length text → cut_of 10 text ≡ Some (bytes, rest) → IsShapelessIn version e bytes → HasFaultOr version s text e
+shapeless version s text bytes rest refusals.Memory lt cut h = nonempty text lt
+shapeless version s text bytes rest (refusals.Fault Shape) lt cut h = (nonempty text lt, λ p more line old same. h p line old (bytes_are text bytes rest p more line cut same))
+shapeless version s text bytes rest (refusals.Fault Header) lt cut h = h
+shapeless version s text bytes rest (refusals.Fault KeyOrder) lt cut h = absurd h
+shapeless version s text bytes rest (refusals.Fault Index) lt cut h = absurd h
+shapeless version s text bytes rest (refusals.Fault WrongReply) lt cut h = absurd h
+shapeless version s text bytes rest (refusals.Fault WrongLets) lt cut h = absurd h
 
 joined_front : (text bytes rest : List ℕ) (p : Parts) → cut_of 10 text ≡ Some (bytes, rest) → line_text p ≡ bytes ++ 10 ∷ [] → text ≡ line_text p ++ rest
 joined_front text bytes rest p cut e =
     cut_takes 10 text bytes rest cut ∙ (sym (append_assoc bytes (10 ∷ []) rest) ∙ ap (λ (t : List ℕ). t ++ rest) (sym e))
 
-pub wrong : (s : Spot) (text bytes rest : List ℕ) (p : Parts) (e : Refusal) → 0 < length text → IsLine p → cut_of 10 text ≡ Some (bytes, rest) → line_text p ≡ bytes ++ 10 ∷ [] → IsWrongOr s p e → HasFaultOr s text e
-wrong s text bytes rest p refusals.Memory lt line cut same h = nonempty text lt
-wrong s text bytes rest p (refusals.Fault Header) lt line cut same h = h
-wrong s text bytes rest p (refusals.Fault Shape) lt line cut same h = absurd h
-wrong s text bytes rest p (refusals.Fault KeyOrder) lt line cut same h = (p, rest, line, joined_front text bytes rest p cut same, h)
-wrong s text bytes rest p (refusals.Fault Index) lt line cut same h = (p, rest, line, joined_front text bytes rest p cut same, h)
-wrong s text bytes rest p (refusals.Fault WrongReply) lt line cut same h = (p, rest, line, joined_front text bytes rest p cut same, h)
-wrong s text bytes rest p (refusals.Fault WrongLets) lt line cut same h = (p, rest, line, joined_front text bytes rest p cut same, h)
+pub wrong : (version : ℕ) (s : Spot) (text bytes rest : List ℕ) (p : Parts) (e : Refusal) → 0 < length text → IsLine p → IsOf version p → cut_of 10 text ≡ Some (bytes, rest) → line_text p ≡ bytes ++ 10 ∷ [] → IsWrongOr s p e → HasFaultOr version s text e
+wrong version s text bytes rest p refusals.Memory lt line old cut same h = nonempty text lt
+wrong version s text bytes rest p (refusals.Fault Header) lt line old cut same h = h
+wrong version s text bytes rest p (refusals.Fault Shape) lt line old cut same h = absurd h
+wrong version s text bytes rest p (refusals.Fault KeyOrder) lt line old cut same h = (p, rest, line, old, joined_front text bytes rest p cut same, h)
+wrong version s text bytes rest p (refusals.Fault Index) lt line old cut same h = (p, rest, line, old, joined_front text bytes rest p cut same, h)
+wrong version s text bytes rest p (refusals.Fault WrongReply) lt line old cut same h = (p, rest, line, old, joined_front text bytes rest p cut same, h)
+wrong version s text bytes rest p (refusals.Fault WrongLets) lt line old cut same h = (p, rest, line, old, joined_front text bytes rest p cut same, h)
 
-pub takes : (s next : Spot) (text bytes rest : List ℕ) (p : Parts) → IsLine p → cut_of 10 text ≡ Some (bytes, rest) → line_text p ≡ bytes ++ 10 ∷ [] → Follows s p → next ≡ spot_after s p → TakesLine s text next rest
-takes s next text bytes rest p line cut same follows leads = record { parts = p; line = line; joined = joined_front text bytes rest p cut same; follows = follows; leads = leads }
+pub takes : (version : ℕ) (s next : Spot) (text bytes rest : List ℕ) (p : Parts) → IsLine p → IsOf version p → cut_of 10 text ≡ Some (bytes, rest) → line_text p ≡ bytes ++ 10 ∷ [] → Follows s p → next ≡ spot_after s p → TakesLine version s text next rest
+takes version s next text bytes rest p line old cut same follows leads = record { parts = p; line = line; of_version = old; joined = joined_front text bytes rest p cut same; follows = follows; leads = leads }
 
 -- ---- a text has one reading
 
@@ -116,3 +116,20 @@ one_line p q x y hp hq e =
 pub no_empty_line : (p : Parts) (more : List ℕ) → [] ≡ line_text p ++ more → ⊥
 unfolding line_text
 no_empty_line p more e = absurd (omega (arith, ap length e, length-append {A = ℕ}))
+
+-- ---- a line and the versions
+
+pub shapeless_in : (version : ℕ) (e : Refusal) (bytes : List ℕ) → IsShapeless e bytes → IsShapelessIn version e bytes
+shapeless_in version refusals.Memory bytes h = tt
+shapeless_in version (refusals.Fault Shape) bytes h = λ p line old e. h p line e
+shapeless_in version (refusals.Fault Header) bytes h = h
+shapeless_in version (refusals.Fault KeyOrder) bytes h = h
+shapeless_in version (refusals.Fault Index) bytes h = h
+shapeless_in version (refusals.Fault WrongReply) bytes h = h
+shapeless_in version (refusals.Fault WrongLets) bytes h = h
+
+-- What is written as a line that cannot stand in a text of the version is written as none that can.
+pub of_other_version : (version : ℕ) (bytes : List ℕ) (p : Parts) → IsLine p → line_text p ≡ bytes ++ 10 ∷ [] → (IsOf version p → ⊥) → IsShapelessIn version (refusals.Fault Shape) bytes
+of_other_version version bytes p line e other = λ q line' old e'.
+    let same = one_line p q [] [] line line' (ap (λ (t : List ℕ). t ++ []) (e ∙ sym e')) in
+    other (subst (IsOf version) (sym same.0) old)

@@ -17,7 +17,8 @@ use Rattle.lt_plain.specs.declared.call.Call.TheVariants.{Leave, Look}
 use Rattle.lt_plain.specs.Step.{Event, IsLegal}
 use Rattle.lt_history.specs.declared.entry.Entry.{Entry}
 use Rattle.lt_history.specs.Lines.{Parts}
-use Rattle.lt_history.specs.Text.{text_of}
+use Rattle.lt_history.specs.Text.{text_by}
+use Rattle.lt_history.specs.Version.{is_first, is_of_version, IsLegalOf}
 
 -- ---- legal histories
 
@@ -83,8 +84,21 @@ lines_from index (e ∷ es) = parts_of_entry index e ∷ lines_from (index + 1) 
 abbrev pub lines_of : List Entry → List (List ℕ) → List Parts
 lines_of es keys = flat_map (λ key. lines_from 1 (part key es)) keys
 
--- The text of these entries: the first line, and then key after key, rising, each key's entries in their order.
-pub record IsTextOf (text : List ℕ) (es : List Entry) : Type 0 where
+-- Each key's entries are a legal history of that key, by the rules of the version.
+abbrev pub AreLegalKeysBy : ℕ → List Entry → Type 0
+AreLegalKeysBy version es = (key : List ℕ) → IsLegalOf (is_first version) (map event_of (part key es))
+
+-- The entry can stand in a text of the version.
+abbrev pub IsEntryOf : ℕ → Entry → Type 0
+IsEntryOf version e = is_of_version version e.call e.reply ≡ true
+
+-- The text of these entries in the version: the first line, and then key after key, rising, each key's entries in their
+-- order.
+pub record IsTextBy (version : ℕ) (text : List ℕ) (es : List Entry) : Type 0 where
   pub keys : List (List ℕ)
   pub are_keys : AreKeysOf es keys
-  pub lines : text ≡ text_of (lines_of es keys)
+  pub lines : text ≡ text_by version (lines_of es keys)
+
+-- their text in the latest version
+abbrev pub IsTextOf : List ℕ → List Entry → Type 0
+IsTextOf text es = IsTextBy 2 text es

@@ -1,4 +1,5 @@
 pub mod Fault
+pub mod Version
 pub mod Lines
 pub mod Text
 pub mod Place

@@ -17,7 +17,7 @@ pub struct Request {
     pub txn: Option<TxnId>,
     pub ts: Timestamp,
     pub pass: u32,
-    /// How many may wait to write at a key before the request would rather be told so than join them; 0 is no bound.
+    /// The request joins the writers of a key only where they are fewer than this; 0 is no bound.
     pub longest: u32,
     pub ghost number_in_range: { IsNumber number },
     pub ghost pass_in_range: { (1 ≤ pass) × (pass ≤ 1024) },

@@ -166,7 +166,7 @@ module _ (m : Maps) (r : Row) (n : ℕ) where
       left_distinct o lawful =
           let kept = step_keeps_lawful (record_of m r) 1 (Leave n) lawful in
           let after : numbers (leave (record_of m r) n).after ≡ numbers (record_of new r) = ap (λ (t : Outcome). numbers t.after) (found_leaves o) ∙ ap (λ (x : Record). numbers x) (sym (left_row o)) in
-          subst (IsDistinct nat_eq) after kept.numbers_differ
+          subst (IsDistinct nat_eq) after kept.first.numbers_differ
 
     -- ---- what it finds out
 

@@ -27,7 +27,7 @@ pub visited_distinct : (old new : Maps) (r : Row) (s : Stand) (longest : ℕ) (a
     IsDistinct nat_eq (numbers (record_of new r))
 visited_distinct old new r s longest access reply row went =
     let lawful = step_keeps_lawful (record_of old r) s.pass (Visit (request_of s).ticket s.txn s.ts access longest) row.lawful in
-    subst (IsDistinct nat_eq) (sym (ap (λ (x : Record). numbers x) went.is_outcome.moved)) lawful.numbers_differ
+    subst (IsDistinct nat_eq) (sym (ap (λ (x : Record). numbers x) went.is_outcome.moved)) lawful.first.numbers_differ
 
 -- ---- a reservation is displaced
 
@@ -101,7 +101,7 @@ module _ (old mid : Maps) (r : Row) (s t : Stand) (row : IsRow old r) (reserved 
         let reserved_named : AllByRecursion IsNamed (t ∷ []) = subst (AllByRecursion IsNamed) (only (line old (queue_at r.id Reservation)) t row.linked.one_reservation reserved) (row.linked.named Reservation) in
         let back_named : IsNamed back = subst IsNamed (sym idle) reserved_named.0 in
         let after : Record = record (stop_reading (record_of old r) s.number) { reservation = Some (request_of s); writers = set_back (Some (request_of t)) ++ (record_of old r).writers } in
-        let no_readers : (record_of old r).readers ≡ [] = row.lawful.unheld_has_no_readers (ap is_some unheld) in
+        let no_readers : (record_of old r).readers ≡ [] = row.lawful.first.unheld_has_no_readers (ap is_some unheld) in
         let readers_stay : (record_of old r).readers ≡ without_reader (record_of old r).readers s.number = no_readers ∙ ap (λ l. without_reader l s.number) (sym no_readers) in
         let written = rewritten_by old new r after (back ∷ line old (queue_at r.id Writers)) (line old (queue_at r.id Readers)) (s ∷ [])
         (ap (λ p. line new p) (sym is_to) ∙ over.here ∙ ap (λ l. stand_at set node ∷ l) (ap (λ p. line set p) is_to ∙ w.others (queue_at r.id Writers) apart ∙ put.others (queue_at r.id Writers) apart) ∙ ap (λ x. x ∷ line old (queue_at r.id Writers)) second)

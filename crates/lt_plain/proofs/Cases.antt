@@ -152,7 +152,7 @@ fits_at (Some h) None ws rs both free unheld least others above = (
 fits_at (Some h) (Some s) ws rs both free unheld least others above = elim both [ inl e ↦ true≢false e | inr e ↦ true≢false e ]
 
 pub lawful_fits : (r : Record) → IsLawful r → FitsLock r.holder r.reservation r.writers r.readers
-lawful_fits r l = fits_at r.holder r.reservation r.writers r.readers l.not_both l.free_has_no_writers l.unheld_has_no_readers l.reservation_is_least l.others_wait l.readers_are_not_below
+lawful_fits r l = fits_at r.holder r.reservation r.writers r.readers l.first.not_both l.first.free_has_no_writers l.first.unheld_has_no_readers l.first.reservation_is_least l.first.others_wait l.first.readers_are_not_below
 
 -- the numbers of those who wait
 abbrev waiting_numbers : List QueuedWriter → List QueuedRequest → List ℕ
@@ -162,12 +162,12 @@ waiting_distinct : (s : Option QueuedRequest) (ws : List QueuedWriter) (rs : Lis
 waiting_distinct s ws rs d = rw map-append at (distinct_back (map number_of (option_to_list s)) (map number_of (map (λ w. w.request) ws ++ rs)) d)
 
 pub lawful_differ : (r : Record) → IsLawful r → Differ r.readers
-lawful_differ r l = distinct_differ r.readers (distinct_back (map number_of (map (λ w. w.request) r.writers)) (map number_of r.readers) (waiting_distinct r.reservation r.writers r.readers l.numbers_differ))
+lawful_differ r l = distinct_differ r.readers (distinct_back (map number_of (map (λ w. w.request) r.writers)) (map number_of r.readers) (waiting_distinct r.reservation r.writers r.readers l.first.numbers_differ))
 
 pub lawful_apart : (r : Record) → IsLawful r → AreApart r.writers r.readers
 lawful_apart r l =
     let ms = map number_of (map (λ w. w.request) r.writers) in
-    let apart = all_flip (λ m n. nat_eq m n ≡ false) ms (map number_of r.readers) (distinct_apart ms (map number_of r.readers) (waiting_distinct r.reservation r.writers r.readers l.numbers_differ)) in
+    let apart = all_flip (λ m n. nat_eq m n ≡ false) ms (map number_of r.readers) (distinct_apart ms (map number_of r.readers) (waiting_distinct r.reservation r.writers r.readers l.first.numbers_differ)) in
     all_weaker (λ q. AllByRecursion (λ m. nat_eq m (number_of q) ≡ false) ms) (λ q. AllByRecursion (λ w. nat_eq (writer_number w) (number_of q) ≡ false) r.writers)
     (λ q a. all_unmap (λ w. nat_eq (number_of w) (number_of q) ≡ false) (λ w. w.request) r.writers (all_unmap (λ m. nat_eq m (number_of q) ≡ false) number_of (map (λ w. w.request) r.writers) a))
     r.readers (all_unmap (λ n. AllByRecursion (λ m. nat_eq m n ≡ false) ms) number_of r.readers apart)
@@ -224,15 +224,17 @@ lawful_owned r l = record { reservation = l.reservation_has_txn; writers = l.wri
 
 pub lawful_from : (r : Record) → FitsLock r.holder r.reservation r.writers r.readers → Rises r.writers → Differ r.readers → AreApart r.writers r.readers → AreOwned r → settle r ≡ r → IsLawful r
 lawful_from r f rises d a o s = record {
-  not_both = not_both_of r.holder r.reservation r.writers r.readers f;
-  free_has_no_writers = no_writers_of r.holder r.reservation r.writers r.readers f;
-  unheld_has_no_readers = no_readers_of r.holder r.reservation r.writers r.readers f;
-  writers_rise = rises;
-  reservation_is_least = least_of r.holder r.reservation r.writers r.readers f;
+  first = record {
+    not_both = not_both_of r.holder r.reservation r.writers r.readers f;
+    free_has_no_writers = no_writers_of r.holder r.reservation r.writers r.readers f;
+    unheld_has_no_readers = no_readers_of r.holder r.reservation r.writers r.readers f;
+    writers_rise = rises;
+    reservation_is_least = least_of r.holder r.reservation r.writers r.readers f;
+    numbers_differ = distinct_of r.holder r.reservation r.writers r.readers f rises d a;
+    others_wait = others_of r.holder r.reservation r.writers r.readers f;
+    readers_are_not_below = above_of r.holder r.reservation r.writers r.readers f;
+    is_settled = s;
+  };
   reservation_has_txn = o.reservation;
   writers_without_txn_wait = o.writers;
-  numbers_differ = distinct_of r.holder r.reservation r.writers r.readers f rises d a;
-  others_wait = others_of r.holder r.reservation r.writers r.readers f;
-  readers_are_not_below = above_of r.holder r.reservation r.writers r.readers f;
-  is_settled = s;
 }

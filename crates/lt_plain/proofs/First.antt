@@ -1,5 +1,5 @@
 -- Where each visit has a transaction and no bound, the rules are those of the first version.
-use Rattle.std.proofs.Common.{◌≡◌, ◌↔◌, ℕ, Bool, true, false, cond, suc, List, [], ◌∷◌, Option, Some, None, IsSome, IfSome, refl, sym, ap, subst, ◌∙◌, arith, nat_eq}
+use Rattle.std.proofs.Common.{◌≡◌, ◌↔◌, ℕ, true, false, cond, suc, List, [], ◌∷◌, Option, Some, None, IsSome, refl, sym, ap, subst, arith, nat_eq}
 use Rattle.std.specs.Prelude.{slice_get, is_some}
 use Rattle.std.specs.List.{AllByRecursion, find}
 use mathlib.Core.Bool.{true≢false}
@@ -15,10 +15,10 @@ use Rattle.lt_plain.specs.declared.call.Call.{Call}
 use Rattle.lt_plain.specs.declared.call.Call.TheVariants.{Visit, Acquire, Update, Finish, Leave, Look}
 use Rattle.lt_plain.specs.declared.call.Reply.{Reply}
 use Rattle.lt_plain.specs.declared.call.Reply.TheVariants.{Freed, Left, Other, Absent}
-use Rattle.lt_plain.specs.Record.{Record, empty, has_txn, number_of}
-use Rattle.lt_plain.specs.Rules.{Outcome, unchanged, settle, free, finish_from, leave, leading, stop_reading, is_reserved_by, is_waiting, without_reader, without_writer}
+use Rattle.lt_plain.specs.Record.{Record, empty, has_txn}
+use Rattle.lt_plain.specs.Rules.{Outcome, unchanged, settle, free, finish_from, finish_by, leave, leave_by, leading, stop_reading, is_reserved_by, is_waiting, without_reader, without_writer}
 use Rattle.lt_plain.specs.Visit.{visit_lock, settled}
-use Rattle.lt_plain.specs.Step.{Event, step, IsLegal, IsLegalFrom}
+use Rattle.lt_plain.specs.Step.{Event, step, IsLegalFrom, IsLegalBy}
 use Rattle.lt_plain.specs.First as first
 use Rattle.lt_plain.specs.Laws.{FirstRulesHold}
 use Rattle.lt_plain.proofs.Passes.{Each, IsOfCall, step_keeps}
@@ -37,11 +37,11 @@ first_is_next (w ∷ ws) a =
 free_same : (r : Record) (reply : Reply) → AllByRecursion (λ w. IsSome w.request.txn) r.writers → free r reply ≡ first.free r reply
 free_same r reply a = let n = first_is_next r.writers a in rw (n.0, n.1) refl
 
-finish_same : (holder : Option Holder) (r : Record) (txn : ℕ) → AllByRecursion (λ w. IsSome w.request.txn) r.writers → finish_from holder r txn ≡ first.finish_from holder r txn
+finish_same : (holder : Option Holder) (r : Record) (txn : ℕ) → AllByRecursion (λ w. IsSome w.request.txn) r.writers → finish_from holder r txn ≡ finish_by first.free holder r txn
 finish_same None r txn a = refl
 finish_same (Some k) r txn a = ap (λ o. cond (nat_eq k.txn txn) o (unchanged r Other)) (free_same (record r { holder = None }) Freed a)
 
-leave_same : (r : Record) (n : ℕ) → AllByRecursion (λ w. IsSome w.request.txn) r.writers → leave r n ≡ first.leave r n
+leave_same : (r : Record) (n : ℕ) → AllByRecursion (λ w. IsSome w.request.txn) r.writers → leave r n ≡ leave_by first.free r n
 leave_same r n a =
     let left : Outcome = record {
       after = settle (record r { writers = without_writer r.writers n; readers = without_reader r.readers n });
@@ -94,13 +94,13 @@ step_owned r pass call e o = (step_keeps (λ q. IsSome q.txn) (λ t. Unit {0}) (
 
 -- ---- a history
 
-legal_same : (es : List Event) (r : Record) → AllByRecursion (λ e. first.is_of_first e.call ≡ true) es → Owned r → IsLegalFrom r es ↔ first.IsLegalFrom r es
+legal_same : (es : List Event) (r : Record) → AllByRecursion (λ e. first.is_of_first e.call ≡ true) es → Owned r → IsLegalFrom r es ↔ IsLegalBy first.step r es
 legal_same [] r a o = (λ l. l, λ l. l)
 legal_same (e ∷ es) r a o =
     let same : step r e.pass e.call ≡ first.step r e.pass e.call = step_same r e.pass e.call a.0 o in
     let rest = legal_same es (step r e.pass e.call).after a.1 (step_owned r e.pass e.call a.0 o) in (
-      λ l. subst (λ x. (e.reply ≡ x.reply) × (e.lets ≡ x.lets) × first.IsLegalFrom x.after es) same (l.0, l.1, rest.0 l.2),
-      λ l. let old = subst (λ x. (e.reply ≡ x.reply) × (e.lets ≡ x.lets) × first.IsLegalFrom x.after es) (sym same) l in (old.0, old.1, rest.1 old.2),
+      λ l. subst (λ x. (e.reply ≡ x.reply) × (e.lets ≡ x.lets) × IsLegalBy first.step x.after es) same (l.0, l.1, rest.0 l.2),
+      λ l. let old = subst (λ x. (e.reply ≡ x.reply) × (e.lets ≡ x.lets) × IsLegalBy first.step x.after es) (sym same) l in (old.0, old.1, rest.1 old.2),
     )
 
 pub first_rules_hold : FirstRulesHold

@@ -316,10 +316,10 @@ visit_goes_on past e r ticket txn ts access longest call reply lets w =
 
 step_goes_on : (past : List Event) (e : Event) (r : Record) (call : Call) → e.call ≡ call → e.reply ≡ (step r e.pass call).reply → e.lets ≡ (step r e.pass call).lets → IsLawful r → AllWaiting past r → Advances past e (step r e.pass call).after
 step_goes_on past e r (Visit ticket txn ts access longest) call reply lets l w = visit_goes_on past e r ticket txn ts access longest call reply lets w
-step_goes_on past e r (Acquire txn ts) call reply lets l w = goes_on past e _ lets (acquire_goes (λ x. IsWaiting past (through_of x)) r.readers r.distinguished (lawful_differ r l) r.holder r.reservation r.writers (record { txn = txn; ts = ts }) l.unheld_has_no_readers l.writers_rise (lawful_apart r l) w)
+step_goes_on past e r (Acquire txn ts) call reply lets l w = goes_on past e _ lets (acquire_goes (λ x. IsWaiting past (through_of x)) r.readers r.distinguished (lawful_differ r l) r.holder r.reservation r.writers (record { txn = txn; ts = ts }) l.first.unheld_has_no_readers l.first.writers_rise (lawful_apart r l) w)
 step_goes_on past e r (Update txn ts) call reply lets l w = goes_on past e _ lets (update_goes (λ x. IsWaiting past (through_of x)) r.readers r.distinguished (lawful_differ r l) r.holder r.reservation r.writers txn ts (lawful_apart r l) w)
-step_goes_on past e r (Finish txn) call reply lets l w = goes_on past e _ lets (finish_goes (λ x. IsWaiting past (through_of x)) r.readers r.distinguished (lawful_differ r l) r.holder r.reservation r.writers txn l.writers_rise (lawful_apart r l) w)
-step_goes_on past e r (Leave number) call reply lets l w = goes_on past e _ lets (leave_goes (λ x. IsWaiting past (through_of x)) r.readers r.distinguished (lawful_differ r l) r.holder r.reservation r.writers number l.writers_rise (lawful_apart r l) w)
+step_goes_on past e r (Finish txn) call reply lets l w = goes_on past e _ lets (finish_goes (λ x. IsWaiting past (through_of x)) r.readers r.distinguished (lawful_differ r l) r.holder r.reservation r.writers txn l.first.writers_rise (lawful_apart r l) w)
+step_goes_on past e r (Leave number) call reply lets l w = goes_on past e _ lets (leave_goes (λ x. IsWaiting past (through_of x)) r.readers r.distinguished (lawful_differ r l) r.holder r.reservation r.writers number l.first.writers_rise (lawful_apart r l) w)
 step_goes_on past e r (Look number) call reply lets l w = goes_on past e _ lets (nobody_goes (λ x. IsWaiting past (through_of x)) r (look r number) w)
 
 -- from a record on at which each who waits was told to

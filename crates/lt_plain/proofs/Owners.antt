@@ -1,10 +1,8 @@
 -- Who has the lock reserved has a transaction, and a writer without one waits: each step keeps it so.
-use Rattle.std.proofs.Common.{◌≡◌, ℕ, Bool, true, false, cond, suc, not, List, [], ◌∷◌, ◌++◌, filter, drop, Option, Some, None, IsSome, IfSome, refl, nat_eq}
+use Rattle.std.proofs.Common.{◌≡◌, ℕ, true, false, cond, suc, not, List, [], ◌∷◌, ◌++◌, filter, Option, Some, None, IsSome, IfSome, refl, nat_eq}
 use Rattle.std.specs.List.{AllByRecursion, find}
 use Rattle.std.specs.Option.{option_map}
-use Rattle.std.specs.Ordering.{nat_cmp, match_ordering}
-use Rattle.std.specs.declared.cmp.Ordering.{Ordering}
-use Rattle.std.specs.declared.cmp.Ordering.TheVariants.{Less, Equal, Greater}
+use Rattle.std.specs.Ordering.{nat_cmp}
 use Rattle.lt_ids.specs.declared.timestamp.Timestamp.{Timestamp}
 use Rattle.lt_ids.specs.declared.request.Access.{Access}
 use Rattle.lt_ids.specs.declared.request.Access.TheVariants.{Read, Write}
@@ -18,10 +16,10 @@ use Rattle.lt_plain.specs.declared.call.Reply.{Reply}
 use Rattle.lt_plain.specs.declared.call.Reply.TheVariants.{Freed, Left}
 use Rattle.lt_plain.specs.Record.{Record, number_of, writer_number, is_txn, has_txn}
 use Rattle.lt_plain.specs.Rules.{Outcome, free, raise_to, take_lock, set_back, is_of, acquire_from, update_from, finish_from, leave, is_reserved_by, is_waiting, leading}
-use Rattle.lt_plain.specs.Visit.{visit, visit_lock, is_queued, displace, pass, wait_to_write, join_writers}
+use Rattle.lt_plain.specs.Visit.{visit_lock, is_queued, displace, pass, wait_to_write}
 use Rattle.lt_plain.specs.Step.{step}
 use Rattle.lt_plain.proofs.Cases.{AreOwned, IsAwake, all_append, all_drop}
-use Rattle.lt_plain.proofs.Holders.{either, one_of_three, joined, displaced}
+use Rattle.lt_plain.proofs.Holders.{either, one_of_three, joined}
 use Rattle.lt_plain.proofs.Orderly.{all_filter, enqueue_all}
 
 abbrev Keeps : Outcome → Type 0

@@ -1,5 +1,5 @@
 -- What holds of each request that stands at a key, and of who is let through.
-use Rattle.std.proofs.Common.{◌≡◌, ℕ, Bool, true, false, cond, suc, not, List, [], ◌∷◌, ◌++◌, map, filter, take, drop, Option, Some, None, IfSome, refl, sym, subst, nat_eq}
+use Rattle.std.proofs.Common.{◌≡◌, ℕ, Bool, true, false, cond, suc, not, List, [], ◌∷◌, ◌++◌, map, filter, take, Option, Some, None, IfSome, refl, sym, subst, nat_eq}
 use Rattle.std.specs.List.{AllByRecursion, find}
 use Rattle.std.specs.Option.{option_map}
 use Rattle.std.specs.Ordering.{nat_cmp}

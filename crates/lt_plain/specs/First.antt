@@ -1,8 +1,7 @@
--- The rules of the first version, in which each request has a transaction and none has a bound: which records come about,
--- what a visit does, and what comes after a release. The other rules were the same. A visit's bound is not looked at.
-use Rattle.std.specs.Prelude.{◌≡◌, ◌≢◌, ◌<◌, ◌⊎◌, ℕ, Bool, true, false, nat_eq, if◌then◌else◌, Option, Some, None, List, [], ◌∷◌, ◌++◌, map, drop, take, slice_get, IsNone, IsSome, IfSome, is_some}
+-- The rules of the first version, in which each request has a transaction and none has a bound: what a visit does, and what
+-- comes after a release. The other rules were the same; which records come about is said beside the present ones. A visit's bound is not looked at.
+use Rattle.std.specs.Prelude.{ℕ, Bool, true, false, nat_eq, if◌then◌else◌, Option, Some, None, List, [], ◌++◌, map, drop, take, slice_get, is_some}
 use Rattle.std.specs.Option.{option_map}
-use Rattle.std.specs.List.{AllByRecursion, IsDistinct}
 use Rattle.std.specs.Ordering.{nat_cmp, match_ordering}
 use Rattle.lt_ids.specs.declared.request.Access.{Access}
 use Rattle.lt_ids.specs.declared.request.Access.TheVariants.{Read, Write}
@@ -10,35 +9,12 @@ use Rattle.lt_ids.specs.Timestamp.{is_below}
 use Rattle.lt_plain.specs.declared.queued.Holder.{Holder}
 use Rattle.lt_plain.specs.declared.queued.QueuedRequest.{QueuedRequest}
 use Rattle.lt_plain.specs.declared.call.Call.{Call}
-use Rattle.lt_plain.specs.declared.call.Call.TheVariants.{Visit, Acquire, Update, Finish, Leave, Look}
+use Rattle.lt_plain.specs.declared.call.Call.TheVariants.{Visit}
 use Rattle.lt_plain.specs.declared.call.Reply.{Reply}
-use Rattle.lt_plain.specs.declared.call.Reply.TheVariants.{Freed, Left, Other, Absent}
-use Rattle.lt_plain.specs.Record.{Record, empty, number_of, writer_number, through_of, is_txn}
-use Rattle.lt_plain.specs.Rules.{Outcome, unchanged, settle, stop_reading, set_back, active_requests, acquire, update, is_reserved_by, is_waiting, without_reader, without_writer}
+use Rattle.lt_plain.specs.Record.{Record, empty, number_of, through_of, is_txn}
+use Rattle.lt_plain.specs.Rules.{Outcome, settle, stop_reading, set_back, active_requests}
 use Rattle.lt_plain.specs.Visit.{pass, wait_to_write, wait_to_read, settled}
-use Rattle.lt_plain.specs.Lawful.{waiters, numbers, Rises}
-use Rattle.lt_plain.specs.Step.{Event, look}
-
--- What is true of each record that comes about.
-pub record IsLawful (r : Record) : Type 0 where
-  -- it is not both held and reserved
-  pub not_both : IsNone r.holder ⊎ IsNone r.reservation
-  -- where it is neither, nobody waits to write
-  pub free_has_no_writers : IsNone r.holder → IsNone r.reservation → r.writers ≡ []
-  -- where it is not held, nobody waits to read
-  pub unheld_has_no_readers : IsNone r.holder → r.readers ≡ []
-  -- the writers' numbers rise strictly
-  pub writers_rise : Rises r.writers
-  -- the reservation's number is below every writer's
-  pub reservation_is_least : IfSome r.reservation (λ s. AllByRecursion (λ w. number_of s < writer_number w) r.writers)
-  -- no number stands twice
-  pub numbers_differ : IsDistinct nat_eq (numbers r)
-  -- nobody waits for his own transaction
-  pub others_wait : IfSome r.holder (λ h. AllByRecursion (λ q. q.txn ≢ Some h.txn) (waiters r))
-  -- no reader's time is below the holder's
-  pub readers_are_not_below : IfSome r.holder (λ h. AllByRecursion (λ q. is_below q.ts h.ts ≡ false) r.readers)
-  -- the distinguished waiter is one that may be it, and there is one if any may be
-  pub is_settled : settle r ≡ r
+use Rattle.lt_plain.specs.Step.{Event, IsLegalBy, step_by}
 
 -- The lock has just lost its holder or its reservation: the readers go on, and the first writer has it
 -- reserved, and goes on if it was waiting.
@@ -76,40 +52,12 @@ visit_lock (Some h) reservation r q access = if is_txn q.txn h.txn then pass r e
 abbrev pub visit : Record → QueuedRequest → Access → Outcome
 visit r q access = settled (visit_lock r.holder r.reservation (stop_reading r (number_of q)) q access)
 
-abbrev pub finish_from : Option Holder → Record → ℕ → Outcome
-finish_from None r txn = unchanged r Other
-finish_from (Some holder) r txn = if nat_eq holder.txn txn then free (record r { holder = None }) Freed else unchanged r Other
-
-abbrev pub finish : Record → ℕ → Outcome
-finish r txn = finish_from r.holder r txn
-
-abbrev pub leave : Record → ℕ → Outcome
-leave r n =
-    if is_reserved_by r.reservation n then free (record r { reservation = None }) Left
-    else if is_waiting r n then record {
-      after = settle (record r { writers = without_writer r.writers n; readers = without_reader r.readers n });
-      reply = Left;
-      lets = [];
-    } else unchanged r Absent
-
 -- one step of a record, by a call of this pass
 abbrev pub step : Record → ℕ → Call → Outcome
-step r pass (Visit ticket txn ts access longest) = visit r (record { ticket = ticket; txn = txn; ts = ts; pass = pass }) access
-step r pass (Acquire txn ts) = acquire r txn ts
-step r pass (Update txn ts) = update r txn ts
-step r pass (Finish txn) = finish r txn
-step r pass (Leave number) = leave r number
-step r pass (Look number) = unchanged r (look r number)
-
--- From this record on, each step gave its reply and its lets.
-abbrev pub IsLegalFrom : Record → List Event → Type 0
-IsLegalFrom r [] = Unit {0}
-IsLegalFrom r (e ∷ es) =
-    let o = step r e.pass e.call in
-    (e.reply ≡ o.reply) × (e.lets ≡ o.lets) × IsLegalFrom o.after es
+step r pass call = step_by (λ r q longest access. visit r q access) free r pass call
 
 abbrev pub IsLegal : List Event → Type 0
-IsLegal es = IsLegalFrom empty es
+IsLegal es = IsLegalBy step empty es
 
 -- A call of the first version: a visit has a transaction and no bound.
 abbrev pub is_of_first : Call → Bool

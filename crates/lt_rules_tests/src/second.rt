@@ -283,7 +283,7 @@ impl Second {
         Ok(Reply::Passed)
     }
 
-    /// The request visits the key. It joins fewer than `longest` writers alone, if that is not 0.
+    /// The request visits the key. It joins the writers only where they are fewer than `longest`, if that is not 0.
     pub fn visit(
         &mut self,
         alloc: Global,

@@ -55,8 +55,8 @@ impl Eq for Accesses {
 /// What a line of a script asks for.
 #[derive(Debug, PartialEq, Eq, Drop)]
 pub enum Action {
-    /// A request of the transaction, or of none, for these keys. It joins fewer than `longest` writers alone; 0 is no
-    /// bound.
+    /// A request of the transaction, or of none, for these keys. It joins the writers of a key only where they
+    /// are fewer than `longest`; 0 is no bound.
     Open {
         txn: Option<TxnId>,
         ts: Timestamp,

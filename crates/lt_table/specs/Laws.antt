@@ -52,8 +52,7 @@ pub record PassedEach (asked : Asked) (steps : List Step) (answers : List Answer
   pub answered : answers ≡ map answer_of steps
   pub passed : AllByRecursion (λ a. a.reply ≡ Passed) answers
 
--- A queue was too long for a scan: its last step is the visit of the key at this place, which was answered so and stands
--- in what was then seen. The request is at its list's start again, with nothing to wait for and as many waits as before.
+-- A queue was too long for a scan: the visit of the key at this place was answered so, and stands in what was then seen. The request is at its list's start again, with nothing to wait for and as many waits as before.
 pub record IsTooLong (old new : GuardState) (place : ℕ) : Type 0 where
   pub step : Step
   pub access : Access

@@ -49,7 +49,7 @@ impl Room {
 impl<N: Name, T: KeyTable> Table<N, T> {
     /// A request of these accesses enters through the pass, which its guard keeps until it leaves. Its number is drawn
     /// last, so that a refusal for what was given or for memory draws none. It is of the transaction or of none, and joins
-    /// fewer than `longest` requests that wait to write at a key alone; 0 is no bound.
+    /// the writers of a key only where they are fewer than `longest`; 0 is no bound.
     pub fn enter<R: Wait>(
         &self,
         rt: &R,

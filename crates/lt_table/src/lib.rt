@@ -11,7 +11,7 @@
 //!         Scan::Proceed => break,                                      // no conflict: evaluate now
 //!         Scan::Rescan => {}                                           // it waited on the way: once more
 //!         Scan::Waiting(_) => while table.poll(&mut guard) != Poll::Through {}
-//!         Scan::TooLong(_) => return table.leave(rt, guard),           // as many wait there as it allows, or more
+//!         Scan::TooLong(_) => return table.leave(rt, guard),           // there are as many writers as its bound
 //!     }
 //! }
 //! table.acquire_in(rt, &mut guard, &key, txn, ts)?;                    // the keys that it wrote are locked
@@ -24,8 +24,8 @@
 //! else meanwhile. Keys are spread over 1 to 64 shards by the sum of their bytes; each shard has a lock of its own, and a
 //! call holds at most one of them, for one key step.
 //!
-//! A request may be of no transaction: no lock is ever reserved for it. And it may have a bound: where as many wait to
-//! write at a key, or more, its scan answers `TooLong` in place of joining them.
+//! A request may be of no transaction: no lock is ever reserved for it. And it may have a bound: where a key has as
+//! many writers, or more, its scan answers `TooLong` and does not join them.
 //!
 //! **What is promised**, in any schedule: each key step that a call reports stands with its reply in one legal history of
 //! all steps, once, and after all that its caller had seen; a request that is read as let through was let through there; no

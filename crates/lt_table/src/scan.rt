@@ -10,8 +10,8 @@ pub enum Scan {
     Rescan,
     /// It has to wait at the key of this place in the guard's list, from 0.
     Waiting(usize),
-    /// At the key of this place in the guard's list, from 0, as many wait to write as it allows, or more, and it is not
-    /// among them. It stands at the start of its list again, and its stands at other keys remain until it leaves.
+    /// At the key of this place in the guard's list, from 0, there are as many writers as its bound, or more, and it is
+    /// none of them. It stands at the start of its list again, and its stands at other keys remain until it leaves.
     TooLong(usize),
 }
 

@@ -1,5 +1,5 @@
 //! Requests with a bound.
-use crate::playing::{config, enter, enter_bounded, plays, replies_at, steps_of};
+use crate::playing::{config, enter, enter_bounded, freed, plays, replies_at, steps_of, taken};
 use lt_plain::Reply;
 use lt_table::{Poll, Scan};
 use lt_table_player::command::{Command, Told};
@@ -11,15 +11,7 @@ fn a_request_joins_fewer_than_its_bound(rt: HostRuntime) -> Result<(), Fail> {
     let alloc = rt.alloc();
     let long = Told::Scanned(Scan::TooLong(0));
     let rows = vec![in alloc;
-        (
-            3,
-            Command::Acquire {
-                txn: 9,
-                wall: 10,
-                key: b'a'
-            },
-            Told::Stepped(Reply::Taken)
-        ),
+        taken(3, 9, 10, b'a'),
         (0, enter(alloc, 1, 1, b"aw")?, Told::Entered(1)),
         (0, Command::Scan, Told::Scanned(Scan::Waiting(0))),
         (
@@ -35,11 +27,7 @@ fn a_request_joins_fewer_than_its_bound(rt: HostRuntime) -> Result<(), Fail> {
             Told::Entered(3)
         ),
         (2, Command::Scan, Told::Scanned(Scan::Waiting(0))),
-        (
-            3,
-            Command::Finish { txn: 9, key: b'a' },
-            Told::Stepped(Reply::Freed)
-        ),
+        freed(3, 9, b'a'),
         (1, Command::Scan, long),
         (1, Command::Leave, Told::Left),
     ]?;
@@ -59,15 +47,7 @@ fn a_request_joins_fewer_than_its_bound(rt: HostRuntime) -> Result<(), Fail> {
 fn one_that_stands_already_is_held_to_no_bound(rt: HostRuntime) -> Result<(), Fail> {
     let alloc = rt.alloc();
     let rows = vec![in alloc;
-        (
-            2,
-            Command::Acquire {
-                txn: 9,
-                wall: 10,
-                key: b'a'
-            },
-            Told::Stepped(Reply::Taken)
-        ),
+        taken(2, 9, 10, b'a'),
         (0, enter(alloc, 1, 10, b"aw")?, Told::Entered(1)),
         (
             1,
@@ -75,11 +55,7 @@ fn one_that_stands_already_is_held_to_no_bound(rt: HostRuntime) -> Result<(), Fa
             Told::Entered(2)
         ),
         (1, Command::Scan, Told::Scanned(Scan::Waiting(0))),
-        (
-            2,
-            Command::Finish { txn: 9, key: b'a' },
-            Told::Stepped(Reply::Freed)
-        ),
+        freed(2, 9, b'a'),
         (0, Command::Scan, Told::Scanned(Scan::Proceed)),
         (1, Command::Scan, Told::Scanned(Scan::Rescan)),
         (1, Command::Scan, Told::Scanned(Scan::Waiting(0))),
@@ -95,15 +71,7 @@ fn one_that_stands_already_is_held_to_no_bound(rt: HostRuntime) -> Result<(), Fa
 fn a_queue_is_too_long_at_the_second_key(rt: HostRuntime) -> Result<(), Fail> {
     let alloc = rt.alloc();
     let rows = vec![in alloc;
-        (
-            2,
-            Command::Acquire {
-                txn: 9,
-                wall: 10,
-                key: b'b'
-            },
-            Told::Stepped(Reply::Taken)
-        ),
+        taken(2, 9, 10, b'b'),
         (0, enter(alloc, 1, 1, b"bw")?, Told::Entered(1)),
         (0, Command::Scan, Told::Scanned(Scan::Waiting(0))),
         (
@@ -115,11 +83,7 @@ fn a_queue_is_too_long_at_the_second_key(rt: HostRuntime) -> Result<(), Fail> {
         (1, Command::Poll, Told::Polled(Poll::Idle)),
         (0, Command::Leave, Told::Left),
         (1, Command::Scan, Told::Scanned(Scan::Waiting(1))),
-        (
-            2,
-            Command::Finish { txn: 9, key: b'b' },
-            Told::Stepped(Reply::Freed)
-        ),
+        freed(2, 9, b'b'),
         (1, Command::Scan, Told::Scanned(Scan::Rescan)),
         (1, Command::Scan, Told::Scanned(Scan::Proceed)),
     ]?;
@@ -141,24 +105,8 @@ fn a_queue_is_too_long_at_the_second_key(rt: HostRuntime) -> Result<(), Fail> {
 fn a_queue_that_is_too_long_clears_the_wait_before(rt: HostRuntime) -> Result<(), Fail> {
     let alloc = rt.alloc();
     let rows = vec![in alloc;
-        (
-            2,
-            Command::Acquire {
-                txn: 9,
-                wall: 10,
-                key: b'a'
-            },
-            Told::Stepped(Reply::Taken)
-        ),
-        (
-            2,
-            Command::Acquire {
-                txn: 9,
-                wall: 10,
-                key: b'b'
-            },
-            Told::Stepped(Reply::Taken)
-        ),
+        taken(2, 9, 10, b'a'),
+        taken(2, 9, 10, b'b'),
         (0, enter(alloc, 1, 1, b"bw")?, Told::Entered(1)),
         (0, Command::Scan, Told::Scanned(Scan::Waiting(0))),
         (
@@ -167,11 +115,7 @@ fn a_queue_that_is_too_long_clears_the_wait_before(rt: HostRuntime) -> Result<()
             Told::Entered(2)
         ),
         (1, Command::Scan, Told::Scanned(Scan::Waiting(0))),
-        (
-            2,
-            Command::Finish { txn: 9, key: b'a' },
-            Told::Stepped(Reply::Freed)
-        ),
+        freed(2, 9, b'a'),
         (1, Command::Scan, Told::Scanned(Scan::TooLong(1))),
         (1, Command::Poll, Told::Polled(Poll::Idle)),
         (
@@ -180,11 +124,7 @@ fn a_queue_that_is_too_long_clears_the_wait_before(rt: HostRuntime) -> Result<()
             Told::Stepped(Reply::Reserved)
         ),
         (1, Command::Look { index: 1 }, Told::Stepped(Reply::Nothing)),
-        (
-            2,
-            Command::Finish { txn: 9, key: b'b' },
-            Told::Stepped(Reply::Freed)
-        ),
+        freed(2, 9, b'b'),
         (0, Command::Leave, Told::Left),
         (1, Command::Scan, Told::Scanned(Scan::Proceed)),
         (1, Command::Leave, Told::Left),

@@ -1,5 +1,5 @@
 //! Requests without a transaction.
-use crate::playing::{config, enter, enter_bounded, plays};
+use crate::playing::{config, enter, enter_bounded, freed, plays, taken};
 use lt_ids::TxnId;
 use lt_plain::Reply;
 use lt_table::{Poll, Scan};
@@ -14,15 +14,7 @@ fn a_release_lets_those_without_a_transaction_through_in_turn(rt: HostRuntime) -
     let two = TxnId::new(2).ok_or("the transaction")?;
     let waits = Told::Scanned(Scan::Waiting(0));
     let rows = vec![in alloc;
-        (
-            3,
-            Command::Acquire {
-                txn: 9,
-                wall: 10,
-                key: b'a'
-            },
-            Told::Stepped(Reply::Taken)
-        ),
+        taken(3, 9, 10, b'a'),
         (
             0,
             enter_bounded(alloc, None, 1, b"aw", 0)?,
@@ -37,11 +29,7 @@ fn a_release_lets_those_without_a_transaction_through_in_turn(rt: HostRuntime) -
             Told::Entered(3)
         ),
         (2, Command::Scan, waits),
-        (
-            3,
-            Command::Finish { txn: 9, key: b'a' },
-            Told::Stepped(Reply::Freed)
-        ),
+        freed(3, 9, b'a'),
         (0, Command::Poll, Told::Polled(Poll::Through)),
         (1, Command::Poll, Told::Polled(Poll::Through)),
         (2, Command::Poll, Told::Polled(Poll::Waiting)),
@@ -65,15 +53,7 @@ fn one_without_a_transaction_passes_a_greater_reservation(rt: HostRuntime) -> Re
     let two = TxnId::new(2).ok_or("the transaction")?;
     let waits = Told::Scanned(Scan::Waiting(0));
     let rows = vec![in alloc;
-        (
-            3,
-            Command::Acquire {
-                txn: 9,
-                wall: 10,
-                key: b'a'
-            },
-            Told::Stepped(Reply::Taken)
-        ),
+        taken(3, 9, 10, b'a'),
         (
             0,
             enter_bounded(alloc, None, 1, b"aw", 0)?,
@@ -81,11 +61,7 @@ fn one_without_a_transaction_passes_a_greater_reservation(rt: HostRuntime) -> Re
         ),
         (1, enter(alloc, 2, 1, b"aw")?, Told::Entered(2)),
         (1, Command::Scan, waits),
-        (
-            3,
-            Command::Finish { txn: 9, key: b'a' },
-            Told::Stepped(Reply::Freed)
-        ),
+        freed(3, 9, b'a'),
         (0, Command::Scan, Told::Scanned(Scan::Proceed)),
         (
             1,

@@ -2,7 +2,7 @@
 use lt_ids::Access;
 use lt_plain::Reply;
 use lt_table::Config;
-use lt_table_player::command::{Command, Row};
+use lt_table_player::command::{Command, Row, Told};
 use lt_table_player::run::{Ran, run};
 use std::alloc::{AllocError, Global};
 use std::process::Abort;
@@ -38,6 +38,21 @@ pub fn enter_bounded(
 /// A request of a transaction, without a bound.
 pub fn enter(alloc: Global, txn: u64, wall: u64, text: &[u8]) -> Result<Command, AllocError> {
     enter_bounded(alloc, Some(txn), wall, text, 0)
+}
+
+/// The pass takes the lock of a key that nobody holds.
+pub fn taken(pass: usize, txn: u64, wall: u64, key: u8) -> Row {
+    let take = Command::Acquire { txn, wall, key };
+    (pass, take, Told::Stepped(Reply::Taken))
+}
+
+/// The pass gives the lock of the key up.
+pub fn freed(pass: usize, txn: u64, key: u8) -> Row {
+    (
+        pass,
+        Command::Finish { txn, key },
+        Told::Stepped(Reply::Freed),
+    )
 }
 
 pub fn config(shards: usize, passes: usize) -> Config {

@@ -1,5 +1,5 @@
 use crate::closing::close_twice;
-use crate::playing::{config, enter, plays, replies_at, steps_of};
+use crate::playing::{config, enter, freed, plays, replies_at, steps_of, taken};
 use lt_plain::Reply;
 use lt_table::{
     CloseError, Config, EnterError, Poll, PrepareError, Scan, ScanError, StepError, prepare,
@@ -12,24 +12,12 @@ use std::test::Fail;
 fn a_request_waits_once_and_proceeds(rt: HostRuntime) -> Result<(), Fail> {
     let alloc = rt.alloc();
     let rows = vec![in alloc;
-        (
-            1,
-            Command::Acquire {
-                txn: 9,
-                wall: 10,
-                key: b'b'
-            },
-            Told::Stepped(Reply::Taken)
-        ),
+        taken(1, 9, 10, b'b'),
         (0, enter(alloc, 1, 20, b"crawbw")?, Told::Entered(1)),
         (0, Command::Scan, Told::Scanned(Scan::Waiting(1))),
         (0, Command::Poll, Told::Polled(Poll::Waiting)),
         (0, Command::Scan, Told::NotScanned(ScanError::StillWaiting)),
-        (
-            1,
-            Command::Finish { txn: 9, key: b'b' },
-            Told::Stepped(Reply::Freed)
-        ),
+        freed(1, 9, b'b'),
         (0, Command::Poll, Told::Polled(Poll::Through)),
         (0, Command::Scan, Told::Scanned(Scan::Rescan)),
         (0, Command::Scan, Told::Scanned(Scan::Proceed)),
@@ -47,15 +35,7 @@ fn a_request_waits_once_and_proceeds(rt: HostRuntime) -> Result<(), Fail> {
 fn a_full_shard_makes_no_step(rt: HostRuntime) -> Result<(), Fail> {
     let alloc = rt.alloc();
     let rows = vec![in alloc;
-        (
-            0,
-            Command::Acquire {
-                txn: 7,
-                wall: 20,
-                key: b'a'
-            },
-            Told::Stepped(Reply::Taken)
-        ),
+        taken(0, 7, 20, b'a'),
         (
             0,
             Command::Update {
@@ -194,15 +174,7 @@ fn a_request_names_1_to_256_accesses(rt: HostRuntime) -> Result<(), Fail> {
         ),
         (0, Command::Scan, Told::Scanned(Scan::Proceed)),
         (0, Command::Leave, Told::Left),
-        (
-            1,
-            Command::Acquire {
-                txn: 9,
-                wall: 10,
-                key: b'a'
-            },
-            Told::Stepped(Reply::Taken)
-        ),
+        taken(1, 9, 10, b'a'),
         (0, enter(alloc, 1, 5, b"ar")?, Told::Entered(3)),
         (0, Command::Scan, Told::Scanned(Scan::Proceed)),
         (0, Command::Leave, Told::Left),
@@ -227,15 +199,7 @@ fn a_request_names_1_to_256_accesses(rt: HostRuntime) -> Result<(), Fail> {
 fn numbers_and_waits_run_out(rt: HostRuntime) -> Result<(), Fail> {
     let alloc = rt.alloc();
     let rows = vec![in alloc;
-        (
-            1,
-            Command::Acquire {
-                txn: 9,
-                wall: 1,
-                key: b'a'
-            },
-            Told::Stepped(Reply::Taken)
-        ),
+        taken(1, 9, 1, b'a'),
         (0, enter(alloc, 1, 1, b"aw")?, Told::Entered(1)),
         (
             1,
@@ -243,11 +207,7 @@ fn numbers_and_waits_run_out(rt: HostRuntime) -> Result<(), Fail> {
             Told::NotEntered(EnterError::NumbersOut)
         ),
         (0, Command::Scan, Told::Scanned(Scan::Waiting(0))),
-        (
-            1,
-            Command::Finish { txn: 9, key: b'a' },
-            Told::Stepped(Reply::Freed)
-        ),
+        freed(1, 9, b'a'),
         (0, Command::Poll, Told::Polled(Poll::Through)),
         (0, Command::Scan, Told::Scanned(Scan::Rescan)),
         (0, Command::Scan, Told::NotScanned(ScanError::WaitsOut)),
@@ -272,52 +232,20 @@ fn numbers_and_waits_run_out(rt: HostRuntime) -> Result<(), Fail> {
 fn an_old_let_is_not_taken_for_a_new_one(rt: HostRuntime) -> Result<(), Fail> {
     let alloc = rt.alloc();
     let rows = vec![in alloc;
-        (
-            1,
-            Command::Acquire {
-                txn: 9,
-                wall: 1,
-                key: b'a'
-            },
-            Told::Stepped(Reply::Taken)
-        ),
-        (
-            1,
-            Command::Acquire {
-                txn: 9,
-                wall: 1,
-                key: b'b'
-            },
-            Told::Stepped(Reply::Taken)
-        ),
+        taken(1, 9, 1, b'a'),
+        taken(1, 9, 1, b'b'),
         (0, enter(alloc, 1, 1, b"aw")?, Told::Entered(1)),
         (0, Command::Scan, Told::Scanned(Scan::Waiting(0))),
-        (
-            1,
-            Command::Finish { txn: 9, key: b'a' },
-            Told::Stepped(Reply::Freed)
-        ),
+        freed(1, 9, b'a'),
         (0, Command::Leave, Told::Left),
         (0, enter(alloc, 1, 1, b"bw")?, Told::Entered(2)),
         (0, Command::Scan, Told::Scanned(Scan::Waiting(0))),
         (0, Command::Poll, Told::Polled(Poll::Waiting)),
-        (
-            1,
-            Command::Finish { txn: 9, key: b'b' },
-            Told::Stepped(Reply::Freed)
-        ),
+        freed(1, 9, b'b'),
         (0, Command::Poll, Told::Polled(Poll::Through)),
         (0, Command::Leave, Told::Left),
         (0, enter(alloc, 7, 1, b"aw")?, Told::Entered(3)),
-        (
-            0,
-            Command::Acquire {
-                txn: 7,
-                wall: 1,
-                key: b'a'
-            },
-            Told::Stepped(Reply::Taken)
-        ),
+        taken(0, 7, 1, b'a'),
         (
             0,
             Command::Update {
@@ -327,11 +255,7 @@ fn an_old_let_is_not_taken_for_a_new_one(rt: HostRuntime) -> Result<(), Fail> {
             },
             Told::Stepped(Reply::Raised)
         ),
-        (
-            0,
-            Command::Finish { txn: 7, key: b'a' },
-            Told::Stepped(Reply::Freed)
-        ),
+        freed(0, 7, b'a'),
         (0, Command::Look { index: 0 }, Told::Stepped(Reply::Nothing)),
     ]?;
     let ran = plays(&rt, alloc, config(2, 2), &rows)?;

@@ -1,5 +1,6 @@
 -- The output of a script ends with a text that a check takes.
-use Rattle.std.proofs.Common.{◌≡◌, ℕ, List, Bool, Option, length, refl, subst}
+use Rattle.std.proofs.Common.{◌≡◌, ℕ, List, Bool, Option, length, refl, subst, inr}
+use Rattle.lt_history.proofs.Verdicts.{all_of_latest}
 use Rattle.lt_script.specs.declared.command.Command.{Command}
 use Rattle.lt_desk.specs.declared.outcome.Finish.{Finish}
 use Rattle.lt_desk.specs.declared.outcome.Ran.{Ran}
@@ -14,8 +15,17 @@ written options always commands ran text finish is_ran composed = record {
   is_ran = is_ran;
   finish_is = composed.finish_is;
   histories = composed.histories;
-  report = record { keys = length composed.is_text.keys; steps = length (joined ran.histories.items) };
-  legal = record { entries = joined ran.histories.items; in_range = is_ran.in_range; legal = is_ran.legal; is_text = composed.is_text; keys = refl; steps = refl };
+  report = record { version = 2; keys = length composed.is_text.keys; steps = length (joined ran.histories.items) };
+  legal = record {
+    is_version = inr refl;
+    entries = joined ran.histories.items;
+    in_range = is_ran.in_range;
+    of_version = all_of_latest (joined ran.histories.items);
+    legal = is_ran.legal;
+    is_text = composed.is_text;
+    keys = refl;
+    steps = refl;
+  };
   entries_are = refl;
   whole = composed.whole;
 }

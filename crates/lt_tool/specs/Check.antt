@@ -1,12 +1,13 @@
 -- What is told of a text of histories.
-use Rattle.std.specs.Prelude.{ℕ, ◌≡◌, ◌⊎◌, ◌<◌, ◌^◌, List, [], ◌∷◌, ◌++◌, length, Option, IfSome, Result, Err, decimal, codes}
+use Rattle.std.specs.Prelude.{ℕ, ◌≡◌, ◌⊎◌, ◌<◌, ◌^◌, List, [], ◌∷◌, ◌++◌, length, Option, IfSome, Result, Ok, Err, decimal, codes}
+use Rattle.std.specs.Io.KnownBytes.{Appends}
 use Rattle.lt_text.specs.Compose.{spaced}
 use Rattle.lt_history.specs.declared.checker.Report.{Report}
 use Rattle.lt_history.specs.declared.checker.CheckError.TheVariants as faults
 use Rattle.lt_history.specs.declared.error.Fault.{Fault}
 use Rattle.lt_history.specs.Print.{AppendsFront}
 use Rattle.lt_history.specs.Text.{Fails}
-use Rattle.lt_history.specs.Verdict.{IsLegalText}
+use Rattle.lt_history.specs.Verdict.{IsLegalText, upgraded, of_latest}
 use Rattle.lt_tool.specs.declared.check.CheckTextError.{CheckTextError}
 use Rattle.lt_tool.specs.declared.check.CheckTextError.TheVariants as errors
 use Rattle.lt_tool.specs.declared.input.Unread.{Unread}
@@ -17,13 +18,17 @@ use Rattle.lt_tool.specs.Output.{IsShort}
 abbrev pub report_line : Report → List ℕ
 report_line r = codes "ok" ++ spaced (decimal r.keys ∷ codes "keys" ∷ decimal r.steps ∷ codes "steps" ∷ []) ++ 10 ∷ []
 
--- A text of legal histories, of so many keys and steps, was read to its end; it is the reader's, where those bytes are
--- known.
-pub record IsChecked (source : Option (List ℕ)) (report : Report) : Type 0 where
-  pub text : List ℕ
+-- This text was read to its end, and it is one of legal histories, of this version and so many keys and steps; it is the
+-- reader's, where those bytes are known.
+pub record IsLegalOf (source : Option (List ℕ)) (text : List ℕ) (report : Report) : Type 0 where
   pub is_read : IfSome source (λ all. text ≡ all)
   pub short : IsShort text
   pub legal : IsLegalText text report
+
+-- A text is so.
+pub record IsChecked (source : Option (List ℕ)) (report : Report) : Type 0 where
+  pub text : List ℕ
+  pub is_legal : IsLegalOf source text report
 
 -- A text that was read to its end has this fault first, and that on this line.
 pub record IsFaulty (source : Option (List ℕ)) (line : ℕ) (fault : Fault) : Type 0 where
@@ -43,6 +48,27 @@ pub record ToldInPart (source old new : Option (List ℕ)) : Type 0 where
   pub report : Report
   pub checked : IsChecked source report
   pub written : AppendsFront old new (report_line report)
+
+-- A text of legal histories was read, and the writer holds it more with the first line of the latest version, and nothing
+-- else; that text is legal, with the same numbers.
+pub record IsUpgraded (source old new : Option (List ℕ)) (report : Report) : Type 0 where
+  pub text : List ℕ
+  pub is_legal : IsLegalOf source text report
+  pub stays_legal : IsLegalText (upgraded text) (of_latest report)
+  pub written : Appends old new (upgraded text)
+
+-- The same, and the writer holds a front of it more.
+pub record UpgradedInPart (source old new : Option (List ℕ)) : Type 0 where
+  pub text : List ℕ
+  pub report : Report
+  pub is_legal : IsLegalOf source text report
+  pub stays_legal : IsLegalText (upgraded text) (of_latest report)
+  pub written : AppendsFront old new (upgraded text)
+
+-- what is told of a text that is taken, without the text
+abbrev pub reported : {X : Type 0} → Result (X × Report) CheckTextError → Result Report CheckTextError
+reported (Ok taken) = Ok taken.1
+reported (Err e) = Err e
 
 -- A read failed, or memory ran out.
 abbrev pub IsStopped : Result Report CheckTextError → Type 0

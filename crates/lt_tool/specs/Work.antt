@@ -10,7 +10,7 @@ use Rattle.lt_history.specs.declared.checker.Report.{Report}
 use Rattle.lt_desk.specs.declared.outcome.Finish.{Finish}
 use Rattle.lt_desk.specs.declared.outcome.Finish.TheVariants.{Done}
 use Rattle.lt_command_line.specs.declared.options.Options.{Options}
-use Rattle.lt_tool.specs.Check.{IsChecked, IsUnchecked, ToldInPart, report_line}
+use Rattle.lt_tool.specs.Check.{IsChecked, IsUnchecked, ToldInPart, IsUpgraded, UpgradedInPart, report_line}
 use Rattle.lt_command_line.specs.declared.words.Job.{Job}
 use Rattle.lt_command_line.specs.declared.words.Job.TheVariants as jobs
 use Rattle.lt_command_line.specs.declared.words.WordsError.{WordsError}
@@ -25,6 +25,11 @@ pub record Told (source old new : Option (List ℕ)) : Type 0 where
   pub checked : IsChecked source report
   pub written : Appends old new (report_line report)
 
+-- The text is legal, and the writer holds it more as one of the latest version, and nothing else.
+pub record Upgraded (source old new : Option (List ℕ)) : Type 0 where
+  pub report : Report
+  pub is_upgraded : IsUpgraded source old new report
+
 -- why a script was not run, and what is written then
 abbrev pub IsFailedRun : Options → Failure → Option (List ℕ) → Option (List ℕ) → Option (List ℕ) → Type 0
 IsFailedRun options (failures.Run runs.Write) source old new = WritesInPart options true source old new
@@ -36,6 +41,12 @@ abbrev pub IsFailedCheck : Failure → Option (List ℕ) → Option (List ℕ) �
 IsFailedCheck (failures.Check checks.Write) source old new = ToldInPart source old new
 IsFailedCheck (failures.Check e) source old new = IsUnchecked e source
 IsFailedCheck _ source old new = ⊥
+
+-- why a text was not upgraded, and what is written then
+abbrev pub IsFailedUpgrade : Failure → Option (List ℕ) → Option (List ℕ) → Option (List ℕ) → Type 0
+IsFailedUpgrade (failures.Check checks.Write) source old new = UpgradedInPart source old new
+IsFailedUpgrade (failures.Check e) source old new = IsUnchecked e source
+IsFailedUpgrade _ source old new = ⊥
 
 -- The failure is none of a write.
 abbrev pub LeavesOutput : Failure → Type 0
@@ -55,15 +66,18 @@ source_of (Some file) input = None
 abbrev pub IsDone : Job → Finish → Option (List ℕ) → Option (List ℕ) → Option (List ℕ) → Type 0
 IsDone (jobs.Run file options) finish input old new = Writes options true finish (source_of file input) old new
 IsDone (jobs.Check file) finish input old new = (finish ≡ Done) × Told (source_of file input) old new
+IsDone (jobs.Upgrade file) finish input old new = (finish ≡ Done) × Upgraded (source_of file input) old new
 
 abbrev pub IsFailed : Job → Failure → Option (List ℕ) → Option (List ℕ) → Option (List ℕ) → Type 0
 IsFailed (jobs.Run file options) e input old new = IsFailedRun options e (source_of file input) old new
 IsFailed (jobs.Check file) e input old new = IsFailedCheck e (source_of file input) old new
+IsFailed (jobs.Upgrade file) e input old new = IsFailedUpgrade e (source_of file input) old new
 
 -- The job has no file, so it reads the input.
 abbrev pub ReadsInput : Job → Type 0
 ReadsInput (jobs.Run None options) = Unit {0}
 ReadsInput (jobs.Check None) = Unit {0}
+ReadsInput (jobs.Upgrade None) = Unit {0}
 ReadsInput _ = ⊥
 
 -- ---- words

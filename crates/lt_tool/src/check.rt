@@ -5,16 +5,16 @@ ghost use Rattle.lt_history.specs.Print.{AppendsFront};
 ghost use Rattle.lt_history.specs.Text.{Fails};
 ghost use Rattle.lt_history.specs.Verdict.{IsLegalText};
 ghost use Rattle.lt_tool.specs.Output.{IsShort};
-ghost use Rattle.lt_tool.specs.Check.{IsChecked, IsUnchecked, IsStoppedOr, IsUnwrittenOr, ToldInPart, report_line, unread};
+ghost use Rattle.lt_tool.specs.Check.{IsLegalOf, IsChecked, IsUnchecked, IsStoppedOr, IsUnwrittenOr, ToldInPart, IsUpgraded, UpgradedInPart, report_line, reported, unread};
 
 use crate::input::{Unread, read_text};
-use lt_history::{CheckError, Fault, Report, check, write_out};
+use lt_history::{CheckError, Fault, Report, check, upgrade, write_out};
 use lt_text::put::{put_number_word, put_word};
 use std::alloc::{AllocError, Global};
 use std::io::{Read, Write};
 use thiserror::Error;
 
-/// Why a text of histories was not answered with its numbers.
+/// Why a text of histories was not answered with its numbers, or not upgraded.
 #[derive(Clone, Copy, Debug, PartialEq, Eq, Drop, Error)]
 pub enum CheckTextError {
     /// A read failed. Nothing is written.
@@ -26,8 +26,9 @@ pub enum CheckTextError {
     /// The text is refused, by its first faulty line and the first fault in it, or memory ran out. Nothing is written.
     #[error("{0}")]
     Check(CheckError),
-    /// The text is legal, and a write failed, was interrupted, or took no byte. A front of the line is written.
-    #[error("the numbers of keys and steps could not be written to their end")]
+    /// The text is legal, and a write failed, was interrupted, or took no byte. A front of the line, or of the upgraded text,
+    /// is written.
+    #[error("the answer could not be written to its end")]
     Write,
 }
 
@@ -41,13 +42,13 @@ fn unread(why: Unread) -> CheckTextError
     }
 }
 
-/// Checks what the reader has.
-fn report_of<R: Read>(alloc: Global, reader: &mut R) -> Result<Report, CheckTextError>
-    ensures ok { IfOk result (λ report. IsChecked (R.remaining reader.old) report) }
+/// What the reader has, and the report on it, where it is legal.
+fn legal_text<R: Read>(alloc: Global, reader: &mut R) -> Result<(Vec<u8>, Report), CheckTextError>
+    ensures ok { IfOk result (λ taken. IsLegalOf (R.remaining reader.old) taken.0.items taken.1) }
     ensures err { IfErr result (λ e. IsUnchecked e (R.remaining reader.old)) }
-    ensures legal { IfSome (R.remaining reader.old) (λ text. (report : Report) → IsShort text → IsLegalText text report → IsStoppedOr result (Ok report)) }
-    ensures faulty { IfSome (R.remaining reader.old) (λ text. (line : ℕ) (fault : Fault) → IsShort text → Fails text line fault → IsStoppedOr result (Err (CheckTextError.Check (faults.Refused line fault)))) }
-    ensures too_long { IfSome (R.remaining reader.old) (λ text. 2 ^ 24 < length text → IsStoppedOr result (Err CheckTextError.TooLong)) }
+    ensures legal { IfSome (R.remaining reader.old) (λ text. (report : Report) → IsShort text → IsLegalText text report → IsStoppedOr (reported result) (Ok report)) }
+    ensures faulty { IfSome (R.remaining reader.old) (λ text. (line : ℕ) (fault : Fault) → IsShort text → Fails text line fault → IsStoppedOr (reported result) (Err (CheckTextError.Check (faults.Refused line fault)))) }
+    ensures too_long { IfSome (R.remaining reader.old) (λ text. 2 ^ 24 < length text → IsStoppedOr (reported result) (Err CheckTextError.TooLong)) }
     ensures unwritten { IfErr result (λ e. e ≢ CheckTextError.Write) }
 {
     let text = match read_text(alloc, reader) {
@@ -55,7 +56,7 @@ fn report_of<R: Read>(alloc: Global, reader: &mut R) -> Result<Report, CheckText
         Err(why) => return Err(unread(why)),
     };
     match check(alloc, &text) {
-        Ok(report) => Ok(report),
+        Ok(report) => Ok((text, report)),
         Err(why) => Err(CheckTextError::Check(why)),
     }
 }
@@ -98,11 +99,42 @@ pub fn check_text<R: Read, W: Write>(
     ensures faulty { IfSome (R.remaining reader.old) (λ text. (line : ℕ) (fault : Fault) → IsShort text → Fails text line fault → IsStoppedOr result (Err (CheckTextError.Check (faults.Refused line fault)))) }
     ensures too_long { IfSome (R.remaining reader.old) (λ text. 2 ^ 24 < length text → IsStoppedOr result (Err CheckTextError.TooLong)) }
 {
-    let report = report_of(alloc, reader)?;
+    let (_, report) = legal_text(alloc, reader)?;
     let Ok(line) = line_of(alloc, report) else {
         return Err(CheckTextError::Check(CheckError::Memory));
     };
     match write_out(writer, &line) {
+        Ok(()) => Ok(report),
+        Err(_) => Err(CheckTextError::Write),
+    }
+}
+
+/// Reads a text of histories, checks it, and writes it as one of the latest version: with `locks 2` as its first line, and
+/// else as it is. The whole text is checked before the first write. It answers, and refuses, as [`check_text`] does; the
+/// report is that of the text read.
+pub fn upgrade_text<R: Read, W: Write>(
+    alloc: Global,
+    reader: &mut R,
+    writer: &mut W,
+) -> Result<Report, CheckTextError>
+    // The text is legal, with these numbers, and the writer has it more with its first line changed, which is legal too.
+    ensures done { IfOk result (λ report. IsUpgraded (R.remaining reader.old) (W.contents writer.old) (W.contents writer.new) report) }
+
+    // A text that is refused has this fault, and that on this line, first.
+    ensures refused { IfErr result (λ e. IsUnchecked e (R.remaining reader.old)) }
+    ensures unwritten { IfErr result (λ e. e ≢ CheckTextError.Write → writer.new ≡ writer.old) }
+
+    // After a write that failed the text is legal, and the writer holds a front of what was to be written.
+    ensures write { IfErr result (λ e. e ≡ CheckTextError.Write → UpgradedInPart (R.remaining reader.old) (W.contents writer.old) (W.contents writer.new)) }
+
+    // A legal text is written, and any other is refused, but for a read, a write or memory that fails.
+    ensures legal { IfSome (R.remaining reader.old) (λ text. (report : Report) → IsShort text → IsLegalText text report → IsUnwrittenOr result (Ok report)) }
+    ensures faulty { IfSome (R.remaining reader.old) (λ text. (line : ℕ) (fault : Fault) → IsShort text → Fails text line fault → IsStoppedOr result (Err (CheckTextError.Check (faults.Refused line fault)))) }
+    ensures too_long { IfSome (R.remaining reader.old) (λ text. 2 ^ 24 < length text → IsStoppedOr result (Err CheckTextError.TooLong)) }
+{
+    let (mut text, report) = legal_text(alloc, reader)?;
+    upgrade(&mut text);
+    match write_out(writer, &text) {
         Ok(()) => Ok(report),
         Err(_) => Err(CheckTextError::Write),
     }

@@ -19,8 +19,8 @@ pub enum Failure {
     Help,
     /// A script was not run, or its output not written. A file that does not open is a read that fails.
     Run(RunError),
-    /// A text of histories is not legal, or its check did not come to an end. A file that does not open is a read that
-    /// fails.
+    /// A text of histories is not legal, or its check or its upgrade did not come to an end. A file that does not open is a
+    /// read that fails.
     Check(CheckTextError),
 }
 

@@ -4,9 +4,9 @@ ghost use Rattle.lt_history.specs.Print.{AppendsFront};
 ghost use Rattle.lt_command_line.specs.Options.{AreInRange};
 ghost use Rattle.lt_tool.specs.Output.{Writes};
 ghost use Rattle.lt_command_line.specs.Words.{HasOptionsInRange, texts};
-ghost use Rattle.lt_tool.specs.Work.{IsFailedRun, IsFailedCheck, Told, LeavesOutput, IsDone, IsFailed, ReadsInput, AskForInput, Performs, Fails};
+ghost use Rattle.lt_tool.specs.Work.{IsFailedRun, IsFailedCheck, IsFailedUpgrade, Told, Upgraded, LeavesOutput, IsDone, IsFailed, ReadsInput, AskForInput, Performs, Fails};
 
-use crate::{CheckTextError, Failure, Finish, RunError, check_text, run_script};
+use crate::{CheckTextError, Failure, Finish, RunError, check_text, run_script, upgrade_text};
 use lt_command_line::{Job, Options, WordsError, read_words};
 use lt_history::write_out;
 use std::alloc::Global;
@@ -48,6 +48,21 @@ fn check_from<R: Read, W: Write>(
     }
 }
 
+fn upgrade_from<R: Read, W: Write>(
+    alloc: Global,
+    input: &mut R,
+    output: &mut W,
+) -> Result<Finish, Failure>
+    ensures ok { IfOk result (λ finish. (finish ≡ Finish.Done) × Upgraded (R.remaining input.old) (W.contents output.old) (W.contents output.new)) }
+    ensures err { IfErr result (λ e. IsFailedUpgrade e (R.remaining input.old) (W.contents output.old) (W.contents output.new)) }
+    ensures unwritten { IfErr result (λ e. LeavesOutput e → output.new ≡ output.old) }
+{
+    match upgrade_text(alloc, input, output) {
+        Ok(_) => Ok(Finish::Done),
+        Err(error) => Err(Failure::Check(error)),
+    }
+}
+
 fn run_file<H: Threads + Wait + Sync, F: Files, W: Write>(
     rt: &H,
     alloc: Global,
@@ -83,6 +98,22 @@ fn check_file<F: Files, W: Write>(
     }
 }
 
+fn upgrade_file<F: Files, W: Write>(
+    alloc: Global,
+    files: &F,
+    name: &str,
+    output: &mut W,
+) -> Result<Finish, Failure>
+    ensures ok { IfOk result (λ finish. (finish ≡ Finish.Done) × Upgraded None (W.contents output.old) (W.contents output.new)) }
+    ensures err { IfErr result (λ e. IsFailedUpgrade e None (W.contents output.old) (W.contents output.new)) }
+    ensures unwritten { IfErr result (λ e. LeavesOutput e → output.new ≡ output.old) }
+{
+    match File::open(files, name) {
+        Ok(mut file) => upgrade_from(alloc, &mut file, output),
+        Err(_) => Err(Failure::Check(CheckTextError::Read)),
+    }
+}
+
 /// Does the job: a job with a file reads that, and one without reads the input.
 fn work<H: Threads + Wait + Sync, F: Files, R: Read, W: Write>(
     rt: &H,
@@ -103,6 +134,8 @@ fn work<H: Threads + Wait + Sync, F: Files, R: Read, W: Write>(
         Job::Run(Some(name), options) => run_file(rt, alloc, files, name, output, &options),
         Job::Check(None) => check_from(alloc, input, output),
         Job::Check(Some(name)) => check_file(alloc, files, name, output),
+        Job::Upgrade(None) => upgrade_from(alloc, input, output),
+        Job::Upgrade(Some(name)) => upgrade_file(alloc, files, name, output),
     }
 }
 

@@ -22,7 +22,7 @@ type Case = (
     &'static str,
 );
 
-const ENDS: [Case; 39] = [
+const ENDS: [Case; 53] = [
     (
         "a script that is not there",
         &["run", "no-such-file"],
@@ -80,8 +80,120 @@ const ENDS: [Case; 39] = [
         "lockrun: command line\n",
     ),
     (
-        "a command that is none",
+        "an older text",
+        &["check"],
+        "locks 1\na 1 1 acquire 7 20.0 = taken\na 2 2 visit 1.1 8 20.0 r = wait\na 3 2 look 1 = first 7 held\n",
+        0,
+        "ok 1 keys 3 steps\n",
+        "",
+    ),
+    (
+        "an older text to upgrade",
         &["upgrade"],
+        "locks 1\na 1 1 acquire 7 20.0 = taken\na 2 2 visit 1.1 8 20.0 r = wait\na 3 2 look 1 = first 7 held\n",
+        0,
+        "locks 2\na 1 1 acquire 7 20.0 = taken\na 2 2 visit 1.1 8 20.0 r = wait\na 3 2 look 1 = first 7 held\n",
+        "",
+    ),
+    (
+        "a text of the latest version to upgrade",
+        &["upgrade"],
+        "locks 2\na 1 1 acquire 7 20.0 = taken\na 2 2 visit 1.1 8 20.0 r = wait\na 3 2 look 1 = first 7 held\n",
+        0,
+        "locks 2\na 1 1 acquire 7 20.0 = taken\na 2 2 visit 1.1 8 20.0 r = wait\na 3 2 look 1 = first 7 held\n",
+        "",
+    ),
+    (
+        "an older text without a line more, to upgrade",
+        &["upgrade"],
+        "locks 1\n",
+        0,
+        "locks 2\n",
+        "",
+    ),
+    (
+        "no transaction in an older text",
+        &["check"],
+        "locks 1\na 1 4 acquire 9 10.0 = taken\na 2 1 visit 1.1 - 1.0 w = wait\na 3 2 visit 2.1 2 1.0 w = wait\n",
+        1,
+        "",
+        "lockrun: line 3: Shape\n",
+    ),
+    (
+        "no transaction in an older text to upgrade",
+        &["upgrade"],
+        "locks 1\na 1 4 acquire 9 10.0 = taken\na 2 1 visit 1.1 - 1.0 w = wait\na 3 2 visit 2.1 2 1.0 w = wait\n",
+        1,
+        "",
+        "lockrun: line 3: Shape\n",
+    ),
+    (
+        "a bound in an older text",
+        &["check"],
+        "locks 1\na 1 4 acquire 9 10.0 = taken\na 2 1 visit 1.1 1 1.0 w = wait\na 3 2 visit 2.1 2 1.0 w max=1 = long\n",
+        1,
+        "",
+        "lockrun: line 4: Shape\n",
+    ),
+    (
+        "a bound in an older text to upgrade",
+        &["upgrade"],
+        "locks 1\na 1 4 acquire 9 10.0 = taken\na 2 1 visit 1.1 1 1.0 w = wait\na 3 2 visit 2.1 2 1.0 w max=1 = long\n",
+        1,
+        "",
+        "lockrun: line 4: Shape\n",
+    ),
+    (
+        "a version to come",
+        &["check"],
+        "locks 3\n",
+        1,
+        "",
+        "lockrun: line 1: Header\n",
+    ),
+    (
+        "a version to come, to upgrade",
+        &["upgrade"],
+        "locks 3\n",
+        1,
+        "",
+        "lockrun: line 1: Header\n",
+    ),
+    (
+        "a faulty text to upgrade",
+        &["upgrade"],
+        "locks 1\na 1 1 acquire 7 20.0 = taken\na 2 2 visit 1.1 8 20.0 r = pass\na 3 2 look 1 = first 7 held\n",
+        1,
+        "",
+        "lockrun: line 3: WrongReply\n",
+    ),
+    (
+        "histories to upgrade that are not there",
+        &["upgrade", "no-such-file"],
+        "",
+        5,
+        "",
+        "lockrun: read\n",
+    ),
+    (
+        "an option of an upgrade",
+        &["upgrade", "--shards", "1"],
+        "",
+        2,
+        "",
+        "lockrun: command line\n",
+    ),
+    (
+        "two texts to upgrade",
+        &["upgrade", "a", "b"],
+        "",
+        2,
+        "",
+        "lockrun: command line\n",
+    ),
+    (
+        "a command that is none",
+        &["downgrade"],
         "locks 2\na 1 1 acquire 7 20.0 = taken\na 2 2 visit 1.1 8 20.0 r = wait\na 3 2 look 1 = first 7 held\n",
         2,
         "",
@@ -359,18 +471,22 @@ const ENDS_WITH_OPTIONS: [Case; 3] = [
 ];
 
 /// The help of the program, and of its two commands, with its first eight bytes.
-const HELPS: [(&[&str], &str, &str); 4] = [
+const HELPS: [(&[&str], &str, &str); 5] = [
     (&["--help"], HELP, "Runs scr"),
     (&["help"], HELP, "Runs scr"),
     (&["run", "--help"], RUN_HELP, "Runs a s"),
     (&["check", "-h"], CHECK_HELP, "Checks w"),
+    (&["upgrade", "-h"], UPGRADE_HELP, "Writes a"),
 ];
 
 const HELP: &str =
-    "Runs scripts of calls of a lock table, and checks histories of its keys. Without a word it is `run`.\n\nUsage: lockrun [COMMAND]\n\nCommands:\n  run    Runs a script and writes its answers and the histories of its keys\n  check  Checks whether a text tells legal histories of keys\n  help   Print this message or the help of the given subcommand(s)\n\nOptions:\n  -h, --help  Print help\n";
+    "Runs scripts of calls of a lock table, and checks and upgrades histories of its keys. Without a word it is `run`.\n\nUsage: lockrun [COMMAND]\n\nCommands:\n  run      Runs a script and writes its answers and the histories of its keys\n  check    Checks whether a text tells legal histories of keys\n  upgrade  Writes a text of legal histories as one of the latest version\n  help     Print this message or the help of the given subcommand(s)\n\nOptions:\n  -h, --help  Print help\n";
 
 const RUN_HELP: &str =
     "Runs a script and writes its answers and the histories of its keys\n\nUsage: lockrun run [OPTIONS] [SCRIPT]\n\nArguments:\n  [SCRIPT]  The script; standard input where none is named\n\nOptions:\n      --shards <N>  Shards of the table, 1 to 64\n      --steps <N>   Key steps that each shard can hold, 1 to 4294967296\n      --threads     Run each pass on a thread of its own\n      --turns <N>   Polls of one `await` with threads, 1 to 1000000000\n  -h, --help        Print help\n";
+
+const UPGRADE_HELP: &str =
+    "Writes a text of legal histories as one of the latest version\n\nUsage: lockrun upgrade [FILE]\n\nArguments:\n  [FILE]  The text; standard input where none is named\n\nOptions:\n  -h, --help  Print help\n";
 
 const CHECK_HELP: &str =
     "Checks whether a text tells legal histories of keys\n\nUsage: lockrun check [FILE]\n\nArguments:\n  [FILE]  The text; standard input where none is named\n\nOptions:\n  -h, --help  Print help\n";
@@ -460,13 +576,15 @@ fn words_are_read(rt: HostRuntime) {
         threads: true,
         turns: 1000000000,
     };
-    let names: [(&'static [&'static str], Job<'static>); 10] = [
+    let names: [(&'static [&'static str], Job<'static>); 12] = [
         (none, Job::Run(None, options)),
         (&["run"], Job::Run(None, options)),
         (&["run", "s"], Job::Run(Some("s"), options)),
         (&["check"], Job::Check(None)),
         (&["check", "f"], Job::Check(Some("f"))),
         (&["check", "-"], Job::Check(Some("-"))),
+        (&["upgrade"], Job::Upgrade(None)),
+        (&["upgrade", "f"], Job::Upgrade(Some("f"))),
         (&["run", "--", "--help"], Job::Run(Some("--help"), options)),
         (
             &["run", "s", "--shards", "1", "--steps", "2"],

@@ -1,7 +1,7 @@
 use Rattle.std.proofs.Common.{◌∙◌, ◌^◌, true, ap, arith}
 use Rattle.std.specs.Fmt.{decimal}
 use Rattle.lt_command_line.specs.Options.{default_options}
-use Rattle.lt_command_line.specs.Words.{run as runs, check as checks, texts, faults, named}
+use Rattle.lt_command_line.specs.Words.{run as runs, check as checks, upgrade as upgrades, texts, faults, named}
 use Rattle.std.proofs.Common.{None, Some}
 use Rattle.lt_command_line.proofs.Literals as literals
 use Rattle.lt_command_line.proofs.Ranges.{plain_decimal}
@@ -66,5 +66,12 @@ returns-clause-out_of_range c = λ name word most is_number plain beside e.
     unnamed (texts c.args.words.now) c.parsed.result (ap faults e ∙ literals.number_faults name word most is_number plain) (ap named e ∙ literals.none_named_beyond name word most is_number plain beside) c.parsed.ensures.read
 
 pub returns-clause-option_of_check : goal.returns-clause-option_of_check
-returns-clause-option_of_check c = λ name word most is_number e.
-    refuses (texts c.args.words.now) c.parsed.result _ _ (ap faults e ∙ literals.check_option_faults name word most is_number) literals.no_help_of_one c.parsed.ensures.read
+returns-clause-option_of_check c = λ command name word most reads is_number e.
+    refuses (texts c.args.words.now) c.parsed.result _ _ (ap faults e ∙ literals.check_option_faults command name word most reads is_number) literals.no_help_of_one c.parsed.ensures.read
+
+pub returns-clause-upgrade : goal.returns-clause-upgrade
+returns-clause-upgrade c = λ e. gives (texts c.args.words.now) c.parsed.result (upgrades None) (ap faults e ∙ literals.upgrade_faults) (ap named e ∙ literals.upgrade_named) c.parsed.ensures.read
+
+pub returns-clause-upgraded : goal.returns-clause-upgraded
+returns-clause-upgraded c = λ file plain e.
+    gives (texts c.args.words.now) c.parsed.result (upgrades (Some file)) (ap faults e ∙ literals.upgraded_faults file plain) (ap named e ∙ literals.upgraded_named file plain) c.parsed.ensures.read

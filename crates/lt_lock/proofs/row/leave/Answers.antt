@@ -17,7 +17,7 @@ returns-in_default-clause-ok c =
     }
 
 pub free-requires-clause-lawful : goal.free-requires-clause-lawful
-free-requires-clause-lawful c = lawful_unreserved (record_of c.args.links.now c.args.row.now) c.requires.row.lawful c.args.number (found_reserved c.args.links.now c.args.row.now c.args.number c.requires.row.linked c.requires.row.lawful.numbers_differ _ _ c.in-Some.ensures.found (search rules))
+free-requires-clause-lawful c = lawful_unreserved (record_of c.args.links.now c.args.row.now) c.requires.row.lawful c.args.number (found_reserved c.args.links.now c.args.row.now c.args.number c.requires.row.linked c.requires.row.lawful.first.numbers_differ _ _ c.in-Some.ensures.found (search rules))
 
 pub take_out-requires-clause-there : goal.take_out-requires-clause-there
 take_out-requires-clause-there c = let f = c.in-Some.ensures.found in cut_there c.args.links.now c.requires.row.linked.sound _ _ f.before f.after f.cut
@@ -25,27 +25,27 @@ take_out-requires-clause-there c = let f = c.in-Some.ensures.found in cut_there 
 pub settle-requires-clause-linked : goal.settle-requires-clause-linked
 settle-requires-clause-linked c =
     let f = c.in-Some.ensures.found in
-    left_linked c.args.links.now c.args.row.now c.args.number c.requires.row.linked c.requires.row.lawful.numbers_differ _ _ f c.take_out.new.links (c.take_out.ensures _ f.before f.after f.cut) (search rules)
+    left_linked c.args.links.now c.args.row.now c.args.number c.requires.row.linked c.requires.row.lawful.first.numbers_differ _ _ f c.take_out.new.links (c.take_out.ensures _ f.before f.after f.cut) (search rules)
 
 pub settle-requires-clause-distinct : goal.settle-requires-clause-distinct
 settle-requires-clause-distinct c =
     let f = c.in-Some.ensures.found in
-    left_distinct c.args.links.now c.args.row.now c.args.number c.requires.row.linked c.requires.row.lawful.numbers_differ _ _ f c.take_out.new.links (c.take_out.ensures _ f.before f.after f.cut) (search rules) c.requires.row.lawful
+    left_distinct c.args.links.now c.args.row.now c.args.number c.requires.row.linked c.requires.row.lawful.first.numbers_differ _ _ f c.take_out.new.links (c.take_out.ensures _ f.before f.after f.cut) (search rules) c.requires.row.lawful
 
 pub returns-clause-ok : goal.returns-clause-ok
 returns-clause-ok c =
     let m = c.args.links.now in
     let f = c.in-Some.ensures.found in
     let waits : c.in-Some.found.kind ≢ Reservation = search rules in
-    let leaves = found_leaves m c.args.row.now c.args.number c.requires.row.linked c.requires.row.lawful.numbers_differ _ _ f waits in
+    let leaves = found_leaves m c.args.row.now c.args.number c.requires.row.linked c.requires.row.lawful.first.numbers_differ _ _ f waits in
     let taken = c.take_out.ensures _ f.before f.after f.cut in
     record {
       same_id = c.settle.ensures.id;
       is_outcome = record {
-        moved = c.settle.ensures.record ∙ ap settle (left_row m c.args.row.now c.args.number c.requires.row.linked c.requires.row.lawful.numbers_differ _ _ f c.take_out.new.links taken waits) ∙ sym (ap (λ o. o.after) leaves);
+        moved = c.settle.ensures.record ∙ ap settle (left_row m c.args.row.now c.args.number c.requires.row.linked c.requires.row.lawful.first.numbers_differ _ _ f c.take_out.new.links taken waits) ∙ sym (ap (λ o. o.after) leaves);
         replied = sym (ap (λ o. o.reply) leaves);
         let_through = c.requires.lets ∙ sym (ap (λ o. o.lets) leaves);
       };
-      linked = left_linked m c.args.row.now c.args.number c.requires.row.linked c.requires.row.lawful.numbers_differ _ _ f c.take_out.new.links taken waits;
+      linked = left_linked m c.args.row.now c.args.number c.requires.row.linked c.requires.row.lawful.first.numbers_differ _ _ f c.take_out.new.links taken waits;
       others = others_written m c.take_out.new.links c.args.row.now.id _ _ taken;
     }

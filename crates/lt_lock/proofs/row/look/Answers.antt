@@ -13,11 +13,11 @@ pub stand-requires : goal.stand-requires
 stand-requires c = let f = c.in-Some.ensures.found in cut_there c.args.links.now c.requires.linked.sound _ _ f.before f.after f.cut
 
 pub returns-in-Readers : goal.returns-in-Readers
-returns-in-Readers c = c.look_reader.ensures ∙ sym (found_reads c.args.links.now c.args.row.now c.args.number c.requires.linked c.requires.lawful.numbers_differ _ _ c.in-Some.ensures.found c.in-Readers.is)
+returns-in-Readers c = c.look_reader.ensures ∙ sym (found_reads c.args.links.now c.args.row.now c.args.number c.requires.linked c.requires.lawful.first.numbers_differ _ _ c.in-Some.ensures.found c.in-Readers.is)
 
 pub returns-in-Writers : goal.returns-in-Writers
 returns-in-Writers c =
     let m = c.args.links.now in
     c.look_waiting.ensures
     ∙ ap (λ s. look_waiter (record_of m c.args.row.now) c.args.number (Some (writer_of s))) (sym (stand_is m c.in-Some.found.node c.stand.result c.stand.ensures.stand))
-    ∙ sym (found_writes m c.args.row.now c.args.number c.requires.linked c.requires.lawful.numbers_differ _ _ c.in-Some.ensures.found c.in-Writers.is)
+    ∙ sym (found_writes m c.args.row.now c.args.number c.requires.linked c.requires.lawful.first.numbers_differ _ _ c.in-Some.ensures.found c.in-Writers.is)

@@ -18,7 +18,7 @@ settle-requires-clause-linked c = left_linked _ _ c.args.row.now Readers (λ e. 
 pub settle-requires-clause-distinct : goal.settle-requires-clause-distinct
 settle-requires-clause-distinct c =
     let left = ap (λ (r : Record). numbers r) (below_left c.args.links.now c.drop_where.new.links c.args.row.now c.args.ts _ c.queue-readers.ensures c.drop_where.ensures) in
-    subst (IsDistinct nat_eq) (sym left) c.requires.lawful.numbers_differ
+    subst (IsDistinct nat_eq) (sym left) c.requires.lawful.first.numbers_differ
 
 pub returns-clause-ok : goal.returns-clause-ok
 returns-clause-ok c =

@@ -18,7 +18,7 @@ set_back-requires c = left_linked _ _ c.args.row.now Writers (λ e. cc) (λ s. n
 pub settle-requires-clause-distinct : goal.settle-requires-clause-distinct
 settle-requires-clause-distinct c =
     let taken = ap (λ (r : Record). numbers r) (taken_record c.args.links.now c.drop_where.new.links c.set_back.new.links c.args.row.now c.args.holder.now.txn _ c.queue-writers.ensures c.drop_where.ensures c.set_back.ensures) in
-    subst (IsDistinct nat_eq) (sym taken) c.requires.lawful.numbers_differ
+    subst (IsDistinct nat_eq) (sym taken) c.requires.lawful.first.numbers_differ
 
 pub returns-clause-ok : goal.returns-clause-ok
 returns-clause-ok c =

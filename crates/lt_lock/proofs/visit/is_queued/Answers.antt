@@ -7,12 +7,12 @@ returns-in_default c = sym (missing_writers c.args.links.now c.args.row.now c.ar
 
 pub returns-in-Writers : goal.returns-in-Writers
 returns-in-Writers c =
-    sym (found_queued c.args.links.now c.args.row.now c.args.number c.requires.row.linked c.requires.row.lawful.numbers_differ _ _ (rw c.in-Some.is at c.requires.found) c.in-Writers.is)
+    sym (found_queued c.args.links.now c.args.row.now c.args.number c.requires.row.linked c.requires.row.lawful.first.numbers_differ _ _ (rw c.in-Some.is at c.requires.found) c.in-Writers.is)
 
 pub returns-in-Readers : goal.returns-in-Readers
 returns-in-Readers c =
-    sym (unqueued c.args.links.now c.args.row.now c.args.number c.requires.row.linked c.requires.row.lawful.numbers_differ _ _ (rw c.in-Some.is at c.requires.found) (λ e. cc))
+    sym (unqueued c.args.links.now c.args.row.now c.args.number c.requires.row.linked c.requires.row.lawful.first.numbers_differ _ _ (rw c.in-Some.is at c.requires.found) (λ e. cc))
 
 pub returns-in-Reservation : goal.returns-in-Reservation
 returns-in-Reservation c =
-    sym (unqueued c.args.links.now c.args.row.now c.args.number c.requires.row.linked c.requires.row.lawful.numbers_differ _ _ (rw c.in-Some.is at c.requires.found) (λ e. cc))
+    sym (unqueued c.args.links.now c.args.row.now c.args.number c.requires.row.linked c.requires.row.lawful.first.numbers_differ _ _ (rw c.in-Some.is at c.requires.found) (λ e. cc))

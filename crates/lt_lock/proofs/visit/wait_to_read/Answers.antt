@@ -21,8 +21,8 @@ returns-then-eq-clause-ok c =
     let f = rw c.in-Some.is at c.requires.found in
     first_went m c.put_first-then-eq.new.links c.args.row.now c.args.stand.now c.requires.row.linked c.requires.named
     (subst (λ q. Writes m c.put_first-then-eq.new.links q (c.args.stand.now ∷ line m q)) c.queue-readers.ensures c.in_ok-put_first-2.ensures.ok)
-    (other_readers m c.args.row.now c.args.stand.now.number c.requires.row.linked c.requires.row.lawful.numbers_differ _ _ f (search rules))
-    (unqueued m c.args.row.now c.args.stand.now.number c.requires.row.linked c.requires.row.lawful.numbers_differ _ _ f (search rules))
+    (other_readers m c.args.row.now c.args.stand.now.number c.requires.row.linked c.requires.row.lawful.first.numbers_differ _ _ f (search rules))
+    (unqueued m c.args.row.now c.args.stand.now.number c.requires.row.linked c.requires.row.lawful.first.numbers_differ _ _ f (search rules))
 
 pub bring_first-requires-clause-there : goal.bring_first-requires-clause-there
 bring_first-requires-clause-there c =
@@ -34,7 +34,7 @@ pub returns-then-eq-2-clause-ok : goal.returns-then-eq-2-clause-ok
 returns-then-eq-2-clause-ok c =
     let m = c.args.links.now in
     let f = rw c.in-Some.is at c.requires.found in
-    reread_went m c.args.row.now c.args.stand.now.number c.requires.row.linked c.requires.row.lawful.numbers_differ _ _ f c.bring_first.new.links c.args.stand.now refl c.requires.active c.requires.named c.renew.new.links (search rules)
+    reread_went m c.args.row.now c.args.stand.now.number c.requires.row.linked c.requires.row.lawful.first.numbers_differ _ _ f c.bring_first.new.links c.args.stand.now refl c.requires.active c.requires.named c.renew.new.links (search rules)
     (c.renew.ensures.writes _ f.before f.after f.cut) _ c.queue-readers.ensures c.renew.ensures.queues (c.bring_first.ensures _ f.before f.after (c.renew.ensures.queues _ ∙ f.cut))
 
 pub returns-clause-ok : goal.returns-clause-ok
@@ -43,4 +43,4 @@ returns-clause-ok c =
     let f = rw c.in-Some.is at c.requires.found in
     let unreserved : c.in-Some.found.kind ≢ Reservation = search rules in
     let reads_not : c.in-Some.found.kind ≢ Readers = search rules in
-    again_reads m c.args.row.now c.args.stand.now.number c.requires.row.linked c.requires.row.lawful.numbers_differ _ _ f c.renew.new.links c.args.stand.now refl c.requires.active c.requires.named (writers_else _ unreserved reads_not) c.requires.row.lawful.writers_rise (c.renew.ensures.writes _ f.before f.after f.cut)
+    again_reads m c.args.row.now c.args.stand.now.number c.requires.row.linked c.requires.row.lawful.first.numbers_differ _ _ f c.renew.new.links c.args.stand.now refl c.requires.active c.requires.named (writers_else _ unreserved reads_not) c.requires.row.lawful.first.writers_rise (c.renew.ensures.writes _ f.before f.after f.cut)
