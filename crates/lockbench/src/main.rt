@@ -1,17 +1,20 @@
-//! Times calls of the lock table's layers, and plays at them by chance. Without a word it does nothing and prints nothing.
+//! Times calls of the lock table and its layers, and plays at them by chance. Without a word it says what it can do.
 //!
+//! - `load` times rounds of a store's transactions on a table, on one thread or many;
 //! - `links` prints how many nanoseconds a call of the linked queues takes, for queues of several lengths;
 //! - `tables` prints how many nanoseconds the calls of both lock tables take, for several numbers of waiters;
-//! - `soak --seconds S` plays random requests on threads for so long, and checks the histories;
+//! - `soak --seconds N` plays random requests on threads for so long, and checks the histories;
 //! - `texts --count N` runs and checks so many scripts and histories that were changed by chance.
 #![tactic(auto)]
 
 mod links;
+mod load;
 mod soak;
 mod tables;
 mod texts;
+mod words;
 
-use anyhow::bail;
+use crate::words::Job;
 use std::env;
 use std::sync::Wait;
 use std::thread::Threads;
@@ -23,13 +26,16 @@ fn run<H: Threads + Wait + Sync>(
     words: &[&str],
 ) -> anyhow::Result<()> {
     let alloc = rt.alloc();
-    match words {
-        [] => Ok(()),
-        ["links"] => links::report(rt, alloc),
-        ["tables"] => tables::report(rt, alloc),
-        ["soak", "--seconds", seconds] => soak::report(threads, rt, alloc, seconds.parse()?),
-        ["texts", "--count", count] => texts::report(threads, rt, alloc, count.parse()?),
-        _ => bail!("these are no words of lockbench"),
+    match words::asked(alloc, words)? {
+        Job::Links => links::report(rt, alloc),
+        Job::Tables => tables::report(rt, alloc),
+        Job::Soak(seconds) => soak::report(threads, rt, alloc, seconds),
+        Job::Texts(count) => texts::report(threads, rt, alloc, count),
+        Job::Load(load) => load::report(threads, rt, alloc, &load),
+        Job::Help(text) => {
+            print!(rt; "{text}")?;
+            Ok(())
+        }
     }
 }
 

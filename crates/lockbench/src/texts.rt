@@ -7,7 +7,7 @@ ghost use Rattle.std.specs.Prelude.{◌<◌};
 ghost use Rattle.lt_command_line.specs.Options.{AreInRange};
 
 use anyhow::bail;
-use lt_history::{CheckError, Entry, Lets, Report, check, compose};
+use lt_history::{CheckError, Entry, Report, check, compose};
 use lt_ids::{Key, Through};
 use lt_rules_tests::random::Random;
 use lt_text::call::call;
@@ -55,17 +55,12 @@ fn entry_of(alloc: Global, line: &[u8]) -> Option<Entry> {
     let call = call(&mut words)?;
     words.next()?;
     let reply = reply(&mut words)?;
-    Some(Entry {
-        key,
-        pass,
-        call,
-        reply,
-        lets: lets_of(alloc, &mut words)?,
-    })
+    let lets = lets_of(alloc, &mut words)?;
+    Some(Entry::new(key, pass, &call, reply, lets))
 }
 
 /// The lets of the words that are left.
-fn lets_of(alloc: Global, words: &mut Words) -> Option<Lets> {
+fn lets_of(alloc: Global, words: &mut Words) -> Option<Vec<Through>> {
     let mut lets = Vec::new(alloc);
     let _let = words.next();
     for _ in 0..u64::MAX {
@@ -75,7 +70,7 @@ fn lets_of(alloc: Global, words: &mut Words) -> Option<Lets> {
         let ticket = ticket(word)?;
         lets.push(Through { pass: 1, ticket }).ok()?;
     }
-    Some(Lets::new(lets))
+    Some(lets)
 }
 
 /// The entries of all lines behind the first.

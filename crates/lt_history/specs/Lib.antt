@@ -1,4 +1,5 @@
 pub mod Fault
+pub mod Entry
 pub mod Version
 pub mod Lines
 pub mod Text

@@ -57,7 +57,7 @@ fn rank_of(bytes: &[u8]) -> u64
 fn with_rank<'a>(entry: &'a Entry) -> Ranked<'a>
     ensures { result.entry.now ≡ entry.now }
 {
-    let rank = rank_of(entry.key.as_bytes());
+    let rank = rank_of(entry.key().as_bytes());
     Ranked { rank, entry }
 }
 
@@ -66,7 +66,7 @@ fn compare(a: &Ranked, b: &Ranked) -> Ordering
     ensures { result ≡ slice_cmp nat_cmp a.now.entry.now.key b.now.entry.now.key }
 {
     match a.rank.cmp(&b.rank) {
-        Ordering::Equal => a.entry.key.cmp(&b.entry.key),
+        Ordering::Equal => a.entry.key().cmp(b.entry.key()),
         unequal => unequal,
     }
 }
@@ -148,13 +148,13 @@ fn put_lets(out: &mut Vec<u8>, lets: &[Through]) -> Result<(), AllocError>
 fn put_line(out: &mut Vec<u8>, index: u64, entry: &Entry) -> Result<(), AllocError>
     ensures { OnOk result (out.new.items ≡ out.old.items ++ line_text (parts_of_entry index entry.now)) }
 {
-    out.extend_from_slice(entry.key.as_bytes())?;
+    out.extend_from_slice(entry.key().as_bytes())?;
     put_number_word(out, index)?;
-    put_number_word(out, entry.pass as u64)?;
-    put_call(out, entry.call)?;
+    put_number_word(out, entry.pass() as u64)?;
+    put_call(out, entry.call())?;
     put_word(out, b"=")?;
-    put_reply(out, entry.reply)?;
-    put_lets(out, entry.lets.as_slice())?;
+    put_reply(out, entry.reply())?;
+    put_lets(out, entry.lets())?;
     out.push(b'\n')?;
     Ok(())
 }
@@ -175,8 +175,8 @@ fn put_lines(out: &mut Vec<u8>, entries: &[Ranked]) -> Result<(), AllocError>
     let mut index = 0;
     for ranked in entries {
         let entry = ranked.entry;
-        index = next_index(key, index, entry.key.as_bytes());
-        key = entry.key.as_bytes();
+        index = next_index(key, index, entry.key().as_bytes());
+        key = entry.key().as_bytes();
         put_line(out, index, entry)?;
     }
     Ok(())

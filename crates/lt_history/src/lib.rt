@@ -31,6 +31,6 @@ mod printer;
 
 pub use checker::{CheckError, Report, check, upgrade};
 pub use composer::{compose, put_histories};
-pub use entry::{Entry, Lets};
+pub use entry::Entry;
 pub use error::Fault;
 pub use printer::{PrintError, print, write_out};

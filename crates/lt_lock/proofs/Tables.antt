@@ -24,8 +24,9 @@ use Rattle.lt_plain.specs.declared.call.Reply.{Reply}
 use Rattle.lt_plain.specs.declared.call.Reply.TheVariants.{Taken}
 use Rattle.lt_plain.specs.Record.{Record, empty, is_empty}
 use Rattle.lt_plain.specs.Rules.{Outcome, unchanged, take_lock}
-use Rattle.lt_plain.specs.Table.{record_at, with_record, IsKept, IsStep}
-use Rattle.lt_plain.proofs.Maps.{order, same_records, same_or_apart, is_apart, others_dropped}
+use Rattle.lt_plain.specs.Table.{record_at, with_record, AreSound, IsKept, IsStep}
+use Rattle.lt_plain.specs.Lawful.{IsLawful}
+use Rattle.lt_plain.proofs.Maps.{order, same_records, same_or_apart, is_apart, others_dropped, sound_filled}
 use Rattle.lt_lock.specs.declared.row.Row.{Row}
 use Rattle.lt_lock.specs.Linked.{Rows, row_at, request_of, writer_of, no_stand, stand_at, stands_at, line, queue_at, record_of, records_of, IsLinked, IsUsed, AreLinked}
 use Rattle.lt_lock.specs.Went.{KeepsOthers, IsRow, Went, IsTable}
@@ -61,6 +62,13 @@ row_is m rows k r t e = record {
       let here : get (records_of m rows) k ≡ Some (record_of m r) = get_of m rows k ∙ ap (option_map (record_of m)) (sym e) in
       (rw here at sound).lawful;
 }
+
+-- nor is it empty
+pub filled_at : (m : Maps) (rows : Rows) (k : List ℕ) (r : Row) → IsTable m rows → Some r ≡ row_at rows k → is_empty (record_of m r) ≡ false
+filled_at m rows k r t e =
+    let sound = t.records_sound k in
+    let here : get (records_of m rows) k ≡ Some (record_of m r) = get_of m rows k ∙ ap (option_map (record_of m)) (sym e) in
+    (rw here at sound).filled
 
 -- where a row's queues are as before, so is what they say
 record Stays (old new : Maps) (id : ℕ) : Type 0 where
@@ -195,7 +203,7 @@ module _ (old new : Maps) (rows rows' : Rows) (k : List ℕ) (r after : Row) (li
   same_linked m same = rows_stay old new rows rows' (same_rows same) (λ q o e. all_stay m o.id) (λ id there. ap (λ x. has_record x id) (sym m) ∙ there) (subst IsSound (sym m) linked.sound) linked
 
 -- what follows either way
-either_way : {T E : Type 0} (r : Result T E) (P : T → Type 0) (Q Y : Type 0) → ((t : T) → P t → Y) → (Q → Y) → IfOk r P → OnErr r Q → Y
+pub either_way : {T E : Type 0} (r : Result T E) (P : T → Type 0) (Q Y : Type 0) → ((t : T) → P t → Y) → (Q → Y) → IfOk r P → OnErr r Q → Y
 either_way (Ok t) P Q Y f g ok err = f t ok
 either_way (Err e) P Q Y f g ok err = g err
 
@@ -231,6 +239,16 @@ module _ {E : Type 0} (old new : Maps) (rows rows' : Rows) (k : List ℕ) (r aft
 
     pub err_records : X → records_of new rows' ≡ records_of old rows
     err_records x = same_written old new rows rows' k r after table.linked some updates (same x).0 (same x).1
+
+    -- where the act leaves the record lawful and not empty, the table is whole
+    pub either_table : ((q : Record) → IsLawful q → IsLawful (act q).after) → is_empty (act (record_of old r)).after ≡ false → IfOk result goes → OnErr result X → IsTable new rows'
+    either_table keeps filled ok err = record {
+      linked = either_linked ok err;
+      records_sound = either_way result goes X (AreSound (records_of new rows'))
+          (λ reply went. sound_filled (records_of old rows) (records_of new rows') k act reply lets keeps (went_step old new rows rows' k r after table.linked some updates act reply lets went) (rw (found old rows k r some) filled) table.records_sound)
+          (λ x. rw (err_records x) table.records_sound)
+          ok err;
+    }
 
 map_same : {A B : Type 0} (f g : A → B) → ((a : A) → f a ≡ g a) → (xs : List A) → map f xs ≡ map g xs
 map_same f g same [] = refl
@@ -304,8 +322,7 @@ no_row_at m rows k table none = elim (row_at rows k) as (λ o. row_at rows k ≡
   | None ↦ λ e. refl
   | Some r ↦ λ e.
       let here : get (records_of m rows) k ≡ Some (record_of m r) = get_of m rows k ∙ ap (option_map (record_of m)) e in
-      let sound = table.records_sound k in
-      let filled : is_empty (record_of m r) ≡ false = (rw here at sound).filled in
+      let filled : is_empty (record_of m r) ≡ false = filled_at m rows k r table (sym e) in
       let gone : record_of m r ≡ empty = ap (λ o. unwrap_or o empty) (sym here) ∙ none in
       absurd (true≢false (ap is_empty (sym gone) ∙ filled))
 ] refl

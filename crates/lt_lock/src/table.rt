@@ -2,6 +2,7 @@
 ghost use Rattle.std.specs.Prelude.{◌≡◌, [], true, IfOk, OnErr, IsOk};
 ghost use Rattle.std.specs.FinMap as map;
 ghost use Rattle.lt_ids.specs.Ticket.{IsWaitNumber};
+ghost use Rattle.lt_plain.specs.declared.call.Reply.TheVariants.{Absent};
 ghost use Rattle.lt_plain.specs.Record.{empty};
 ghost use Rattle.lt_plain.specs.Rules.{TakesNoMemory, acquire, update, finish, leave, take_lock};
 ghost use Rattle.lt_plain.specs.Visit.{visit};
@@ -74,7 +75,7 @@ fn stand_of(request: &Request, wait: u32) -> Stand
     }
 }
 
-/// Keeps no row that is empty.
+/// Keeps no row that is empty. Only a lock that comes free, and a request that stops waiting, leave one so.
 fn drop_if_empty(links: &mut Links, rows: &mut Rows, key: &Key)
     requires { AreLinked links.old rows.old }
     ensures linked { AreLinked links.new rows.new }
@@ -102,7 +103,7 @@ fn visit_at(
     requires active { stand.now.active ≡ true }
     requires named { IsNamed stand.now }
     ensures ok { IfOk result (λ reply. IsStep (records_of links.old rows.old) key.now (λ r. visit r (request_of stand.now) longest access) reply [] (records_of links.new rows.new)) }
-    ensures linked { AreLinked links.new rows.new }
+    ensures table { IsTable links.new rows.new }
     ensures err { OnErr result (records_of links.new rows.new ≡ records_of links.old rows.old) }
     ensures no_memory { TakesNoMemory (visit (record_at (records_of links.old rows.old) key.now) (request_of stand.now) longest access).reply → IsOk result }
 {
@@ -123,7 +124,7 @@ fn update_at(
     requires table { IsTable links.old rows.old }
     requires lets { lets.old.items ≡ [] }
     ensures ok { IfOk result (λ reply. IsStep (records_of links.old rows.old) key.now (λ r. update r txn ts) reply lets.new.items (records_of links.new rows.new)) }
-    ensures linked { AreLinked links.new rows.new }
+    ensures table { IsTable links.new rows.new }
     ensures err { OnErr result ((records_of links.new rows.new ≡ records_of links.old rows.old) × (lets.new.items ≡ [])) }
     ensures no_memory { TakesNoMemory (update (record_at (records_of links.old rows.old) key.now) txn ts).reply → IsOk result }
 {
@@ -164,6 +165,7 @@ fn leave_at(
     requires lets { lets.old.items ≡ [] }
     ensures ok { IfOk result (λ reply. IsStep (records_of links.old rows.old) key.now (λ r. leave r number) reply lets.new.items (records_of links.new rows.new)) }
     ensures linked { AreLinked links.new rows.new }
+    ensures absent { IfOk result (λ reply. reply ≡ Absent → AreSound (records_of links.new rows.new)) }
     ensures err { OnErr result ((records_of links.new rows.new ≡ records_of links.old rows.old) × (lets.new.items ≡ [])) }
     ensures no_memory { TakesNoMemory (leave (record_at (records_of links.old rows.old) key.now) number).reply → IsOk result }
 {
@@ -221,7 +223,7 @@ fn acquire_at(
     requires table { IsTable links.old rows.old }
     requires lets { lets.old.items ≡ [] }
     ensures ok { IfOk result (λ reply. IsStep (records_of links.old rows.old) key.now (λ r. acquire r txn ts) reply lets.new.items (records_of links.new rows.new)) }
-    ensures linked { AreLinked links.new rows.new }
+    ensures table { IsTable links.new rows.new }
     ensures err { OnErr result ((records_of links.new rows.new ≡ records_of links.old rows.old) × (lets.new.items ≡ [])) }
     ensures no_memory { TakesNoMemory (acquire (record_at (records_of links.old rows.old) key.now) txn ts).reply → IsOk result }
 {
@@ -243,16 +245,14 @@ impl KeyTable for LinkedTable {
         lets: &mut Vec<Through>,
     ) -> Result<Reply, AllocError> {
         let stand = stand_of(request, wait);
-        let reply = visit_at(
+        visit_at(
             &mut self.links,
             &mut self.rows,
             key,
             &stand,
             request.longest,
             access,
-        )?;
-        drop_if_empty(&mut self.links, &mut self.rows, key);
-        Ok(reply)
+        )
     }
 
     fn acquire(
@@ -262,9 +262,7 @@ impl KeyTable for LinkedTable {
         ts: Timestamp,
         lets: &mut Vec<Through>,
     ) -> Result<Reply, AllocError> {
-        let reply = acquire_at(&mut self.links, &mut self.rows, key, txn, ts, lets)?;
-        drop_if_empty(&mut self.links, &mut self.rows, key);
-        Ok(reply)
+        acquire_at(&mut self.links, &mut self.rows, key, txn, ts, lets)
     }
 
     fn update(
@@ -274,9 +272,7 @@ impl KeyTable for LinkedTable {
         ts: Timestamp,
         lets: &mut Vec<Through>,
     ) -> Result<Reply, AllocError> {
-        let reply = update_at(&mut self.links, &mut self.rows, key, txn, ts, lets)?;
-        drop_if_empty(&mut self.links, &mut self.rows, key);
-        Ok(reply)
+        update_at(&mut self.links, &mut self.rows, key, txn, ts, lets)
     }
 
     fn finish(
@@ -297,7 +293,9 @@ impl KeyTable for LinkedTable {
         lets: &mut Vec<Through>,
     ) -> Result<Reply, AllocError> {
         let reply = leave_at(&mut self.links, &mut self.rows, key, number, lets)?;
-        drop_if_empty(&mut self.links, &mut self.rows, key);
+        if reply != Reply::Absent {
+            drop_if_empty(&mut self.links, &mut self.rows, key);
+        }
         Ok(reply)
     }
 

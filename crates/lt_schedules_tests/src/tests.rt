@@ -57,7 +57,7 @@ fn asked_of(call: &Call) -> Asked {
 
 fn lets_of(alloc: Global, entry: &Entry) -> Result<Vec<Let>, AllocError> {
     let mut lets = Vec::new(alloc);
-    for through in entry.lets.as_slice() {
+    for through in entry.lets() {
         lets.push((through.pass, through.ticket.number(), through.ticket.wait()))?;
     }
     Ok(lets)
@@ -103,14 +103,18 @@ fn compare_entry<R: Abort>(
     entry: &Entry,
     step: &Step,
 ) -> Result<(), Fail> {
-    let bytes = entry.key.as_bytes();
+    let bytes = entry.key().as_bytes();
     assert_eq!(rt; bytes.len(), key_length(step.key), "the key, seed {seed}");
     for byte in bytes {
         assert_eq!(rt; *byte, step.key, "the key, seed {seed}");
     }
-    assert_eq!(rt; entry.pass, step.pass, "the pass, seed {seed}");
-    assert_eq!(rt; asked_of(&entry.call), step.asked, "the call, seed {seed}");
-    assert_eq!(rt; entry.reply, step.reply, "the reply, seed {seed}");
+    assert_eq!(rt; entry.pass(), step.pass, "the pass, seed {seed}");
+    assert_eq!(rt;
+        asked_of(&entry.call()),
+        step.asked,
+        "the call, seed {seed}"
+    );
+    assert_eq!(rt; entry.reply(), step.reply, "the reply, seed {seed}");
     let mut lets = lets_of(alloc, entry);
     if lets.is_err() {
         lets = lets_of(alloc, entry);

@@ -28,10 +28,10 @@ fn is_stored<R: Abort>(
     assert_eq!(rt; line.told, Told::Stepped(reply));
     let at = line.at.ok_or("the place")?;
     let entry = history.get(at as usize).ok_or("the step")?;
-    assert_eq!(rt; entry.key.as_bytes(), [key].as_slice());
-    assert_eq!(rt; entry.pass, pass);
-    assert_eq!(rt; entry.reply, reply);
-    assert!(rt; is_call(&entry.call, reply, u64::from(key)));
+    assert_eq!(rt; entry.key().as_bytes(), [key].as_slice());
+    assert_eq!(rt; entry.pass(), pass);
+    assert_eq!(rt; entry.reply(), reply);
+    assert!(rt; is_call(&entry.call(), reply, u64::from(key)));
     Ok(())
 }
 

@@ -1,7 +1,7 @@
 ghost use Rattle.std.specs.Prelude.{◌≡◌, ◌<◌, ◌≤◌, ◌^◌, IfOk, IfSome, []};
 ghost use Rattle.lt_words.specs.Row.{Opening};
 
-use lt_history::{Entry, Lets};
+use lt_history::Entry;
 use lt_ids::{IdError, Key, TxnId};
 use lt_plain::{Call, Reply};
 use lt_words::{Book, Pass, shard_of};
@@ -24,13 +24,9 @@ fn idle_finish(alloc: Global, byte: u8, pass: u32, txn: TxnId) -> Result<Entry, 
     ensures lets { IfOk result (λ e. e.lets ≡ []) }
 {
     let key = Key::from_bytes(alloc, &[byte])?;
-    Ok(Entry {
-        key,
-        pass,
-        call: Call::Finish { txn },
-        reply: Reply::Other,
-        lets: Lets::new(Vec::new(alloc)),
-    })
+    let call = Call::Finish { txn };
+    let lets = Vec::new(alloc);
+    Ok(Entry::new(key, pass, &call, Reply::Other, lets))
 }
 
 /// Makes the first step of the shard of this key.
@@ -53,7 +49,7 @@ fn first_step<R: Wait>(
     ensures number { pass.new.number ≡ pass.old.number }
 {
     let mut front = book.front();
-    let shard = shard_of(&entry.key, shards);
+    let shard = shard_of(entry.key(), shards);
     book.commit(rt, pass, &mut front, shard, 0, entry);
 }
 

@@ -4,7 +4,7 @@ ghost use Rattle.lt_words.specs.declared.event.Event.{Event};
 ghost use Rattle.lt_words.specs.declared.event.Event.TheVariants.{Step};
 ghost use Rattle.lt_words_tests.specs.Shown.{taking, waiting, freeing};
 
-use lt_history::{Entry, Lets};
+use lt_history::Entry;
 use lt_ids::{Access, Key, Through, Ticket, Timestamp, TxnId};
 use lt_plain::{Call, Reply};
 use lt_words::{Book, Front, Pass};
@@ -25,13 +25,8 @@ fn taking(alloc: Global, pass: u32) -> Option<Entry>
 {
     let key = Key::from_bytes(alloc, b"a").ok()?;
     let txn = TxnId::new(9)?;
-    Some(Entry {
-        key,
-        pass,
-        call: Call::Acquire { txn, ts: time() },
-        reply: Reply::Taken,
-        lets: Lets::new(Vec::new(alloc)),
-    })
+    let call = Call::Acquire { txn, ts: time() };
+    Some(Entry::new(key, pass, &call, Reply::Taken, Vec::new(alloc)))
 }
 
 fn waiting(alloc: Global, pass: u32, number: u64) -> Option<Entry>
@@ -40,19 +35,15 @@ fn waiting(alloc: Global, pass: u32, number: u64) -> Option<Entry>
     let key = Key::from_bytes(alloc, b"a").ok()?;
     let txn = TxnId::new(1)?;
     let ticket = Ticket::new(number, 1)?;
-    Some(Entry {
-        key,
-        pass,
-        call: Call::Visit {
-            ticket,
-            txn: Some(txn),
-            ts: time(),
-            access: Access::Read,
-            longest: 0,
-        },
-        reply: Reply::MustWait,
-        lets: Lets::new(Vec::new(alloc)),
-    })
+    let call = Call::Visit {
+        ticket,
+        txn: Some(txn),
+        ts: time(),
+        access: Access::Read,
+        longest: 0,
+    };
+    let lets = Vec::new(alloc);
+    Some(Entry::new(key, pass, &call, Reply::MustWait, lets))
 }
 
 fn freeing(alloc: Global, pass: u32, waits: u32) -> Option<Entry>
@@ -73,13 +64,8 @@ fn freeing(alloc: Global, pass: u32, waits: u32) -> Option<Entry>
         ticket: first,
     })
     .ok()?;
-    Some(Entry {
-        key,
-        pass,
-        call: Call::Finish { txn },
-        reply: Reply::Freed,
-        lets: Lets::new(lets),
-    })
+    let call = Call::Finish { txn };
+    Some(Entry::new(key, pass, &call, Reply::Freed, lets))
 }
 
 /// A step of the key by a pass, which the front follows.

@@ -1,10 +1,14 @@
-use Rattle.std.proofs.Common.{refl, subst, []}
+use Rattle.std.proofs.Common.{◌≡◌, refl, subst, []}
 use Rattle.std.proofs.lemmas.Result.{IfOk-weaker, on_err_weaker}
-use Rattle.lt_plain.specs.Rules.{TakesNoMemory, acquire, take_lock}
-use Rattle.lt_plain.specs.Table.{IsStep}
-use Rattle.lt_plain.proofs.Maps.{act_alike}
-use Rattle.lt_lock.specs.Linked.{records_of}
-use Rattle.lt_lock.proofs.Tables.{found, missing, row_is, ok_step, either_linked, err_records}
+use Rattle.lt_plain.specs.Record.{Record}
+use Rattle.lt_plain.specs.Rules.{Outcome, TakesNoMemory, acquire, take_lock}
+use Rattle.lt_plain.specs.Table.{AreSound, IsStep, record_at}
+use Rattle.lt_plain.specs.declared.call.Call.TheVariants.{Acquire}
+use Rattle.lt_plain.proofs.Lawfulness.{step_keeps_lawful}
+use Rattle.lt_plain.proofs.Filled.{acquire_filled}
+use Rattle.lt_plain.proofs.Maps.{act_alike, sound_filled}
+use Rattle.lt_lock.specs.Linked.{record_of, records_of}
+use Rattle.lt_lock.proofs.Tables.{found, missing, row_is, ok_step, either_way, either_table, err_records}
 use Rattle.lt_lock.proofs.table.acquire_at.Goals as goal
 
 -- no row is there
@@ -27,6 +31,21 @@ returns-in_default-clause-no_memory c t =
     let none = rw c.in_default.is at c.get_mut.ensures.value in
     absurd (subst (λ r. TakesNoMemory (acquire r c.args.txn c.args.ts).reply) (missing c.args.links.now c.args.rows.now c.args.key.now none) t)
 
+pub returns-in_default-clause-table : goal.returns-in_default-clause-table
+returns-in_default-clause-table c =
+    let none = rw c.in_default.is at c.get_mut.ensures.value in
+    let old = records_of c.args.links.now c.args.rows.now in
+    let new = records_of c.insert_held.new.links c.insert_held.new.rows in
+    let act : Record → Outcome = λ r. acquire r c.args.txn c.args.ts in
+    let err = rw c.get_mut.follows.holds-at-none at c.insert_held.ensures.err in
+    record {
+      linked = c.insert_held.ensures.linked;
+      records_sound = either_way c.insert_held.result (λ reply. IsStep old c.args.key.now act reply c.args.lets.now.items new) (new ≡ old) (AreSound new)
+          (λ reply is. sound_filled old new c.args.key.now act reply c.args.lets.now.items (λ q. step_keeps_lawful q 0 (Acquire c.args.txn c.args.ts)) is (acquire_filled (record_at old c.args.key.now) c.args.txn c.args.ts) c.requires.table.records_sound)
+          (λ same. rw same c.requires.table.records_sound)
+          (returns-in_default-clause-ok c) err;
+    }
+
 -- the row is there
 pub acquire-requires-clause-row : goal.acquire-requires-clause-row
 acquire-requires-clause-row c =
@@ -39,11 +58,11 @@ returns-clause-ok c =
     let some = rw c.in-Some.is at c.get_mut.ensures.value in
     ok_step c.args.links.now c.acquire.new.links c.args.rows.now (c.get_mut.follows.lender after) c.args.key.now c.in-Some.row.now after c.requires.table some (c.get_mut.follows.holds after) (λ r. acquire r c.args.txn c.args.ts) c.acquire.new.lets.items c.acquire.result c.acquire.ensures.ok
 
-pub returns-clause-linked : goal.returns-clause-linked
-returns-clause-linked c =
+pub returns-clause-table : goal.returns-clause-table
+returns-clause-table c =
     let after = c.acquire.new.row in
     let some = rw c.in-Some.is at c.get_mut.ensures.value in
-    either_linked c.args.links.now c.acquire.new.links c.args.rows.now (c.get_mut.follows.lender after) c.args.key.now c.in-Some.row.now after c.requires.table some (c.get_mut.follows.holds after) (λ r. acquire r c.args.txn c.args.ts) c.acquire.new.lets.items c.acquire.result _ (λ same. (same.0, same.1)) c.acquire.ensures.ok c.acquire.ensures.err
+    either_table c.args.links.now c.acquire.new.links c.args.rows.now (c.get_mut.follows.lender after) c.args.key.now c.in-Some.row.now after c.requires.table some (c.get_mut.follows.holds after) (λ r. acquire r c.args.txn c.args.ts) c.acquire.new.lets.items c.acquire.result _ (λ same. (same.0, same.1)) (λ q. step_keeps_lawful q 0 (Acquire c.args.txn c.args.ts)) (acquire_filled (record_of c.args.links.now c.in-Some.row.now) c.args.txn c.args.ts) c.acquire.ensures.ok c.acquire.ensures.err
 
 pub returns-clause-err : goal.returns-clause-err
 returns-clause-err c =

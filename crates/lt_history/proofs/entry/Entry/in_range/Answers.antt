@@ -10,9 +10,9 @@ tickets lets h = recursion_from_All IsTicket (map (λ t. t.ticket) lets) (All-ma
 
 pub returns : goal.returns
 returns c = record {
-  key = rw c.as_bytes.ensures.bytes at c.as_bytes.ensures.is_key;
+  key = rw c.key.ensures at (rw c.as_bytes.ensures.bytes at c.as_bytes.ensures.is_key);
   pass = (c.requires.low, c.requires.high);
-  call = c.call_in_range.ensures c.requires.number;
-  reply = c.reply_in_range.ensures;
-  lets = tickets c.args.self.now.lets (rw c.as_slice.ensures at c.lets_in_range.ensures);
+  call = (rw c.call.ensures at c.call_in_range.ensures) c.requires.number;
+  reply = rw c.reply.ensures at c.reply_in_range.ensures;
+  lets = tickets c.args.self.now.lets (rw c.lets.ensures at c.lets_in_range.ensures);
 }

@@ -1,0 +1,131 @@
+//! What the words of the program ask for, read by clap.
+use crate::load::Load;
+use anyhow::bail;
+use clap::error::ErrorKind;
+use clap::{Arg, ArgAction, ArgMatches, Command, Error};
+use std::alloc::{AllocError, Global};
+
+/// What is asked for.
+#[derive(Drop)]
+pub enum Job {
+    Links,
+    Tables,
+    /// For so many seconds.
+    Soak(u64),
+    /// So many texts.
+    Texts(u64),
+    Load(Load),
+    /// To print this text.
+    Help(String),
+}
+
+/// An option that bears a number.
+fn number<'a>(alloc: Global, name: &'a str, help: &'a str) -> Arg<'a> {
+    Arg::new(alloc, name).long(name).value_name("N").help(help)
+}
+
+fn soak<'a>(alloc: Global) -> Result<Command<'a>, AllocError> {
+    Command::new(alloc, "soak")
+        .about("Plays random requests on threads, and checks the histories")
+        .arg(number(alloc, "seconds", "For so long; 60 if left out"))
+}
+
+fn texts<'a>(alloc: Global) -> Result<Command<'a>, AllocError> {
+    Command::new(alloc, "texts")
+        .about("Runs and checks scripts and histories that were changed by chance")
+        .arg(number(alloc, "count", "So many; 100000 if left out"))
+}
+
+fn load<'a>(alloc: Global) -> Result<Command<'a>, AllocError> {
+    Command::new(alloc, "load")
+        .about("Times rounds of enter, scan, acquire, finish and leave on a table")
+        .arg(number(alloc, "passes", "Callers, 1 to 1024; 4 if left out"))?
+        .arg(number(alloc, "keys", "Keys, 1 to 10000000; 1000 if left out"))?
+        .arg(number(
+            alloc,
+            "steps",
+            "Key steps of each pass, about; 1000000 if left out",
+        ))?
+        .arg(number(
+            alloc,
+            "shards",
+            "Shards of the table, 1 to 64; 4 if left out",
+        ))?
+        .arg(
+            Arg::new(alloc, "threads")
+                .long("threads")
+                .action(ArgAction::SetTrue)
+                .help("Run each pass on a thread of its own"),
+        )
+}
+
+fn command<'a>(alloc: Global) -> Result<Command<'a>, AllocError> {
+    let links = Command::new(alloc, "links").about("Times calls of the linked queues");
+    let tables = Command::new(alloc, "tables").about("Times calls of both key tables");
+    Command::new(alloc, "lockbench")
+        .no_binary_name(true)
+        .about("Times the layers of the lock table, and plays at them by chance")
+        .bin_name("lockbench")?
+        .subcommand(load(alloc)?)?
+        .subcommand(links)?
+        .subcommand(tables)?
+        .subcommand(soak(alloc)?)?
+        .subcommand(texts(alloc)?)
+}
+
+/// The number of an option, at most so great; where it is left out, the default.
+fn number_of(matches: &ArgMatches<'_>, name: &str, default: u64, most: u64) -> anyhow::Result<u64> {
+    let Some(word) = matches.get_str(name) else {
+        return Ok(default);
+    };
+    match word.parse::<u64>() {
+        Ok(n) if 0 < n && n <= most => Ok(n),
+        _ => bail!("--{name} is from 1 to {most}"),
+    }
+}
+
+fn load_of(matches: &ArgMatches<'_>) -> anyhow::Result<Load> {
+    Ok(Load {
+        passes: number_of(matches, "passes", 4, 1024)? as usize,
+        keys: number_of(matches, "keys", 1_000, 10_000_000)? as usize,
+        steps: number_of(matches, "steps", 1_000_000, 1 << 32)?,
+        shards: number_of(matches, "shards", 4, 64)? as usize,
+        threads: matches.get_flag("threads"),
+    })
+}
+
+fn job_of(matches: &ArgMatches<'_>) -> anyhow::Result<Job> {
+    let Some((name, inner)) = matches.subcommand() else {
+        bail!("there is no word");
+    };
+    Ok(match name {
+        "links" => Job::Links,
+        "tables" => Job::Tables,
+        "soak" => Job::Soak(number_of(inner, "seconds", 60, 1_000_000)?),
+        "texts" => Job::Texts(number_of(inner, "count", 100_000, 1 << 40)?),
+        _ => Job::Load(load_of(inner)?),
+    })
+}
+
+fn told(alloc: Global, error: &Error) -> anyhow::Result<Job> {
+    let text = format!(in alloc; "{error}")?;
+    match error.kind() {
+        ErrorKind::DisplayHelp => Ok(Job::Help(text)),
+        _ => bail!("{text}"),
+    }
+}
+
+fn read(alloc: Global, words: &[&str]) -> anyhow::Result<Job> {
+    match command(alloc)?.try_get_matches_from(words) {
+        Ok(matches) => job_of(&matches),
+        Err(error) => told(alloc, &error),
+    }
+}
+
+/// What the words ask for; without a word, for help.
+pub fn asked(alloc: Global, words: &[&str]) -> anyhow::Result<Job> {
+    if words.is_empty() {
+        return read(alloc, &["--help"]);
+    }
+    read(alloc, words)
+}
