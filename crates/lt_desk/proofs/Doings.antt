@@ -3,7 +3,7 @@ use Rattle.std.proofs.Common.{◌≡◌, ℕ, List, [], ◌∷◌, Option, Some,
 use Rattle.std.specs.Prelude.{IfOk, OnErr, slice_get}
 use Rattle.std.specs.Option.{option_map}
 use Rattle.std.proofs.lemmas.Result.{IfOk-weaker, on_err_weaker}
-use Rattle.lt_ids.specs.Ticket.{Wait}
+use Rattle.lt_ids.specs.Ids.{Wait}
 use Rattle.lt_ids.specs.declared.request.Access.{Access}
 use Rattle.lt_ids.specs.declared.timestamp.Timestamp.{Timestamp}
 use Rattle.lt_plain.specs.declared.call.Call.{Call}
@@ -14,7 +14,7 @@ use Rattle.lt_shard.specs.declared.answer.StepError.{StepError}
 use Rattle.lt_shard.specs.declared.answer.StepError.TheVariants as steps
 use Rattle.lt_table.specs.declared.progress.Progress.{Progress}
 use Rattle.lt_table.specs.Entered.{at_start}
-use Rattle.lt_table.specs.Runs.{WalkState, Step}
+use Rattle.lt_table.specs.Machine.{WalkState, Step}
 use Rattle.lt_table.specs.Reported.{GuardState, Reported}
 use Rattle.lt_desk.specs.declared.desk.Desk.{Desk}
 use Rattle.lt_desk.specs.declared.desk.Desk.TheVariants.{Free, Open}

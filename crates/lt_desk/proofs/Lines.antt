@@ -4,10 +4,10 @@ use Rattle.std.specs.List.{flat_map}
 use Rattle.std.proofs.lemmas.List.{map-append, take_more}
 use Rattle.std.proofs.lemmas.List.Elements.{filter-append}
 use Rattle.std.proofs.lemmas.Grind.{flat_map-append}
-use Rattle.lt_ids.specs.Ticket.{Wait}
+use Rattle.lt_ids.specs.Ids.{Wait}
 use Rattle.lt_words.specs.Row.{Seer}
 use Rattle.lt_script.specs.declared.command.Command.{Command}
-use Rattle.lt_table.specs.Runs.{WalkState, Step}
+use Rattle.lt_table.specs.Machine.{WalkState, Step}
 use Rattle.lt_desk.specs.declared.desk.Desk.{Desk}
 use Rattle.lt_desk.specs.declared.desk.Desk.TheVariants.{Free}
 use Rattle.lt_desk.specs.declared.answer.LineAnswer.{LineAnswer}

@@ -1,12 +1,12 @@
 -- Answers that are replies, and lets.
 use Rattle.std.proofs.Common.{◌≡◌, ◌≢◌, ℕ, List, [], ◌∷◌, Option, Some, None, Result, Ok, Err, refl}
 use Rattle.std.specs.Prelude.{slice_get}
-use Rattle.lt_ids.specs.Ticket.{Wait}
+use Rattle.lt_ids.specs.Ids.{Wait}
 use Rattle.lt_ids.specs.declared.request.Access.{Access}
 use Rattle.lt_plain.specs.declared.call.Call.{Call}
 use Rattle.lt_plain.specs.declared.call.Call.TheVariants as calls
 use Rattle.lt_plain.specs.declared.call.Reply.{Reply}
-use Rattle.lt_table.specs.Runs.{Step}
+use Rattle.lt_table.specs.Machine.{Step, heard, polled, polled_in, WalkState}
 use Rattle.lt_table.specs.declared.progress.Mode.{Mode}
 use Rattle.lt_table.specs.declared.progress.Mode.TheVariants as modes
 use Rattle.lt_table.specs.declared.scan.Scan.{Scan}
@@ -15,9 +15,7 @@ use Rattle.lt_table.specs.declared.scan.ScanError.{ScanError}
 use Rattle.lt_table.specs.declared.scan.ScanError.TheVariants as refused
 use Rattle.lt_table.specs.declared.scan.Poll.{Poll}
 use Rattle.lt_table.specs.declared.scan.Poll.TheVariants as polls
-use Rattle.lt_table.specs.Machine.{heard, polled, polled_in}
 use Rattle.lt_table.specs.Reported.{wait_of}
-use Rattle.lt_table.specs.Runs.{WalkState}
 use Rattle.lt_script.specs.declared.command.Action.{Action}
 use Rattle.lt_script.specs.declared.command.Action.TheVariants as acts
 use Rattle.lt_desk.specs.declared.answer.LineAnswer.{LineAnswer}

@@ -2,7 +2,7 @@
 use Rattle.std.proofs.Common.{◌≡◌, ◌≢◌, ℕ, Bool, true, false, cond, nat_eq, nat_lt, List, [], length, Option, Some, None, Result, Ok, Err, refl, sym, ap, subst, ◌∙◌}
 use Rattle.std.specs.Prelude.{slice_get}
 use Rattle.std.specs.List.{AllByRecursion}
-use Rattle.lt_ids.specs.Ticket.{Wait, value_of}
+use Rattle.lt_ids.specs.Ids.{Wait, value_of}
 use Rattle.lt_ids.specs.declared.request.Access.{Access}
 use Rattle.lt_plain.specs.declared.call.Call.{Call}
 use Rattle.lt_words.specs.History.{LetIn}
@@ -17,8 +17,7 @@ use Rattle.lt_table.specs.declared.scan.ScanError.{ScanError}
 use Rattle.lt_table.specs.declared.scan.ScanError.TheVariants as refused
 use Rattle.lt_table.specs.declared.scan.Poll.{Poll}
 use Rattle.lt_table.specs.declared.scan.Poll.TheVariants as polls
-use Rattle.lt_table.specs.Machine.{heard, mode_heard, polled, polled_in, scan_start_in, scan_end, is_awaiting, is_stopped, next_visit}
-use Rattle.lt_table.specs.Runs.{WalkState, Step, Ends, IsScanBegun, of_step}
+use Rattle.lt_table.specs.Machine.{heard, mode_heard, polled, polled_in, scan_start_in, scan_end, is_awaiting, is_stopped, next_visit, WalkState, Step, Ends, IsScanBegun, of_step}
 use Rattle.lt_table.specs.Reported.{GuardState, IsScan, IsPoll, wait_of}
 use Rattle.lt_desk.specs.Told.{Tells}
 use Rattle.lt_desk.specs.declared.answer.LineAnswer.{LineAnswer}

@@ -3,7 +3,7 @@ use Rattle.std.proofs.Common.{◌≡◌, ◌≢◌, ℕ, suc, ◌+◌, ◌<◌, 
 use Rattle.std.specs.Prelude.{slice_get}
 use Rattle.std.specs.List.{flat_map, sum, AllByRecursion}
 use Rattle.std.proofs.lemmas.Nat.{mod_below}
-use Rattle.lt_ids.specs.Ticket.{Wait}
+use Rattle.lt_ids.specs.Ids.{Wait}
 use Rattle.lt_history.specs.declared.entry.Entry.{Entry}
 use Rattle.lt_words.specs.declared.event.Event.{Event}
 use Rattle.lt_words.specs.declared.event.Event.TheVariants.{Opened, Draw, Step}
@@ -13,7 +13,7 @@ use Rattle.lt_words.proofs.Draws.{draws_stay, numbers_are_of_one_pass}
 use Rattle.lt_words.proofs.Prefixes.{prefix_get}
 use Rattle.lt_words.proofs.Parts.{beginnings_are_legal}
 use Rattle.lt_script.specs.declared.command.Command.{Command}
-use Rattle.lt_table.specs.Runs as runs
+use Rattle.lt_table.specs.Machine as runs
 use Rattle.lt_desk.specs.declared.outcome.Work.{Work}
 use Rattle.lt_desk.specs.Told.{StandsIn, IsBefore, Ascend, Rise, IsDrawn}
 use Rattle.lt_desk.specs.Desks.{pass_of}

@@ -3,7 +3,7 @@ use Rattle.std.proofs.Common.{◌≡◌, ℕ, ◌+◌, ◌<◌, ◌≤◌, Optio
 use Rattle.std.specs.List.{AllByRecursion}
 use Rattle.std.proofs.lemmas.Option.{slice_get_within}
 use mathlib.Core.List.{IsPrefix}
-use Rattle.lt_ids.specs.Ticket.{Wait}
+use Rattle.lt_ids.specs.Ids.{Wait}
 use Rattle.lt_ids.specs.declared.timestamp.Timestamp.{Timestamp}
 use Rattle.lt_ids.specs.declared.request.Access.{Access}
 use Rattle.lt_history.specs.declared.entry.Entry.{Entry}
@@ -14,7 +14,7 @@ use Rattle.lt_words.specs.Row.{Opening, Seer, SeesMore, GoesTo}
 use Rattle.lt_words.proofs.Prefixes.{prefix_trans, prefix_get}
 use Rattle.lt_words.proofs.Histories.{part_length, part_prefix, let_later}
 use Rattle.lt_words.proofs.Draws.{draws_stay}
-use Rattle.lt_table.specs.Runs as runs
+use Rattle.lt_table.specs.Machine as runs
 use Rattle.lt_table.specs.Entered.{IsEntered}
 use Rattle.lt_table.specs.Reported.{GuardState, Reported, AreReported}
 use Rattle.lt_desk.specs.Told.{StandsAt, StandsIn, ComesAfter, IsBefore, Ascend, Rise, IsDrawn, Tells, part_of}

@@ -3,7 +3,7 @@ use Rattle.std.specs.Prelude.{ℕ, ◌≡◌, List, [], ◌∷◌, ◌++◌, Opt
 use Rattle.lt_plain.specs.declared.call.Call.{Call}
 use Rattle.lt_plain.specs.declared.call.Call.TheVariants.{Visit}
 use Rattle.lt_plain.specs.declared.call.Reply.TheVariants.{MustWait, TooLong}
-use Rattle.lt_table.specs.Runs.{WalkState, Step}
+use Rattle.lt_table.specs.Machine.{WalkState, Step}
 use Rattle.lt_script.specs.declared.command.Action.TheVariants as acts
 use Rattle.lt_desk.specs.declared.answer.LineAnswer.{LineAnswer}
 use Rattle.lt_desk.specs.declared.answer.LineAnswer.TheVariants as answers

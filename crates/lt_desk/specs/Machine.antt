@@ -1,7 +1,7 @@
 -- The machine of a pass: what each of its lines is answered, which steps it makes, and which request the pass has then.
 use Rattle.std.specs.Prelude.{ℕ, ◌≡◌, ◌≢◌, ◌≤◌, ◌<◌, List, [], ◌∷◌, length, position, Option, Some, None, Result, Ok, Err, slice_get}
 use Rattle.std.specs.Str.{bytes_eq}
-use Rattle.lt_ids.specs.Ticket.{Wait}
+use Rattle.lt_ids.specs.Ids.{Wait}
 use Rattle.lt_ids.specs.declared.timestamp.Timestamp.{Timestamp}
 use Rattle.lt_ids.specs.declared.request.Access.{Access}
 use Rattle.lt_plain.specs.declared.call.Call.{Call}
@@ -16,10 +16,9 @@ use Rattle.lt_table.specs.declared.scan.ScanError.TheVariants as refused
 use Rattle.lt_table.specs.declared.scan.Poll.{Poll}
 use Rattle.lt_table.specs.declared.scan.Poll.TheVariants as polls
 use Rattle.lt_table.specs.Keys.{IsKeyList}
-use Rattle.lt_table.specs.Machine.{heard, polled}
+use Rattle.lt_table.specs.Machine.{heard, polled, WalkState, Step, IsWalkScan, IsLeft, IsRefusedLeave}
 use Rattle.lt_table.specs.Entered.{at_start}
 use Rattle.lt_table.specs.Reported.{wait_of}
-use Rattle.lt_table.specs.Runs.{WalkState, Step, IsWalkScan, IsLeft, IsRefusedLeave}
 use Rattle.lt_script.specs.declared.command.Action.{Action}
 use Rattle.lt_script.specs.declared.command.Action.TheVariants as acts
 use Rattle.lt_script.specs.declared.command.Command.{Command}

@@ -1,10 +1,10 @@
 -- All that the passes of a script were told, in the final histories.
 use Rattle.std.specs.Prelude.{ℕ, ◌≡◌, ◌≢◌, ◌<◌, ◌+◌, List, [], ◌∷◌, ◌++◌, map, Some, slice_get, slice_index_or}
 use Rattle.std.specs.List.{flat_map, AllByRecursion}
-use Rattle.lt_ids.specs.Ticket.{Wait}
+use Rattle.lt_ids.specs.Ids.{Wait}
 use Rattle.lt_history.specs.declared.entry.Entry.{Entry}
 use Rattle.lt_words.specs.History.{shard_of, Among}
-use Rattle.lt_table.specs.Runs.{Step}
+use Rattle.lt_table.specs.Machine.{Step}
 use Rattle.lt_desk.specs.Told.{StandsAt}
 use Rattle.lt_desk.specs.Machine.{Deed, deed_numbers, deed_lets}
 use Rattle.lt_desk.specs.Worked.{deed_steps}

@@ -2,7 +2,7 @@
 use Rattle.std.specs.Prelude.{ℕ, ◌≡◌, ◌⊎◌, ◌==◌, Bool, true, false, List, [], ◌∷◌, ◌++◌, map, filter, None}
 use Rattle.std.specs.List.{flat_map, AllByRecursion}
 use Rattle.lt_words.specs.Row.{Seer}
-use Rattle.lt_table.specs.Runs.{Step}
+use Rattle.lt_table.specs.Machine.{Step}
 use Rattle.lt_script.specs.declared.command.Command.{Command}
 use Rattle.lt_desk.specs.declared.desk.Desk.{Desk}
 use Rattle.lt_desk.specs.declared.desk.Desk.TheVariants.{Free}

@@ -7,7 +7,7 @@ use Rattle.std.specs.List.{AllByRecursion}
 use Rattle.std.specs.Str.{bytes_eq}
 use Rattle.std.proofs.lemmas.List.{map-append, append-nil}
 use Rattle.std.proofs.lemmas.List.Elements.{filter-append}
-use Rattle.lt_plain.specs.Record.{Record, empty}
+use Rattle.lt_plain.specs.Rules.{Record, empty}
 use Rattle.lt_plain.specs.Step.{Event, step, IsLegal, IsLegalFrom, record_after}
 use Rattle.lt_plain.specs.Table.{Records, record_at, IsStep}
 use Rattle.lt_history.specs.declared.entry.Entry.{Entry}

@@ -2,8 +2,8 @@
 use Rattle.std.proofs.Common.{◌≡◌, ℕ, Bool, true, false, cond, List, [], ◌∷◌, length, map, refl, sym, ap, subst, ◌∙◌, inl, inr, suc}
 use Rattle.std.specs.List.{AllByRecursion}
 use Rattle.std.specs.Str.{bytes_eq}
-use Rattle.lt_ids.specs.Ticket.{Wait}
-use Rattle.lt_plain.specs.Record.{Record, empty}
+use Rattle.lt_ids.specs.Ids.{Wait}
+use Rattle.lt_plain.specs.Rules.{Record, empty}
 use Rattle.lt_plain.specs.Step.{IsLegalFrom}
 use Rattle.lt_text.specs.Fields.{IsTicket}
 use Rattle.lt_history.specs.declared.entry.Entry.{Entry}

@@ -1,6 +1,6 @@
 -- One step of a key as contracts see it, and how its call and its reply are kept.
 use Rattle.std.specs.Prelude.{ℕ, Bool, Some, None, List}
-use Rattle.lt_ids.specs.Ticket.{Wait}
+use Rattle.lt_ids.specs.Ids.{Wait}
 use Rattle.lt_ids.specs.declared.ticket.Through.{Through}
 use Rattle.lt_ids.specs.declared.timestamp.Timestamp.{Timestamp}
 use Rattle.lt_ids.specs.declared.request.Access.{Access}
@@ -14,7 +14,7 @@ use Rattle.lt_history.specs.declared.entry.ReplyKind.{ReplyKind}
 use Rattle.lt_history.specs.declared.entry.ReplyKind.TheVariants.{Passed, MustWait, TooLong, Taken, Kept, Raised, Other, Freed, Left, Absent, Nothing, Reserved, Idle, WaitFor, WaitFirst, WaitOwn}
 
 -- Which key, which pass, what it called, what the key answered, and whom the step let through, in order.
-pub record Step : Type 0 where
+pub record EntryState : Type 0 where
   pub key : List ℕ
   pub pass : ℕ
   pub call : Call

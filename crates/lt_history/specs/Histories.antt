@@ -8,7 +8,7 @@ use Rattle.std.specs.Str.{bytes_eq}
 use Rattle.std.specs.Ordering.{nat_cmp, is_lt}
 use Rattle.std.specs.Cmp.Lexicographic.{slice_cmp}
 use Rattle.lt_ids.specs.Key.{IsKey}
-use Rattle.lt_ids.specs.Ticket.{IsNumber}
+use Rattle.lt_ids.specs.Ids.{IsNumber}
 use Rattle.lt_text.specs.Fields.{IsTicket}
 use Rattle.lt_text.specs.Calls.{IsCall}
 use Rattle.lt_text.specs.Replies.{IsReply}

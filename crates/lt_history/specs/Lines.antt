@@ -4,7 +4,7 @@ use Rattle.std.specs.Str.{bytes_eq}
 use Rattle.std.specs.List.{join_with_byte, AllByRecursion}
 use Rattle.lt_ids.specs.Key.{IsKey, key_fault}
 use Rattle.lt_ids.specs.declared.error.IdError.{IdError}
-use Rattle.lt_ids.specs.Ticket.{Wait}
+use Rattle.lt_ids.specs.Ids.{Wait}
 use Rattle.lt_history.specs.declared.error.Fault.TheVariants.{Shape}
 use Rattle.lt_history.specs.declared.error.Refusal.{Refusal}
 use Rattle.lt_history.specs.declared.error.Refusal.TheVariants as refusals

@@ -1,5 +1,5 @@
 ghost use Rattle.std.specs.Prelude.{◌≡◌, ◌<◌, ◌≤◌, ◌^◌, ◌↔◌, IsSome, IfSome};
-ghost use Rattle.lt_ids.specs.Ticket.{IsNumber};
+ghost use Rattle.lt_ids.specs.Ids.{IsNumber};
 
 use crate::{Timestamp, TxnId};
 

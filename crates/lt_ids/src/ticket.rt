@@ -1,6 +1,6 @@
 ghost use Rattle.std.specs.Prelude.{◌≡◌, ◌<◌, ◌↔◌, IsSome, IfSome};
 ghost use Rattle.std.specs.Cmp.{partial_equiv_from_equiv};
-ghost use Rattle.lt_ids.specs.Ticket.{Wait, value_of, same_wait, same_wait_equiv, IsNumber, IsWaitNumber};
+ghost use Rattle.lt_ids.specs.Ids.{Wait, value_of, same_wait, same_wait_equiv, IsNumber, IsWaitNumber};
 
 use std::fmt::{self, Debug, Formatter, Write};
 use std::marker::Model;
@@ -12,7 +12,7 @@ pub struct Ticket {
 }
 
 impl Model for Ticket {
-    ghost use Rattle.lt_ids.specs.Ticket.{Wait, IsNumber, IsWaitNumber, value_of, wait_of};
+    ghost use Rattle.lt_ids.specs.Ids.{Wait, IsNumber, IsWaitNumber, value_of, wait_of};
 
     ghost Value = { Wait };
 

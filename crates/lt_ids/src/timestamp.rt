@@ -2,7 +2,7 @@ ghost use Rattle.std.specs.Cmp.{partial_order_from_own_ties};
 ghost use Rattle.std.specs.Cmp.Rules.{comparing};
 ghost use Rattle.std.proofs.Common.{rules};
 ghost use Rattle.std.specs.Ordering.{as_partial_cmp};
-ghost use Rattle.lt_ids.specs.Timestamp.{timestamp_cmp};
+ghost use Rattle.lt_ids.specs.Ids.{timestamp_cmp};
 
 use std::cmp::Ordering;
 

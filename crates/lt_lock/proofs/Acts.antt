@@ -3,14 +3,13 @@ use Rattle.std.proofs.Common.{◌≡◌, ◌≢◌, ◌≤◌, ℕ, suc, Bool, t
 use Rattle.std.specs.Prelude.{drop, take}
 use Rattle.lt_ids.specs.declared.ticket.Through.{Through}
 use Rattle.lt_ids.specs.declared.timestamp.Timestamp.{Timestamp}
-use Rattle.lt_ids.specs.Timestamp.{is_below}
+use Rattle.lt_ids.specs.Ids.{is_below}
 use Rattle.std.specs.List.{AllByRecursion, find}
 use Rattle.std.specs.Option.{option_map}
 use Rattle.std.proofs.lemmas.List.{map-append}
 use Rattle.std.proofs.lemmas.List.Elements.{filter-append}
 use Rattle.lt_links.specs.declared.ids.Queue.{Queue}
-use Rattle.lt_plain.specs.Record.{Record, through_of, is_txn, has_txn}
-use Rattle.lt_plain.specs.Rules.{active_requests, is_of, leading, set_back}
+use Rattle.lt_plain.specs.Rules.{Record, through_of, is_txn, has_txn, active_requests, is_of, leading, set_back}
 use Rattle.lt_plain.proofs.Orderly.{all_filter}
 use Rattle.lt_links.specs.declared.stand.Stand.{Stand}
 use Rattle.lt_links.specs.declared.ids.QueueKind.{QueueKind}

@@ -13,7 +13,7 @@ use Rattle.lt_links.specs.Ring.{has}
 use Rattle.lt_links.specs.Maps.{Maps, queue, HasNode, IsSound}
 use Rattle.lt_plain.specs.declared.queued.QueuedRequest.{QueuedRequest}
 use Rattle.lt_plain.specs.declared.queued.QueuedWriter.{QueuedWriter}
-use Rattle.lt_plain.specs.Record.{number_of, writer_number}
+use Rattle.lt_plain.specs.Rules.{number_of, writer_number}
 use Rattle.lt_plain.specs.Lawful.{Rises}
 use Rattle.lt_plain.specs.Visit.{enqueue, waiting}
 use Rattle.lt_plain.proofs.Cases.{all_weaker, all_map, all_append, all_front, all_back, all_both}

@@ -5,8 +5,7 @@ use Rattle.std.specs.List.{AllByRecursion, find}
 use Rattle.std.proofs.lemmas.List.{append-nil}
 use Rattle.std.proofs.lemmas.Bool.Decides.{nat_tests}
 use Rattle.lt_ids.specs.declared.ticket.Through.{Through}
-use Rattle.lt_plain.specs.Record.{has_txn, through_of}
-use Rattle.lt_plain.specs.Rules.{active_requests, leading}
+use Rattle.lt_plain.specs.Rules.{has_txn, through_of, active_requests, leading}
 use Rattle.lt_links.specs.declared.stand.Stand.{Stand}
 use Rattle.lt_links.specs.declared.ids.Queue.{Queue}
 use Rattle.lt_links.specs.Maps.{Maps, queue, stand, has_record, IsSound, Removes}

@@ -7,8 +7,7 @@ use Rattle.lt_ids.specs.declared.timestamp.Timestamp.{Timestamp}
 use Rattle.lt_plain.specs.declared.queued.Holder.{Holder}
 use Rattle.lt_plain.specs.declared.call.Call.TheVariants.{Acquire, Update, Finish, Leave}
 use Rattle.lt_plain.specs.declared.call.Reply.TheVariants.{Freed, Left, Absent, Nothing, Other}
-use Rattle.lt_plain.specs.Record.{Record, number_of, writer_number}
-use Rattle.lt_plain.specs.Rules.{Outcome, free, raise, take_lock, acquire_from, update_from, finish_from, leave, unchanged, is_reserved_by, is_waiting, without_reader, without_writer, settle}
+use Rattle.lt_plain.specs.Rules.{Record, number_of, writer_number, Outcome, free, raise, take_lock, acquire_from, update_from, finish_from, leave, unchanged, is_reserved_by, is_waiting, without_reader, without_writer, settle}
 use Rattle.lt_plain.specs.Step.{look, look_reader, look_waiter}
 use Rattle.lt_plain.specs.Lawful.{IsLawful, numbers}
 use Rattle.lt_plain.proofs.Lawfulness.{step_keeps_lawful}

@@ -6,7 +6,7 @@ use Rattle.std.specs.Option.{option_map}
 use Rattle.std.proofs.lemmas.List.{map-append}
 use Rattle.std.proofs.lemmas.Bool.Decides.{nat_tests}
 use Rattle.lt_plain.specs.declared.queued.QueuedRequest.{QueuedRequest}
-use Rattle.lt_plain.specs.Record.{Record, number_of, writer_number, is_eligible, eligible}
+use Rattle.lt_plain.specs.Rules.{Record, number_of, writer_number, is_eligible, eligible}
 use Rattle.lt_plain.proofs.Queue.{any_eligible, first_without_readers, first_of_readers}
 use Rattle.lt_plain.specs.Lawful.{numbers}
 use Rattle.lt_plain.proofs.Cases.{all_front, all_back, all_unmap, all_weaker}

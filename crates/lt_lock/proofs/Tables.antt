@@ -22,8 +22,7 @@ use Rattle.lt_links.proofs.Rings as rings
 use Rattle.lt_plain.specs.declared.queued.Holder.{Holder}
 use Rattle.lt_plain.specs.declared.call.Reply.{Reply}
 use Rattle.lt_plain.specs.declared.call.Reply.TheVariants.{Taken}
-use Rattle.lt_plain.specs.Record.{Record, empty, is_empty}
-use Rattle.lt_plain.specs.Rules.{Outcome, unchanged, take_lock}
+use Rattle.lt_plain.specs.Rules.{Record, empty, is_empty, Outcome, unchanged, take_lock}
 use Rattle.lt_plain.specs.Table.{record_at, with_record, AreSound, IsKept, IsStep}
 use Rattle.lt_plain.specs.Lawful.{IsLawful}
 use Rattle.lt_plain.proofs.Maps.{order, same_records, same_or_apart, is_apart, others_dropped, sound_filled}

@@ -5,8 +5,7 @@ use Rattle.lt_ids.specs.declared.request.Access.{Access}
 use Rattle.lt_plain.specs.declared.call.Call.TheVariants.{Visit}
 use Rattle.lt_plain.specs.declared.call.Reply.{Reply}
 use Rattle.lt_plain.specs.declared.call.Reply.TheVariants.{Passed}
-use Rattle.lt_plain.specs.Record.{Record}
-use Rattle.lt_plain.specs.Rules.{set_back, stop_reading, without_reader}
+use Rattle.lt_plain.specs.Rules.{Record, set_back, stop_reading, without_reader}
 use Rattle.lt_plain.specs.Visit.{pass, visit_lock}
 use Rattle.lt_plain.specs.Lawful.{numbers}
 use Rattle.lt_plain.proofs.Lawfulness.{step_keeps_lawful}

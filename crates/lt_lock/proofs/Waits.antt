@@ -7,8 +7,7 @@ use Rattle.lt_plain.specs.declared.queued.QueuedRequest.{QueuedRequest}
 use Rattle.lt_plain.specs.declared.queued.QueuedWriter.{QueuedWriter}
 use Rattle.lt_plain.specs.declared.call.Reply.{Reply}
 use Rattle.lt_plain.specs.declared.call.Reply.TheVariants.{MustWait}
-use Rattle.lt_plain.specs.Record.{Record, number_of, writer_number}
-use Rattle.lt_plain.specs.Rules.{unchanged, stop_reading, without_reader}
+use Rattle.lt_plain.specs.Rules.{Record, number_of, writer_number, unchanged, stop_reading, without_reader}
 use Rattle.lt_plain.specs.Visit.{enqueue, waiting, is_queued, wait_to_write, wait_to_read}
 use Rattle.lt_plain.specs.Lawful.{Rises, numbers}
 use Rattle.lt_plain.proofs.Cases.{all_append, all_front, all_back}

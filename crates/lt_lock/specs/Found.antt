@@ -2,12 +2,12 @@
 use Rattle.std.specs.Prelude.{◌≡◌, ◌≢◌, ◌<◌, ◌≤◌, ℕ, Bool, true, if◌then◌else◌, is_some, ◌&&◌, Option, Some, None, List, [], ◌∷◌, ◌++◌, map, filter}
 use Rattle.std.specs.List.{AllByRecursion, last_or}
 use Rattle.lt_ids.specs.declared.ticket.Through.{Through}
-use Rattle.lt_ids.specs.Timestamp.{is_below}
+use Rattle.lt_ids.specs.Ids.{is_below}
 use Rattle.lt_links.specs.declared.stand.Stand.{Stand}
 use Rattle.lt_links.specs.declared.ids.Queue.{Queue}
 use Rattle.lt_links.specs.declared.ids.QueueKind.{QueueKind}
 use Rattle.lt_links.specs.Maps.{Maps, queue, stand, has_record, HasNode, IsSound}
-use Rattle.lt_plain.specs.Record.{is_txn, through_of}
+use Rattle.lt_plain.specs.Rules.{is_txn, through_of}
 use Rattle.lt_plain.specs.Visit.{enqueue}
 use Rattle.lt_lock.specs.Linked.{stand_at, stands_at, line, queue_at, request_of, writer_of, IsNamed}
 use Rattle.lt_lock.specs.declared.find.Found.{Found}

@@ -2,8 +2,7 @@
 use Rattle.std.specs.Prelude.{◌≡◌, ◌≢◌, ℕ, List}
 use Rattle.lt_ids.specs.declared.ticket.Through.{Through}
 use Rattle.lt_plain.specs.declared.call.Reply.{Reply}
-use Rattle.lt_plain.specs.Record.{Record}
-use Rattle.lt_plain.specs.Rules.{Outcome, IsOutcome}
+use Rattle.lt_plain.specs.Rules.{Record, Outcome, IsOutcome}
 use Rattle.lt_plain.specs.Lawful.{IsLawful}
 use Rattle.lt_links.specs.declared.ids.Queue.{Queue}
 use Rattle.lt_links.specs.Maps.{Maps, has_record}

@@ -3,8 +3,7 @@ ghost use Rattle.std.specs.Prelude.{◌≡◌, ◌++◌, [], suc, not, drop, fil
 ghost use Rattle.std.specs.List.{find};
 ghost use Rattle.std.specs.Option.{option_map};
 ghost use Rattle.lt_plain.specs.declared.call.Reply.TheVariants.{Freed};
-ghost use Rattle.lt_plain.specs.Record.{is_empty, has_txn};
-ghost use Rattle.lt_plain.specs.Rules.{TakesNoMemory, leading, free, raise, raise_to, take_lock, set_back, is_of, acquire, update, finish, leave};
+ghost use Rattle.lt_plain.specs.Rules.{is_empty, has_txn, TakesNoMemory, leading, free, raise, raise_to, take_lock, set_back, is_of, acquire, update, finish, leave};
 ghost use Rattle.lt_plain.specs.Step.{look, look_reader, look_waiter, look_writer, look_behind, waits_for, waits_for_reserved};
 ghost use Rattle.lt_plain.specs.Lawful.{IsLawful};
 ghost use Rattle.lt_lock.specs.Linked.{queue_at, record_of, request_of, writer_of, IsLinked};

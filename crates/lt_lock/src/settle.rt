@@ -4,8 +4,7 @@ ghost use Rattle.std.specs.List.{list_any, IsDistinct};
 ghost use Rattle.std.specs.Option.{option_map};
 ghost use Rattle.lt_links.specs.Maps.{IsSound};
 ghost use Rattle.lt_links.specs.declared.ids.QueueKind.TheVariants.{Reservation};
-ghost use Rattle.lt_plain.specs.Record.{eligible};
-ghost use Rattle.lt_plain.specs.Rules.{distinguished_of, settle};
+ghost use Rattle.lt_plain.specs.Rules.{eligible, distinguished_of, settle};
 ghost use Rattle.lt_plain.specs.Lawful.{numbers};
 ghost use Rattle.lt_lock.specs.Linked.{line, queue_at, record_of, request_of, IsLinked};
 

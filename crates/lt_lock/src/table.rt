@@ -1,10 +1,9 @@
 //! The table: a row for each key that is locked or waited for, over the links.
 ghost use Rattle.std.specs.Prelude.{◌≡◌, [], true, IfOk, OnErr, IsOk};
 ghost use Rattle.std.specs.FinMap as map;
-ghost use Rattle.lt_ids.specs.Ticket.{IsWaitNumber};
+ghost use Rattle.lt_ids.specs.Ids.{IsWaitNumber};
 ghost use Rattle.lt_plain.specs.declared.call.Reply.TheVariants.{Absent};
-ghost use Rattle.lt_plain.specs.Record.{empty};
-ghost use Rattle.lt_plain.specs.Rules.{TakesNoMemory, acquire, update, finish, leave, take_lock};
+ghost use Rattle.lt_plain.specs.Rules.{empty, TakesNoMemory, acquire, update, finish, leave, take_lock};
 ghost use Rattle.lt_plain.specs.Visit.{visit};
 ghost use Rattle.lt_plain.specs.Step.{look};
 ghost use Rattle.lt_plain.specs.Table.{queued_of, record_at, with_record, IsStep, AreSound};

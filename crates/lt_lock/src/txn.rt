@@ -1,6 +1,6 @@
 //! Whose a stand is. One without a transaction is no transaction's.
 ghost use Rattle.std.specs.Prelude.{◌≡◌};
-ghost use Rattle.lt_plain.specs.Record.{is_txn, is_same_txn};
+ghost use Rattle.lt_plain.specs.Rules.{is_txn, is_same_txn};
 
 use lt_ids::TxnId;
 use lt_links::Stand;

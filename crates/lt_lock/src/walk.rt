@@ -3,7 +3,7 @@ ghost use Rattle.std.specs.Prelude.{◌≡◌, ◌∷◌, ◌++◌, [], true, no
 ghost use Rattle.std.specs.List.{AllByRecursion, find};
 ghost use Rattle.std.specs.Option.{option_map};
 ghost use Rattle.lt_links.specs.Maps.{has_record, IsSound};
-ghost use Rattle.lt_plain.specs.Record.{through_of, is_eligible};
+ghost use Rattle.lt_plain.specs.Rules.{through_of, is_eligible};
 ghost use Rattle.lt_lock.specs.Linked.{line, request_of, writer_of, IsNamed};
 ghost use Rattle.lt_lock.specs.Found.{leaves, goes_on, waiting_lets, front, from_txn, Writes, IsPlace};
 

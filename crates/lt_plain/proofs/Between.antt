@@ -8,7 +8,7 @@ use Rattle.std.specs.Ordering.{nat_cmp}
 use Rattle.lt_ids.specs.declared.timestamp.Timestamp.{Timestamp}
 use Rattle.lt_ids.specs.declared.request.Access.{Access}
 use Rattle.lt_ids.specs.declared.request.Access.TheVariants.{Read, Write}
-use Rattle.lt_ids.specs.Timestamp.{is_below}
+use Rattle.lt_ids.specs.Ids.{is_below}
 use Rattle.lt_plain.specs.declared.queued.Holder.{Holder}
 use Rattle.lt_plain.specs.declared.queued.QueuedRequest.{QueuedRequest}
 use Rattle.lt_plain.specs.declared.call.Call.{Call}
@@ -16,11 +16,9 @@ use Rattle.lt_plain.specs.declared.call.Call.TheVariants.{Visit, Acquire, Update
 use Rattle.lt_plain.specs.declared.queued.QueuedWriter.{QueuedWriter}
 use Rattle.lt_plain.specs.declared.call.Reply.{Reply}
 use Rattle.lt_plain.specs.declared.call.Reply.TheVariants.{Taken}
-use Rattle.lt_plain.specs.Record.{Record, empty, number_of, writer_number, is_txn}
-use Rattle.lt_plain.specs.Rules.{Outcome, acquire_from, update_from, finish_from, leave, is_reserved_by, is_waiting, stop_reading}
+use Rattle.lt_plain.specs.Rules.{Record, empty, number_of, writer_number, is_txn, Outcome, acquire_from, update_from, finish_from, leave, is_reserved_by, is_waiting, stop_reading}
 use Rattle.lt_plain.specs.Visit.{visit_lock, is_queued}
-use Rattle.lt_plain.specs.Step.{Event, step, look, look_waiter, look_writer, look_behind, look_reader, waits_for, waits_for_reserved, IsLegal, IsLegalFrom, record_after}
-use Rattle.lt_plain.specs.Holding.{is_freed}
+use Rattle.lt_plain.specs.Step.{Event, step, look, look_waiter, look_writer, look_behind, look_reader, waits_for, waits_for_reserved, IsLegal, IsLegalFrom, record_after, is_freed}
 use Rattle.lt_plain.proofs.Holders.{either, one_of_two, one_of_three, joined, displaced, rest_legal, visit_keeps, leave_keeps}
 
 -- ---- a held lock stays held until it is freed

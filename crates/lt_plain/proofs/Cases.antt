@@ -5,12 +5,11 @@ use Rattle.std.proofs.lemmas.List.{map-append}
 use Rattle.std.specs.List.{AllByRecursion, IsDistinct}
 use mathlib.Core.Bool.{true≢false}
 use Rattle.std.proofs.lemmas.Bool.Decides.{nat_tests}
-use Rattle.lt_ids.specs.Timestamp.{is_below}
+use Rattle.lt_ids.specs.Ids.{is_below}
 use Rattle.lt_plain.specs.declared.queued.Holder.{Holder}
 use Rattle.lt_plain.specs.declared.queued.QueuedRequest.{QueuedRequest}
 use Rattle.lt_plain.specs.declared.queued.QueuedWriter.{QueuedWriter}
-use Rattle.lt_plain.specs.Record.{Record, number_of, writer_number, has_txn}
-use Rattle.lt_plain.specs.Rules.{settle}
+use Rattle.lt_plain.specs.Rules.{Record, number_of, writer_number, has_txn, settle}
 use Rattle.lt_plain.specs.Lawful.{IsLawful, Rises}
 
 -- Who may wait at a lock: nobody at one that is free; at a reserved one writers of greater numbers alone;

@@ -5,13 +5,12 @@ use Rattle.std.specs.Ordering.{nat_cmp}
 use Rattle.lt_ids.specs.declared.timestamp.Timestamp.{Timestamp}
 use Rattle.lt_ids.specs.declared.request.Access.{Access}
 use Rattle.lt_ids.specs.declared.request.Access.TheVariants.{Read, Write}
-use Rattle.lt_ids.specs.Timestamp.{is_below}
+use Rattle.lt_ids.specs.Ids.{is_below}
 use Rattle.lt_plain.specs.declared.queued.Holder.{Holder}
 use Rattle.lt_plain.specs.declared.queued.QueuedRequest.{QueuedRequest}
 use Rattle.lt_plain.specs.declared.queued.QueuedWriter.{QueuedWriter}
 use Rattle.lt_plain.specs.declared.call.Reply.TheVariants.{Absent}
-use Rattle.lt_plain.specs.Record.{Record, is_empty, number_of, eligible}
-use Rattle.lt_plain.specs.Rules.{Outcome, acquire, acquire_from, update, update_from, leave, distinguished_of, stop_reading, is_reserved_by, is_waiting}
+use Rattle.lt_plain.specs.Rules.{Record, is_empty, number_of, eligible, Outcome, acquire, acquire_from, update, update_from, leave, distinguished_of, stop_reading, is_reserved_by, is_waiting}
 use Rattle.lt_plain.specs.Visit.{visit, visit_lock}
 use Rattle.lt_plain.specs.Lawful.{IsLawful}
 use Rattle.lt_plain.proofs.Holders.{either, one_of_three, joined, displaced, lock_keeps}

@@ -4,7 +4,7 @@ use Rattle.std.specs.Prelude.{slice_get, is_some}
 use Rattle.std.specs.List.{AllByRecursion, find}
 use mathlib.Core.Bool.{true≢false}
 use Rattle.std.proofs.lemmas.Bool.Decides.{nat_tests}
-use Rattle.lt_ids.specs.Ticket.{Wait}
+use Rattle.lt_ids.specs.Ids.{Wait}
 use Rattle.lt_ids.specs.declared.timestamp.Timestamp.{Timestamp}
 use Rattle.lt_ids.specs.declared.request.Access.{Access}
 use Rattle.lt_ids.specs.declared.request.Access.TheVariants.{Read, Write}
@@ -15,8 +15,7 @@ use Rattle.lt_plain.specs.declared.call.Call.{Call}
 use Rattle.lt_plain.specs.declared.call.Call.TheVariants.{Visit, Acquire, Update, Finish, Leave, Look}
 use Rattle.lt_plain.specs.declared.call.Reply.{Reply}
 use Rattle.lt_plain.specs.declared.call.Reply.TheVariants.{Freed, Left, Other, Absent}
-use Rattle.lt_plain.specs.Record.{Record, empty, has_txn}
-use Rattle.lt_plain.specs.Rules.{Outcome, unchanged, settle, free, finish_from, finish_by, leave, leave_by, leading, stop_reading, is_reserved_by, is_waiting, without_reader, without_writer}
+use Rattle.lt_plain.specs.Rules.{Record, empty, has_txn, Outcome, unchanged, settle, free, finish_from, finish_by, leave, leave_by, leading, stop_reading, is_reserved_by, is_waiting, without_reader, without_writer}
 use Rattle.lt_plain.specs.Visit.{visit_lock, settled}
 use Rattle.lt_plain.specs.Step.{Event, step, IsLegalFrom, IsLegalBy}
 use Rattle.lt_plain.specs.First as first

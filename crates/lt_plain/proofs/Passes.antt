@@ -7,7 +7,7 @@ use Rattle.lt_ids.specs.declared.timestamp.Timestamp.{Timestamp}
 use Rattle.lt_ids.specs.declared.ticket.Through.{Through}
 use Rattle.lt_ids.specs.declared.request.Access.{Access}
 use Rattle.lt_ids.specs.declared.request.Access.TheVariants.{Read, Write}
-use Rattle.lt_ids.specs.Timestamp.{is_below}
+use Rattle.lt_ids.specs.Ids.{is_below}
 use Rattle.lt_plain.specs.declared.queued.Holder.{Holder}
 use Rattle.lt_plain.specs.declared.queued.QueuedRequest.{QueuedRequest}
 use Rattle.lt_plain.specs.declared.queued.QueuedWriter.{QueuedWriter}
@@ -15,8 +15,7 @@ use Rattle.lt_plain.specs.declared.call.Call.{Call}
 use Rattle.lt_plain.specs.declared.call.Call.TheVariants.{Visit, Acquire, Update, Finish, Leave, Look}
 use Rattle.lt_plain.specs.declared.call.Reply.{Reply}
 use Rattle.lt_plain.specs.declared.call.Reply.TheVariants.{Freed, Left}
-use Rattle.lt_plain.specs.Record.{Record, number_of, writer_number, through_of, is_txn, has_txn}
-use Rattle.lt_plain.specs.Rules.{Outcome, unchanged, free, raise_to, take_lock, set_back, is_of, active_requests, acquire_from, update_from, finish_from, leave, is_reserved_by, is_waiting, stop_reading, leading}
+use Rattle.lt_plain.specs.Rules.{Record, number_of, writer_number, through_of, is_txn, has_txn, Outcome, unchanged, free, raise_to, take_lock, set_back, is_of, active_requests, acquire_from, update_from, finish_from, leave, is_reserved_by, is_waiting, stop_reading, leading}
 use Rattle.lt_plain.specs.Visit.{visit_lock, is_queued, wait_to_write, join_writers}
 use Rattle.lt_plain.specs.Step.{step}
 use Rattle.lt_plain.specs.Laws.{AreOf}

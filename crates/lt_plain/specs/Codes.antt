@@ -9,7 +9,7 @@ use Rattle.lt_plain.specs.contracts.queued.QueuedWriter as writer
 use Rattle.lt_plain.specs.declared.queued.Holder.{Holder}
 use Rattle.lt_plain.specs.declared.queued.QueuedRequest.{QueuedRequest}
 use Rattle.lt_plain.specs.declared.queued.QueuedWriter.{QueuedWriter}
-use Rattle.lt_plain.specs.Record.{Record}
+use Rattle.lt_plain.specs.Rules.{Record}
 use Rattle.lt_plain.specs.Table.{Records}
 
 abbrev pub record_code : Coded Record

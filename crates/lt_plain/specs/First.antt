@@ -5,14 +5,13 @@ use Rattle.std.specs.Option.{option_map}
 use Rattle.std.specs.Ordering.{nat_cmp, match_ordering}
 use Rattle.lt_ids.specs.declared.request.Access.{Access}
 use Rattle.lt_ids.specs.declared.request.Access.TheVariants.{Read, Write}
-use Rattle.lt_ids.specs.Timestamp.{is_below}
+use Rattle.lt_ids.specs.Ids.{is_below}
 use Rattle.lt_plain.specs.declared.queued.Holder.{Holder}
 use Rattle.lt_plain.specs.declared.queued.QueuedRequest.{QueuedRequest}
 use Rattle.lt_plain.specs.declared.call.Call.{Call}
 use Rattle.lt_plain.specs.declared.call.Call.TheVariants.{Visit}
 use Rattle.lt_plain.specs.declared.call.Reply.{Reply}
-use Rattle.lt_plain.specs.Record.{Record, empty, number_of, through_of, is_txn}
-use Rattle.lt_plain.specs.Rules.{Outcome, settle, stop_reading, set_back, active_requests}
+use Rattle.lt_plain.specs.Rules.{Record, empty, number_of, through_of, is_txn, Outcome, settle, stop_reading, set_back, active_requests}
 use Rattle.lt_plain.specs.Visit.{pass, wait_to_write, wait_to_read, settled}
 use Rattle.lt_plain.specs.Step.{Event, IsLegalBy, step_by}
 

@@ -1,6 +1,6 @@
 //! The rules of one key, and a lock table of one thread that follows them.
 //!
-//! A key's [`Record`](../specs/Record.antt) says who holds its lock, for whom the lock is reserved, and who waits. The
+//! A key's [`Record`](../specs/Rules.antt) says who holds its lock, for whom the lock is reserved, and who waits. The
 //! definitions in `specs/` say what each call makes of a record, what it answers and whom it lets through: `Visit`
 //! has the cases of a visit, `Rules` the other calls, `Step` a call as a value and the legal histories of a key,
 //! `Lawful` which records come about, `Holding` who holds a lock by the events alone, `First` the rules as they were before

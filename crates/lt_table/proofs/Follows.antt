@@ -6,7 +6,7 @@ use Rattle.std.specs.Ordering.{nat_cmp, match_ordering}
 use Rattle.std.specs.declared.cmp.Ordering.{Ordering}
 use Rattle.std.specs.declared.cmp.Ordering.TheVariants.{Less, Equal, Greater}
 use Rattle.std.proofs.lemmas.List.{drop-map}
-use Rattle.lt_ids.specs.Timestamp.{is_below}
+use Rattle.lt_ids.specs.Ids.{is_below, Wait}
 use Rattle.lt_ids.specs.declared.request.Access.{Access}
 use Rattle.lt_ids.specs.declared.request.Access.TheVariants.{Read, Write}
 use Rattle.lt_plain.specs.declared.queued.Holder.{Holder}
@@ -16,10 +16,8 @@ use Rattle.lt_plain.specs.declared.call.Call.TheVariants.{Visit}
 use Rattle.lt_plain.specs.declared.call.Reply.{Reply}
 use Rattle.lt_plain.specs.declared.call.Reply.TheVariants.{Passed, MustWait, TooLong}
 use Rattle.lt_plain.specs.Step.{step}
-use Rattle.lt_ids.specs.Ticket.{Wait}
 use Rattle.lt_ids.specs.declared.timestamp.Timestamp.{Timestamp}
-use Rattle.lt_plain.specs.Record.{Record, number_of, is_txn}
-use Rattle.lt_plain.specs.Rules.{Outcome, stop_reading}
+use Rattle.lt_plain.specs.Rules.{Record, number_of, is_txn, Outcome, stop_reading}
 use Rattle.lt_plain.specs.Visit.{visit_lock, displace, join_writers, is_too_long, is_queued}
 use Rattle.lt_table.specs.declared.progress.Mode.{Mode}
 use Rattle.lt_table.specs.declared.progress.Mode.TheVariants.{Free, Awaiting, Let, Stopped, Leaving}
@@ -31,8 +29,7 @@ use Rattle.lt_table.specs.declared.scan.Scan.TheVariants as scans
 use Rattle.lt_table.specs.declared.scan.ScanError.{ScanError}
 use Rattle.lt_table.specs.declared.scan.ScanError.TheVariants as refused
 use Rattle.std.proofs.lemmas.Grind.{common_steps}
-use Rattle.lt_table.specs.Machine.{Asked, polled_in, heard, mode_heard, scan_start, scan_start_in, met, passed, restarted, is_awaiting, is_stopped, is_free, may_visit, next_visit, visit_call, scan_end}
-use Rattle.lt_table.specs.Runs.{WalkState, Step, answer_of, Visits, Ends, of_step, IsScanFrom, IsWalkScan}
+use Rattle.lt_table.specs.Machine.{Asked, polled_in, heard, mode_heard, scan_start, scan_start_in, met, passed, restarted, is_awaiting, is_stopped, is_free, may_visit, next_visit, visit_call, scan_end, WalkState, Step, answer_of, Visits, Ends, of_step, IsScanFrom, IsWalkScan}
 use Rattle.lt_table.specs.Laws.{ThroughGoesOn}
 use Rattle.lt_table.specs.declared.scan.Poll.TheVariants.{Through}
 use Rattle.std.specs.Prelude.{IsOk}

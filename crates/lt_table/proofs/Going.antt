@@ -5,8 +5,7 @@ use Rattle.std.specs.Option.{option_map}
 use Rattle.lt_plain.specs.declared.call.Call.{Call}
 use Rattle.lt_table.specs.declared.progress.Mode.TheVariants.{Free}
 use Rattle.lt_table.specs.declared.progress.Progress.{Progress}
-use Rattle.lt_table.specs.Machine.{Asked, is_free, is_wait, is_long, met, met_as, next_visit, may_visit, visit_call}
-use Rattle.lt_table.specs.Runs.{WalkState, Step, answer_of, Visits}
+use Rattle.lt_table.specs.Machine.{Asked, is_free, is_wait, is_long, met, met_as, next_visit, may_visit, visit_call, WalkState, Step, answer_of, Visits}
 
 -- how many visits may still come
 abbrev pub left : WalkState → ℕ

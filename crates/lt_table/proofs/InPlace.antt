@@ -11,7 +11,7 @@ use Rattle.lt_words.specs.declared.event.Event.TheVariants.{Draw}
 use Rattle.lt_words.proofs.Prefixes.{prefix_trans, prefix_length, prefix_get}
 use Rattle.lt_words.proofs.Draws.{numbers_are_drawn_once}
 use Rattle.lt_words.proofs.Histories.{part_length, part_prefix}
-use Rattle.lt_table.specs.Runs as runs
+use Rattle.lt_table.specs.Machine as runs
 use Rattle.lt_table.specs.Reported.{shard_at, Reported, AreReported, steps_at}
 use Rattle.lt_table.specs.Laws.{Stands, ReportedStand, PlacesRise, NumbersOfGuardsDiffer, ReportedStandAtClose}
 

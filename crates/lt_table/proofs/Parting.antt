@@ -9,8 +9,7 @@ use Rattle.lt_plain.specs.declared.call.Call.{Call}
 use Rattle.lt_plain.specs.declared.call.Call.TheVariants.{Leave}
 use Rattle.lt_table.specs.declared.progress.Mode.TheVariants.{Leaving}
 use Rattle.lt_table.specs.declared.progress.Progress.{Progress}
-use Rattle.lt_table.specs.Machine.{Asked, passed, next_leave}
-use Rattle.lt_table.specs.Runs.{WalkState, Step, answer_of, Leaves, IsLeaveFrom}
+use Rattle.lt_table.specs.Machine.{Asked, passed, next_leave, WalkState, Step, answer_of, Leaves, IsLeaveFrom}
 
 pub record IsParting (begun now : WalkState) (steps : List Step) : Type 0 where
   pub run : IsLeaveFrom begun steps now

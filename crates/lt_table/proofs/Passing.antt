@@ -5,12 +5,12 @@ use Rattle.std.specs.Option.{option_map}
 use Rattle.std.specs.List.{AllByRecursion}
 use Rattle.std.specs.Str.{bytes_eq}
 use Rattle.std.proofs.lemmas.Slice.Eq.{bytes_eq-Decides}
-use Rattle.lt_ids.specs.Ticket.{Wait}
+use Rattle.lt_ids.specs.Ids.{Wait}
 use Rattle.lt_ids.specs.declared.timestamp.Timestamp.{Timestamp}
 use Rattle.lt_ids.specs.declared.request.Access.{Access}
 use Rattle.lt_plain.specs.declared.call.Call.{Call}
 use Rattle.lt_plain.specs.declared.call.Call.TheVariants.{Visit}
-use Rattle.lt_plain.specs.Record.{Record, empty}
+use Rattle.lt_plain.specs.Rules.{Record, empty}
 use Rattle.lt_plain.specs.Step.{IsLegalFrom, step}
 use Rattle.lt_plain.specs.Step as plain
 use Rattle.lt_history.specs.declared.entry.Entry.{Entry}
@@ -22,9 +22,8 @@ use Rattle.lt_words.specs.History.{part, steps_of, IsLegalHistory}
 use Rattle.lt_words.specs.Row.{Seer}
 use Rattle.lt_table.specs.declared.progress.Progress.{Progress}
 use Rattle.lt_table.specs.declared.scan.Scan.TheVariants.{Proceed}
-use Rattle.lt_table.specs.Machine.{Asked, met, may_visit, visit_call}
-use Rattle.lt_table.specs.Runs as runs
-use Rattle.lt_table.specs.Runs.{Visits, WalkState, IsScanFrom, IsScanBegun}
+use Rattle.lt_table.specs.Machine.{Asked, met, may_visit, visit_call, Visits, WalkState, IsScanFrom, IsScanBegun}
+use Rattle.lt_table.specs.Machine as runs
 use Rattle.lt_table.specs.Reported.{shard_at}
 use Rattle.lt_table.specs.Laws.{Stands, ProceedHasPassedEach}
 use Rattle.lt_table.proofs.InPlace.{all_stand}

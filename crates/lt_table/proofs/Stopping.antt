@@ -12,9 +12,8 @@ use Rattle.lt_table.specs.declared.progress.Progress.{Progress}
 use Rattle.lt_table.specs.declared.scan.Scan.{Scan}
 use Rattle.lt_table.specs.declared.scan.Scan.TheVariants.{TooLong}
 use Rattle.lt_table.specs.declared.scan.ScanError.{ScanError}
-use Rattle.lt_table.specs.Machine.{Asked, heard, scan_start, scan_start_in, scan_end, restarted, passed, met_as, is_wait, is_long, is_awaiting, is_stopped, may_visit, visit_call, next_visit}
-use Rattle.lt_table.specs.Runs as runs
-use Rattle.lt_table.specs.Runs.{WalkState, Visits, Ends, IsScanBegun, of_step}
+use Rattle.lt_table.specs.Machine.{Asked, heard, scan_start, scan_start_in, scan_end, restarted, passed, met_as, is_wait, is_long, is_awaiting, is_stopped, may_visit, visit_call, next_visit, WalkState, Visits, Ends, IsScanBegun, of_step}
+use Rattle.lt_table.specs.Machine as runs
 use Rattle.lt_table.specs.Reported.{GuardState, IsScan}
 use Rattle.lt_table.specs.Laws.{Stands, IsTooLong}
 use Rattle.lt_table.proofs.Follows.{guarded, pair_same, visits_none}

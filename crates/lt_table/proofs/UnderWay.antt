@@ -4,7 +4,7 @@ use Rattle.std.proofs.lemmas.Bool.Decides.{nat_tests}
 use Rattle.lt_table.specs.declared.scan.Poll.TheVariants.{Through}
 use Rattle.lt_table.specs.Sound.{IsSound}
 use mathlib.Core.List.{IsPrefix}
-use Rattle.lt_ids.specs.Ticket.{Wait, IsNumber, IsWaitNumber, value_of}
+use Rattle.lt_ids.specs.Ids.{Wait, IsNumber, IsWaitNumber, value_of}
 use Rattle.lt_words.specs.declared.event.Event.{Event}
 use Rattle.lt_words.specs.History.{LetIn}
 use Rattle.lt_words.specs.Rules.{IsStatus}
@@ -17,9 +17,8 @@ use Rattle.std.specs.Prelude.{Result, Ok, Err, IfOk, OnErr}
 use Rattle.lt_plain.specs.declared.call.Call.{Call}
 use Rattle.lt_shard.specs.declared.answer.Answer.{Answer}
 use Rattle.lt_shard.specs.declared.answer.StepError.{StepError}
-use Rattle.lt_table.specs.Machine.{heard, mode_heard, polled_in, met, met_as, is_wait, is_long, next_visit, next_leave, passed}
-use Rattle.lt_table.specs.Runs.{WalkState}
-use Rattle.lt_table.specs.Runs as runs
+use Rattle.lt_table.specs.Machine.{heard, mode_heard, polled_in, met, met_as, is_wait, is_long, next_visit, next_leave, passed, WalkState}
+use Rattle.lt_table.specs.Machine as runs
 use Rattle.lt_table.specs.Reported.{GuardState, Reported, AreReported, wait_of}
 use Rattle.lt_table.proofs.Going.{IsGoing, IsGoing-more}
 use Rattle.lt_table.proofs.Parting.{IsParting, IsParting-more}

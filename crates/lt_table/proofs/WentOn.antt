@@ -1,6 +1,6 @@
 -- What stays through a scan, where a request waits, and that who waited goes on only where it was let through.
 use Rattle.std.proofs.Common.{◌≡◌, ◌≢◌, ℕ, ◌<◌, Bool, true, false, cond, nat_eq, nat_lt, List, [], ◌∷◌, length, Option, Some, None, Result, Ok, Err, refl, sym, ◌∙◌, ap, subst}
-use Rattle.lt_ids.specs.Ticket.{IsNumber, value_of}
+use Rattle.lt_ids.specs.Ids.{IsNumber, value_of}
 use Rattle.lt_words.specs.History.{LetIn}
 use Rattle.lt_plain.specs.declared.call.Call.{Call}
 use Rattle.lt_words.specs.Row.{Seer, SeesMore}
@@ -13,9 +13,8 @@ use Rattle.lt_table.specs.declared.scan.Scan.{Scan}
 use Rattle.lt_table.specs.declared.scan.Scan.TheVariants.{Proceed, Rescan, Waiting, TooLong}
 use Rattle.lt_table.specs.declared.scan.ScanError.{ScanError}
 use Rattle.lt_table.specs.declared.scan.ScanError.TheVariants.{StillWaiting, WaitsOut}
-use Rattle.lt_table.specs.Machine.{heard, mode_heard, scan_start, scan_start_in, scan_end, restarted, is_awaiting, is_stopped, next_visit}
-use Rattle.lt_table.specs.Runs as runs
-use Rattle.lt_table.specs.Runs.{WalkState, IsScanBegun, Ends, of_step, leaving}
+use Rattle.lt_table.specs.Machine.{heard, mode_heard, scan_start, scan_start_in, scan_end, restarted, is_awaiting, is_stopped, next_visit, WalkState, IsScanBegun, Ends, of_step, leaving}
+use Rattle.lt_table.specs.Machine as runs
 use Rattle.lt_table.specs.Reported.{GuardState, AreReported, IsScan, IsLeavingFrom, PassStays, GuardStays, wait_of}
 use Rattle.lt_table.specs.Sound.{IsSound}
 use Rattle.lt_words.proofs.Histories.{let_later}

@@ -15,9 +15,8 @@ use Rattle.lt_table.specs.declared.progress.Mode.TheVariants.{Free}
 use Rattle.lt_table.specs.declared.progress.Progress.{Progress}
 use Rattle.lt_table.specs.declared.scan.Scan.TheVariants.{Proceed}
 use Rattle.lt_table.specs.declared.scan.Poll.TheVariants.{Through}
-use Rattle.lt_table.specs.Machine.{Asked, heard, polled, scan_start, restarted, visit_call}
+use Rattle.lt_table.specs.Machine.{Asked, heard, polled, scan_start, restarted, visit_call, Step, answer_of}
 use Rattle.lt_table.specs.Keys.{IsKeyList}
-use Rattle.lt_table.specs.Runs.{Step, answer_of}
 use Rattle.lt_table.specs.Reported.{shard_at, Reported, AreReported, steps_at, GuardState, IsScan}
 use Rattle.lt_table.specs.Entered.{IsEntered}
 use Rattle.lt_table.specs.Closed.{IsClosed}

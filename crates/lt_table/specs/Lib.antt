@@ -1,6 +1,5 @@
 pub mod Keys
 pub mod Machine
-pub mod Runs
 pub mod Reported
 pub mod Leaving
 pub mod Entered

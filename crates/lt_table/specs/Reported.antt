@@ -1,18 +1,16 @@
 -- What a call of the table tells of the steps that it made through a pass.
 use Rattle.std.specs.Prelude.{ℕ, ◌≡◌, ◌+◌, nat_eq, if◌then◌else◌, List, [], ◌∷◌, Result}
 use mathlib.Core.List.{IsPrefix}
-use Rattle.lt_ids.specs.Ticket.{Wait}
+use Rattle.lt_ids.specs.Ids.{Wait}
 use Rattle.lt_history.specs.declared.entry.Entry.{Entry}
 use Rattle.lt_words.specs.History.{shard_of}
 use Rattle.lt_words.specs.Rules.{IsStatus}
-use Rattle.lt_words.specs.Row.{Seer, SeesMore}
-use Rattle.lt_shard.specs.Reports.{Reports}
+use Rattle.lt_words.specs.Row.{Seer, SeesMore, Reports}
 use Rattle.lt_shard.specs.declared.answer.Answer.{Answer}
 use Rattle.lt_table.specs.declared.scan.Scan.{Scan}
 use Rattle.lt_table.specs.declared.scan.ScanError.{ScanError}
 use Rattle.lt_table.specs.declared.scan.Poll.{Poll}
-use Rattle.lt_table.specs.Machine.{heard, polled}
-use Rattle.lt_table.specs.Runs.{WalkState, Step, IsWalkScan, IsLeaveFrom, IsLeft, IsRefusedLeave}
+use Rattle.lt_table.specs.Machine.{heard, polled, WalkState, Step, IsWalkScan, IsLeaveFrom, IsLeft, IsRefusedLeave}
 
 -- the shard of a step's key
 abbrev pub shard_at : Seer → Step → ℕ

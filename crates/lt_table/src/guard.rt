@@ -1,5 +1,5 @@
 ghost use Rattle.std.specs.Prelude.{◌≡◌};
-ghost use Rattle.lt_ids.specs.Ticket.{IsNumber};
+ghost use Rattle.lt_ids.specs.Ids.{IsNumber};
 ghost use Rattle.lt_words.specs.History.{IsLegalHistory};
 
 use crate::progress::Mode;

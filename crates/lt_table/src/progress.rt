@@ -1,6 +1,6 @@
 //! Where a request stands in its key list, and what each event makes of it: a function for each definition.
 ghost use Rattle.std.specs.Prelude.{◌≡◌, ◌+◌, ◌<◌, ◌≤◌, ◌^◌, false};
-ghost use Rattle.lt_ids.specs.Ticket.{IsNumber, IsWaitNumber};
+ghost use Rattle.lt_ids.specs.Ids.{IsNumber, IsWaitNumber};
 ghost use Rattle.lt_table.specs.Machine.{heard, scan_start, leave_start, may_visit, met_as, passed, restarted, scan_end, polled};
 
 use crate::scan::{Poll, Scan, ScanError};

@@ -38,7 +38,7 @@ pub enum ScanError {
 /// A step that was not made ends a scan.
 impl From<StepError> for ScanError {
     ghost use Rattle.std.specs.Prelude.{◌≡◌};
-    ghost use Rattle.lt_table.specs.Runs.{of_step};
+    ghost use Rattle.lt_table.specs.Machine.{of_step};
 
     ghost from_gives = { λ e r. r ≡ of_step e };
 

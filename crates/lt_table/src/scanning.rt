@@ -1,6 +1,6 @@
 //! Polls and scans.
 ghost use Rattle.std.specs.Prelude.{◌≡◌, ◌≢◌, ◌<◌, ℕ, length, Ok, Err};
-ghost use Rattle.lt_ids.specs.Ticket.{IsNumber};
+ghost use Rattle.lt_ids.specs.Ids.{IsNumber};
 ghost use Rattle.lt_words.specs.History.{LetIn};
 ghost use Rattle.lt_table.specs.Reported.{IsScan, IsPoll, GuardStays, wait_of};
 ghost use Rattle.lt_table.specs.declared.scan.Scan.TheVariants.{Waiting, TooLong};

@@ -1,8 +1,7 @@
 ghost use Rattle.std.specs.Prelude.{◌≡◌, ◌≢◌, ◌+◌, ◌<◌, ◌≤◌, ◌^◌, ◌∷◌, ◌++◌, [], true, false, length, IfOk, IfErr, OnErr, Some, slice_get, nat_lt, vec_len, vec_capacity};
 ghost use Rattle.std.specs.Option.{option_map};
-ghost use Rattle.lt_ids.specs.Ticket.{IsNumber, IsWaitNumber};
-ghost use Rattle.lt_table.specs.Machine.{heard, scan_start, leave_start, may_visit, met, passed, scan_end, polled, visit_call};
-ghost use Rattle.lt_table.specs.Runs.{leave_answers};
+ghost use Rattle.lt_ids.specs.Ids.{IsNumber, IsWaitNumber};
+ghost use Rattle.lt_table.specs.Machine.{heard, scan_start, leave_start, may_visit, met, passed, scan_end, polled, visit_call, leave_answers};
 
 use crate::progress::{
     Mode, Progress, heard, leave_start, may_visit, met_as, passed, polled, scan_end, scan_start,
@@ -30,9 +29,8 @@ pub(crate) struct Walk {
 
 impl Model for Walk {
     ghost use Rattle.std.specs.Prelude.{◌≤◌, ◌<◌, ◌^◌, length, vec_capacity};
-    ghost use Rattle.lt_ids.specs.Ticket.{IsNumber};
-    ghost use Rattle.lt_table.specs.Machine.{Asked};
-    ghost use Rattle.lt_table.specs.Runs.{WalkState};
+    ghost use Rattle.lt_ids.specs.Ids.{IsNumber};
+    ghost use Rattle.lt_table.specs.Machine.{Asked, WalkState};
     ghost use Rattle.lt_table.specs.Sound.{IsSound};
 
     ghost Value = { WalkState };

@@ -1,7 +1,7 @@
 -- The calls as words, and read from words.
 use Rattle.std.specs.Prelude.{ℕ, ◌≡◌, ◌^◌, ◌<◌, false, if◌then◌else◌, List, [], ◌∷◌, Option, Some, None, decimal, codes}
 use Rattle.std.specs.Str.{bytes_eq}
-use Rattle.lt_ids.specs.Ticket.{IsNumber}
+use Rattle.lt_ids.specs.Ids.{IsNumber}
 use Rattle.lt_plain.specs.declared.call.Call.{Call}
 use Rattle.lt_plain.specs.declared.call.Call.TheVariants.{Visit, Acquire, Update, Finish, Leave, Look}
 use Rattle.lt_text.specs.Maybe.{◌>>=◌}

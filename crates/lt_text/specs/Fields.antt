@@ -1,7 +1,7 @@
 -- What the words inside a line spell, and how each is written.
 use Rattle.std.specs.Prelude.{ℕ, ◌^◌, ◌<◌, ◌≤◌, ◌==◌, Bool, ◌&&◌, nat_lt, nat_le, if◌then◌else◌, List, [], ◌∷◌, ◌++◌, take, drop, Option, Some, None, decimal, codes}
 use Rattle.std.specs.Str.{bytes_eq}
-use Rattle.lt_ids.specs.Ticket.{Wait, IsNumber, IsWaitNumber}
+use Rattle.lt_ids.specs.Ids.{Wait, IsNumber, IsWaitNumber}
 use Rattle.lt_ids.specs.declared.timestamp.Timestamp.{Timestamp}
 use Rattle.lt_ids.specs.declared.request.Access.{Access}
 use Rattle.lt_ids.specs.declared.request.Access.TheVariants.{Read, Write}

@@ -2,8 +2,8 @@
 use Rattle.std.proofs.Common.{◌≡◌, ℕ, ◌+◌, ◌≤◌, ◌==◌, Bool, true, false, cond, List, [], ◌∷◌, ◌++◌, length, map, refl, ap, sym, subst, ◌∙◌, inl, inr, ⊎_elim, arith, append-nil, length-append, eq-eqb}
 use Rattle.std.specs.Str.{bytes_eq}
 use mathlib.Core.List.{IsPrefix}
-use Rattle.lt_ids.specs.Ticket.{Wait}
-use Rattle.lt_plain.specs.Record.{empty}
+use Rattle.lt_ids.specs.Ids.{Wait}
+use Rattle.lt_plain.specs.Rules.{empty}
 use Rattle.lt_plain.specs.Step.{step, record_after}
 use Rattle.lt_history.specs.declared.entry.Entry.{Entry}
 use Rattle.lt_history.specs.Histories.{event_of, AreLegalKeys}

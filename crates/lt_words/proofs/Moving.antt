@@ -7,7 +7,7 @@ use Rattle.logbook.proofs.Lists.{exchanged}
 use Rattle.lt_history.specs.declared.entry.Entry.{Entry}
 use Rattle.lt_words.specs.declared.event.Event.{Event}
 use Rattle.lt_words.specs.declared.event.Event.TheVariants.{Opened, Draw, Step}
-use Rattle.lt_ids.specs.Ticket.{Wait, value_of, IsNumber, IsWaitNumber}
+use Rattle.lt_ids.specs.Ids.{Wait, value_of, IsNumber, IsWaitNumber}
 use Rattle.lt_words.specs.History.{part, draws_of, shard_of, IsLegalHistory, MayFollow, LetIn}
 use Rattle.lt_words.specs.Rules.{history_of, IsLog, IsKept, IsGood, AddsDraw, AddsStep, Sees}
 use Rattle.lt_words.specs.Row.{GoesTo}

@@ -9,14 +9,13 @@ use Rattle.std.proofs.lemmas.List.Elements.{filter-append}
 use mathlib.Core.Logic.{dite}
 use native.Mathlib.Decide.{ℕ_discrete}
 use mathlib.Core.List.{IsPrefix}
-use Rattle.lt_ids.specs.Ticket.{Wait}
+use Rattle.lt_ids.specs.Ids.{Wait}
 use Rattle.lt_ids.specs.declared.timestamp.Timestamp.{Timestamp}
 use Rattle.lt_ids.specs.declared.request.Access.TheVariants.{Read}
 use Rattle.lt_plain.specs.declared.call.Call.TheVariants.{Visit}
 use Rattle.lt_plain.specs.declared.call.Reply.TheVariants.{Passed, MustWait}
-use Rattle.lt_plain.specs.Record.{Record, empty}
-use Rattle.lt_plain.specs.Step.{Event as KeyEvent, step, IsLegal, IsLegalFrom}
-use Rattle.lt_plain.specs.Holding.{Holds}
+use Rattle.lt_plain.specs.Rules.{Record, empty}
+use Rattle.lt_plain.specs.Step.{Event as KeyEvent, step, IsLegal, IsLegalFrom, Holds}
 use Rattle.lt_plain.specs.Laws.{OneHolder, ReadsPass, IsBelowOthers}
 use Rattle.lt_history.specs.declared.entry.Entry.{Entry}
 use Rattle.lt_history.specs.Histories.{event_of, AreLegalKeys}

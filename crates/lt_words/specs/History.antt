@@ -2,9 +2,9 @@
 -- nothing here, and no legal history has one: so what is counted in a log is what is counted in the history after its opening.
 use Rattle.std.specs.Prelude.{ℕ, ◌≡◌, ◌+◌, ◌==◌, ◌⊎◌, ◌%◌, List, [], ◌∷◌, map, if◌then◌else◌}
 use Rattle.std.specs.List.{sum}
-use Rattle.lt_ids.specs.Ticket.{Wait}
+use Rattle.lt_ids.specs.Ids.{Wait}
 use Rattle.lt_ids.specs.declared.ticket.Through.{Through}
-use Rattle.lt_plain.specs.Record.{Record, empty}
+use Rattle.lt_plain.specs.Rules.{Record, empty}
 use Rattle.lt_plain.specs.Step.{step, record_after}
 use Rattle.lt_history.specs.declared.entry.Entry.{Entry}
 use Rattle.lt_history.specs.Histories.{event_of, AreLegalKeys}

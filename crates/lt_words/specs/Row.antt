@@ -1,5 +1,5 @@
--- The row of words of a book, and what a pass and a front carry.
-use Rattle.std.specs.Prelude.{ℕ, ◌≡◌, ◌+◌, ◌<◌, ◌≤◌, List, [], ◌∷◌, ◌++◌, length, slice_index, slice_index_or, replicate, zero, suc}
+-- The row of words of a book, what a pass and a front carry, and what a step tells its pass.
+use Rattle.std.specs.Prelude.{ℕ, ◌≡◌, ◌+◌, ◌<◌, ◌≤◌, List, [], ◌∷◌, ◌++◌, length, slice_index, slice_index_or, replicate, zero, suc, ◌≢◌, Some, slice_get}
 use mathlib.Core.List.{IsPrefix}
 use Rattle.logbook.specs.Pages.{Book}
 use Rattle.lt_words.specs.declared.event.Event.{Event}
@@ -7,6 +7,7 @@ use Rattle.lt_words.specs.declared.event.Event.TheVariants.{Opened, Draw, Step}
 use Rattle.lt_words.specs.declared.line.Line.{Line}
 use Rattle.lt_words.specs.History.{part}
 use Rattle.lt_words.specs.Rules.{word_at, history_of, IsLog}
+use Rattle.lt_history.specs.declared.entry.Entry.{Entry}
 
 -- how many shards and passes a book may have
 pub record AreSizes (shards passes : ℕ) : Type 0 where
@@ -91,3 +92,17 @@ fresh of number = record { of = of; number = number; seen = []; counts = replica
 abbrev pub fresh_passes : Opening → ℕ → List Seer
 fresh_passes of zero = []
 fresh_passes of (suc n) = fresh_passes of n ++ fresh of (suc n) ∷ []
+
+-- What a step tells its caller, which a table's call that makes one step can hand on as it is.
+-- Between what the pass was and what it is, it made this step: the entry is the pass's own, and stands at this place of the
+-- shard's part of what the pass has then seen, after all that it had seen; the pass counts one more step at the shard, and
+-- none at any other.
+pub record Reports (old new : Seer) (shard at : ℕ) (entry : Entry) : Type 0 where
+  pub own : entry.pass ≡ old.number
+  pub stands : slice_get (part shard new.seen) at ≡ Some entry
+  pub later : length (part shard old.seen) ≤ at
+  pub seen : IsPrefix old.seen new.seen
+  pub counted : slice_index new.counts shard ≡ slice_index old.counts shard + 1
+  pub others : (s : ℕ) → s ≢ shard → slice_index new.counts s ≡ slice_index old.counts s
+  pub of : new.of ≡ old.of
+  pub number : new.number ≡ old.number

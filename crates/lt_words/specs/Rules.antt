@@ -2,7 +2,7 @@
 use Rattle.std.specs.Prelude.{ℕ, ◌≡◌, ◌+◌, ◌-◌, ◌==◌, ◌<◌, ◌≤◌, ◌⊎◌, true, List, [], ◌∷◌, ◌++◌, length, MatchBool}
 use mathlib.Core.List.{IsPrefix}
 use Rattle.logbook.specs.Pages.{Cell, cell, Step as Turn, View, Book, Named}
-use Rattle.lt_ids.specs.Ticket.{Wait, value_of, IsNumber, IsWaitNumber}
+use Rattle.lt_ids.specs.Ids.{Wait, value_of, IsNumber, IsWaitNumber}
 use Rattle.lt_words.specs.declared.event.Event.{Event}
 use Rattle.lt_words.specs.declared.event.Event.TheVariants.{Opened, Draw, Step}
 use Rattle.lt_words.specs.History.{part, draws_of, IsLegalHistory, LetIn}

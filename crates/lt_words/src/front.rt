@@ -1,6 +1,6 @@
 ghost use Rattle.std.specs.Prelude.{◌≡◌, ◌+◌, ◌<◌, ◌≤◌, ◌^◌, ◌∷◌, ◌++◌, List, [], length, MatchBool, IfSome, IfNone};
 ghost use mathlib.Core.List.{IsPrefix};
-ghost use Rattle.lt_ids.specs.Ticket.{Wait, value_of};
+ghost use Rattle.lt_ids.specs.Ids.{Wait, value_of};
 ghost use Rattle.lt_words.specs.declared.event.Event.{Event};
 ghost use Rattle.lt_words.specs.declared.event.Event.TheVariants.{Opened, Draw, Step};
 ghost use Rattle.lt_words.specs.History.{part, draws_of, shard_of, IsLegalHistory, LetIn, MayFollow};

@@ -3,7 +3,7 @@
 use Rattle.std.specs.Prelude.{ℕ, Some, [], ◌∷◌}
 use Rattle.lt_ids.specs.declared.timestamp.Timestamp.{Timestamp}
 use Rattle.lt_ids.specs.declared.request.Access.TheVariants.{Read}
-use Rattle.lt_ids.specs.Ticket.{Wait}
+use Rattle.lt_ids.specs.Ids.{Wait}
 use Rattle.lt_plain.specs.declared.call.Call.TheVariants.{Visit, Acquire, Finish}
 use Rattle.lt_plain.specs.declared.call.Reply.TheVariants.{Taken, MustWait, Freed}
 use Rattle.lt_history.specs.declared.entry.Entry.{Entry}

@@ -1,6 +1,6 @@
 use Rattle.std.proofs.Common.{◌++◌, ◌∙◌, sym, ap, map}
 use Rattle.std.proofs.lemmas.Result.{on_ok_weaker}
-use Rattle.lt_plain.specs.Record.{through_of}
+use Rattle.lt_plain.specs.Rules.{through_of}
 use Rattle.lt_links.specs.declared.ids.QueueKind.TheVariants.{Writers, Readers}
 use Rattle.lt_lock.specs.Linked.{queue_at, line, request_of}
 use Rattle.lt_lock.specs.Found.{waiting_lets, front}

@@ -1,8 +1,7 @@
 use Rattle.std.proofs.Common.{◌∙◌, ap, refl, subst, sym, map, filter, Some}
 use Rattle.std.specs.List.{IsDistinct}
 use Rattle.std.specs.Prelude.{nat_eq, not}
-use Rattle.lt_plain.specs.Record.{Record, through_of}
-use Rattle.lt_plain.specs.Rules.{settle}
+use Rattle.lt_plain.specs.Rules.{Record, through_of, settle}
 use Rattle.lt_plain.specs.Lawful.{numbers}
 use Rattle.lt_links.specs.declared.ids.QueueKind.TheVariants.{Writers}
 use Rattle.lt_lock.specs.declared.walk.Who.TheVariants.{Of}

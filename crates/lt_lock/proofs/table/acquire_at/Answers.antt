@@ -1,7 +1,6 @@
 use Rattle.std.proofs.Common.{◌≡◌, refl, subst, []}
 use Rattle.std.proofs.lemmas.Result.{IfOk-weaker, on_err_weaker}
-use Rattle.lt_plain.specs.Record.{Record}
-use Rattle.lt_plain.specs.Rules.{Outcome, TakesNoMemory, acquire, take_lock}
+use Rattle.lt_plain.specs.Rules.{Record, Outcome, TakesNoMemory, acquire, take_lock}
 use Rattle.lt_plain.specs.Table.{AreSound, IsStep, record_at}
 use Rattle.lt_plain.specs.declared.call.Call.TheVariants.{Acquire}
 use Rattle.lt_plain.proofs.Lawfulness.{step_keeps_lawful}

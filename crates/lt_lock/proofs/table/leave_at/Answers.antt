@@ -1,7 +1,6 @@
 use Rattle.std.proofs.Common.{◌≡◌, refl, subst, sym, ap, ◌∙◌, false}
 use Rattle.std.proofs.lemmas.Result.{IfOk-weaker, on_err_weaker}
-use Rattle.lt_plain.specs.Rules.{Outcome, TakesNoMemory, leave}
-use Rattle.lt_plain.specs.Record.{Record, is_empty}
+use Rattle.lt_plain.specs.Rules.{Outcome, TakesNoMemory, leave, Record, is_empty}
 use Rattle.lt_plain.specs.Table.{AreSound, record_at}
 use Rattle.lt_plain.specs.declared.call.Call.TheVariants.{Leave}
 use Rattle.lt_plain.specs.declared.call.Reply.TheVariants.{Absent}

@@ -2,7 +2,7 @@ use Rattle.std.proofs.Common.{length}
 use Rattle.std.specs.List.{find}
 use Rattle.std.specs.Option.{option_map}
 use Rattle.lt_links.specs.Maps.{queue}
-use Rattle.lt_plain.specs.Record.{is_eligible}
+use Rattle.lt_plain.specs.Rules.{is_eligible}
 use Rattle.lt_lock.specs.Linked.{line, request_of, writer_of}
 use Rattle.lt_lock.proofs.Places.{rest_from}
 use Rattle.lt_lock.proofs.Walks.{IsWalk, found_in}

@@ -1,6 +1,6 @@
 use Rattle.std.proofs.Common.{ℕ, List, [], ◌∷◌, ◌++◌, ◌≡◌, ◌∙◌, sym, ap, refl, subst}
 use Rattle.lt_links.specs.Maps.{queue}
-use Rattle.lt_plain.specs.Record.{through_of}
+use Rattle.lt_plain.specs.Rules.{through_of}
 use Rattle.lt_lock.specs.Linked.{line, request_of, IsNamed}
 use Rattle.lt_lock.proofs.Written.{stand_is}
 use Rattle.lt_lock.proofs.Places.{rest_falls}

@@ -1,5 +1,5 @@
 use Rattle.std.proofs.Common.{length, ap, subst}
-use Rattle.lt_table.specs.Runs.{WalkState}
+use Rattle.lt_table.specs.Machine.{WalkState}
 use Rattle.lt_table.specs.Sound.{IsSound}
 use Rattle.lt_table.proofs.WentOn.{went_on, scan_stays, waits_inside}
 use Rattle.lt_table.proofs.Stopping.{too_long, long_inside}

@@ -1,5 +1,5 @@
 use Rattle.std.proofs.Common.{sym, ◌∙◌, rules}
-use Rattle.lt_table.specs.Runs.{Step}
+use Rattle.lt_table.specs.Machine.{Step}
 use Rattle.lt_table.specs.Reported.{GuardState, Reported}
 use Rattle.lt_table.proofs.Going.{next_visit-is}
 use Rattle.lt_table.proofs.UnderWay.{IsUnderWay-more}

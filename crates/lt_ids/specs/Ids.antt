@@ -1,8 +1,18 @@
-use Rattle.std.specs.Prelude.{ℕ, ◌==◌, Bool, ◌+◌, ◌*◌, ◌/◌, ◌%◌, ◌^◌, ◌<◌, ◌≤◌}
-use Rattle.std.specs.Ordering.{on, eq_of_both}
+-- Timestamps, and the numbers of requests and of their waits.
+use Rattle.std.specs.Prelude.{Bool, ℕ, ◌==◌, ◌+◌, ◌*◌, ◌/◌, ◌%◌, ◌^◌, ◌<◌, ◌≤◌}
+use Rattle.std.specs.Ordering.{nat_cmp, on, then_cmp, is_lt, eq_of_both}
+use Rattle.std.specs.declared.cmp.Ordering.{Ordering}
+use Rattle.lt_ids.specs.declared.timestamp.Timestamp.{Timestamp}
 use Rattle.std.specs.Cmp.{IsEquivalence}
 use Rattle.std.specs.Cmp.Rules.{comparing}
 use Rattle.std.proofs.Common.{rules}
+
+-- by wall, then by logical
+abbrev pub timestamp_cmp : Timestamp → Timestamp → Ordering
+timestamp_cmp = then_cmp (on (λ t. t.wall) nat_cmp) (on (λ t. t.logical) nat_cmp)
+
+abbrev pub is_below : Timestamp → Timestamp → Bool
+is_below a b = is_lt (timestamp_cmp a b)
 
 -- one wait: the number of the request, and which of its waits it is
 pub record Wait : Type 0 where
