@@ -19,7 +19,7 @@ use lt_table::{Config, Guard, Histories, Poll, Ready, Scan, Table, open, prepare
 use lt_table_player::holds::Holds;
 use lt_table_player::run::{close_all, seated};
 use lt_table_player::seat::Seat;
-use lt_words::{Name, Pass};
+use lt_words::Name;
 use std::alloc::Global;
 use std::hint;
 use std::marker::Brand;
@@ -225,85 +225,87 @@ fn scan_on<N: Name, T: KeyTable, R: Wait>(
     None
 }
 
-/// Ends the round. None where the leave is refused.
-fn leave<N: Name, T: KeyTable, R: Wait>(
-    rt: &R,
-    table: &Table<N, T>,
-    tally: &mut Tally,
-    guard: Guard,
-) -> Option<Pass>
-    requires { guard.pass.of ≡ N.of }
-    ensures { IfSome result (λ pass. pass.of ≡ N.of) }
-{
-    let steps = guard.keys().len() as u64;
-    match table.leave(rt, guard) {
-        Ok(left) => {
-            tally.steps = tally.steps.saturating_add(steps);
-            Some(left.pass)
-        }
-        Err(_) => None,
-    }
-}
-
-/// Begins a round: enters and scans, and leaves at once where the scan's waits come to nothing. None where a call is
-/// refused.
-fn begin<N: Name, T: KeyTable, R: Wait>(
+/// A request enters through the pass that is seated alone. None where that is refused.
+fn enter<N: Name, T: KeyTable, R: Wait>(
     rt: &R,
     alloc: Global,
     table: &Table<N, T>,
     keys: &[Key],
     plan: &Plan,
     course: &mut Course,
-    pass: Pass,
-) -> Option<Seat<N>>
-    requires pass { pass.of ≡ N.of }
-    requires keys { 0 < length keys.now }
+    seat: &mut Option<Seat<N>>,
+) -> Option<()>
+    requires { 0 < length keys.now }
 {
     let accesses = next_accesses(keys, course)?;
-    let ts = at(course.round);
-    let Ok(mut guard) = table.enter(rt, alloc, pass, Some(plan.txn), ts, &accesses, 0) else {
+    let pass = seat.take()?.into_pass()?;
+    let txn = Some(plan.txn);
+    let Ok(guard) = table.enter(rt, alloc, pass, txn, at(course.round), &accesses, 0) else {
         return None;
     };
-    if scan_on(rt, table, plan, &mut course.tally, &mut guard)? {
-        course.stage = Stage::Acquire;
-        return Some(Seat::open(guard));
-    }
-    Some(Seat::free(leave(rt, table, &mut course.tally, guard)?))
+    *seat = Some(Seat::open(guard));
+    Some(())
 }
 
-/// Goes on with a round: acquires, finishes or leaves.
-fn go_on<N: Name, T: KeyTable, R: Wait>(
+/// Scans for the seated request: whether it proceeds. None where no request is seated, or a scan is refused.
+fn scan<N: Name, T: KeyTable, R: Wait>(
     rt: &R,
     table: &Table<N, T>,
-    keys: &[Key],
     plan: &Plan,
     course: &mut Course,
-    mut guard: Guard,
-) -> Option<Seat<N>>
-    requires { guard.pass.of ≡ N.of }
-{
-    let key = keys.get(course.write)?;
-    match course.stage {
-        Stage::Acquire => {
-            let ts = at(course.round);
-            table.acquire_in(rt, &mut guard, key, plan.txn, ts).ok()?;
-            course.stage = Stage::Finish;
-        }
-        Stage::Finish => {
-            table.finish_in(rt, &mut guard, key, plan.txn).ok()?;
-            course.stage = Stage::Leave;
-        }
-        Stage::Enter | Stage::Leave => {
-            course.stage = Stage::Enter;
-            let pass = leave(rt, table, &mut course.tally, guard)?;
-            return Some(Seat::free(pass));
-        }
+    seat: &mut Seat<N>,
+) -> Option<bool> {
+    match &mut seat.holds {
+        Holds::Open(guard) => scan_on(rt, table, plan, &mut course.tally, guard),
+        Holds::Free(_) => None,
     }
-    course.tally.steps = course.tally.steps.saturating_add(1);
-    Some(Seat::open(guard))
 }
 
-/// Makes one stage of a round. None where a call is refused.
+/// Ends the round. None where the leave is refused.
+fn leave<N: Name, T: KeyTable, R: Wait>(
+    rt: &R,
+    table: &Table<N, T>,
+    course: &mut Course,
+    seat: &mut Option<Seat<N>>,
+) -> Option<()> {
+    let guard = seat.take()?.into_guard()?;
+    let steps = guard.keys().len() as u64;
+    let Ok(left) = table.leave(rt, guard) else {
+        return None;
+    };
+    course.tally.steps = course.tally.steps.saturating_add(steps);
+    course.stage = Stage::Enter;
+    *seat = Some(Seat::free(left.pass));
+    Some(())
+}
+
+/// Makes a step of the seated request's transaction at the key that it writes: acquires it, or finishes there. None where no
+/// request is seated, or the call is refused.
+fn make_step<N: Name, T: KeyTable, R: Wait>(
+    rt: &R,
+    table: &Table<N, T>,
+    key: &Key,
+    plan: &Plan,
+    course: &mut Course,
+    seat: &mut Seat<N>,
+) -> Option<()> {
+    let Holds::Open(guard) = &mut seat.holds else {
+        return None;
+    };
+    if course.stage == Stage::Acquire {
+        let ts = at(course.round);
+        table.acquire_in(rt, guard, key, plan.txn, ts).ok()?;
+        course.stage = Stage::Finish;
+    } else {
+        table.finish_in(rt, guard, key, plan.txn).ok()?;
+        course.stage = Stage::Leave;
+    }
+    course.tally.steps = course.tally.steps.saturating_add(1);
+    Some(())
+}
+
+/// Makes one stage of a round: enters and scans, and leaves at once where the scan's waits come to nothing; or acquires,
+/// finishes or leaves. None where a call is refused.
 fn turn<N: Name, T: KeyTable, R: Wait>(
     rt: &R,
     alloc: Global,
@@ -314,12 +316,21 @@ fn turn<N: Name, T: KeyTable, R: Wait>(
     requires { 0 < length keys.now }
 {
     let Driver { seat, plan, course } = driver;
-    let next = match seat.take()?.into_holds() {
-        Holds::Free(pass) => begin(rt, alloc, table, keys, plan, course, pass)?,
-        Holds::Open(guard) => go_on(rt, table, keys, plan, course, guard)?,
-    };
-    *seat = Some(next);
-    Some(())
+    match course.stage {
+        Stage::Enter => {
+            enter(rt, alloc, table, keys, plan, course, seat)?;
+            if !scan(rt, table, plan, course, seat.as_mut()?)? {
+                return leave(rt, table, course, seat);
+            }
+            course.stage = Stage::Acquire;
+            Some(())
+        }
+        Stage::Acquire | Stage::Finish => {
+            let key = keys.get(course.write)?;
+            make_step(rt, table, key, plan, course, seat.as_mut()?)
+        }
+        Stage::Leave => leave(rt, table, course, seat),
+    }
 }
 
 /// Whether the pass has made its steps, and stands between two rounds.

@@ -111,7 +111,10 @@ fn told(alloc: Global, error: &Error) -> anyhow::Result<Job> {
     let text = format!(in alloc; "{error}")?;
     match error.kind() {
         ErrorKind::DisplayHelp => Ok(Job::Help(text)),
-        _ => bail!("{text}"),
+        _ => match text.strip_prefix("error: ") {
+            Some(fault) => bail!("{fault}"),
+            None => bail!("{text}"),
+        },
     }
 }
 

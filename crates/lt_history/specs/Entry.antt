@@ -1,7 +1,6 @@
--- One step of a key as contracts see it, and how its call and its reply are kept.
-use Rattle.std.specs.Prelude.{ℕ, Bool, Some, None, List}
+-- How an entry keeps the call and the reply of its step.
+use Rattle.std.specs.Prelude.{ℕ, Bool, Some, None}
 use Rattle.lt_ids.specs.Ids.{Wait}
-use Rattle.lt_ids.specs.declared.ticket.Through.{Through}
 use Rattle.lt_ids.specs.declared.timestamp.Timestamp.{Timestamp}
 use Rattle.lt_ids.specs.declared.request.Access.{Access}
 use Rattle.lt_plain.specs.declared.call.Call.{Call}
@@ -12,14 +11,6 @@ use Rattle.lt_history.specs.declared.entry.CallKind.{CallKind}
 use Rattle.lt_history.specs.declared.entry.CallKind.TheVariants.{OwnedVisit, UnownedVisit, Acquire, Update, Finish, Leave, Look}
 use Rattle.lt_history.specs.declared.entry.ReplyKind.{ReplyKind}
 use Rattle.lt_history.specs.declared.entry.ReplyKind.TheVariants.{Passed, MustWait, TooLong, Taken, Kept, Raised, Other, Freed, Left, Absent, Nothing, Reserved, Idle, WaitFor, WaitFirst, WaitOwn}
-
--- Which key, which pass, what it called, what the key answered, and whom the step let through, in order.
-pub record EntryState : Type 0 where
-  pub key : List ℕ
-  pub pass : ℕ
-  pub call : Call
-  pub reply : Reply
-  pub lets : List Through
 
 -- a call by its parts; what its kind does not have is not looked at
 abbrev pub call_of : CallKind → Wait → ℕ → Timestamp → Access → ℕ → Call

@@ -1,5 +1,5 @@
 ghost use Rattle.std.specs.Prelude.{◌≡◌, ◌==◌, ◌<◌, ◌≤◌, ◌+◌, ◌^◌, ℕ, if◌then◌else◌, List, [], ◌∷◌, IfOk, IfErr, length, ◌++◌};
-ghost use Rattle.lt_history.specs.Place.{spot_of, spot};
+ghost use Rattle.lt_history.specs.Place.{spot};
 ghost use Rattle.lt_history.specs.Lines.{IsLine, line_text, parts_of};
 ghost use Rattle.lt_history.specs.Text.{IsOf, IsShapelessIn, TakesLine, HasFaultOr, Fails};
 ghost use Rattle.lt_history.specs.Version.{IsVersion, header_of, is_first, is_too_long, is_of_version};
@@ -8,7 +8,7 @@ ghost use Rattle.lt_history.specs.Verdict.{located, Judges, Says, IsLegalText, I
 
 use crate::error::{Fault, Refusal};
 use crate::line::{Line, Step, read_line};
-use crate::place::{Place, follow};
+use crate::place::{Place, follow, start};
 use lt_plain::{Call, Reply};
 use lt_text::words::cut;
 use std::alloc::Global;
@@ -70,22 +70,22 @@ fn line_of(alloc: Global, version: u8, bytes: &[u8]) -> Result<Line, Refusal>
 
 /// Goes on by the line at the front, and gives what stands after it.
 #[tactic(auto, using(crate::proofs::LineLaws::uncut_is_shapeless, crate::proofs::LineLaws::shapeless, crate::proofs::LineLaws::wrong, crate::proofs::LineLaws::takes))]
-fn first_line(
+fn first_line<'a>(
     alloc: Global,
     version: u8,
-    place: Option<Place>,
-    text: &[u8],
-) -> Result<(Place, &[u8]), Refusal>
+    place: &mut Place,
+    text: &'a [u8],
+) -> Result<&'a [u8], Refusal>
     requires { 0 < length text.now }
-    ensures ok { IfOk result (λ next. TakesLine version (spot_of place) text.now (spot next.0) next.1.now) }
-    ensures err { IfErr result (λ e. HasFaultOr version (spot_of place) text.now e) }
+    ensures ok { IfOk result (λ rest. TakesLine version (spot place.old) text.now (spot place.new) rest.now) }
+    ensures err { IfErr result (λ e. HasFaultOr version (spot place.old) text.now e) }
 {
     let Some((bytes, rest)) = cut(text, b'\n') else {
         return Err(Refusal::Fault(Fault::Shape));
     };
     let line = line_of(alloc, version, bytes)?;
-    let place = follow(alloc, place, line)?;
-    Ok((place, rest))
+    follow(alloc, place, &line)?;
+    Ok(rest)
 }
 
 fn located(refusal: Refusal, line: usize) -> CheckError
@@ -122,7 +122,7 @@ fn check_lines(alloc: Global, version: u8, lines: &[u8]) -> Result<Report, Check
     requires room { length lines.now + 8 < 2 ^ 64 }
     ensures { Judges (header_of version ++ lines.now) result }
 {
-    let mut place = None;
+    let mut place = start(alloc);
     let mut report = Report {
         version,
         keys: 0,
@@ -130,10 +130,9 @@ fn check_lines(alloc: Global, version: u8, lines: &[u8]) -> Result<Report, Check
     };
     let mut rest = lines;
     while !rest.is_empty() {
-        match first_line(alloc, version, place, rest) {
-            Ok((next, after)) => {
-                report = counted(report, next.index);
-                place = Some(next);
+        match first_line(alloc, version, &mut place, rest) {
+            Ok(after) => {
+                report = counted(report, place.index);
                 rest = after;
             }
             Err(refusal) => return Err(located(refusal, report.steps + 2)),

@@ -12,8 +12,8 @@ use Rattle.lt_words.proofs.Prefixes.{prefix_trans, prefix_length, prefix_get}
 use Rattle.lt_words.proofs.Draws.{numbers_are_drawn_once}
 use Rattle.lt_words.proofs.Histories.{part_length, part_prefix}
 use Rattle.lt_table.specs.Machine as runs
-use Rattle.lt_table.specs.Reported.{shard_at, Reported, AreReported, steps_at}
-use Rattle.lt_table.specs.Laws.{Stands, ReportedStand, PlacesRise, NumbersOfGuardsDiffer, ReportedStandAtClose}
+use Rattle.lt_table.specs.Reported.{shard_at, Reported, AreReported, steps_at, PlacesRise}
+use Rattle.lt_table.specs.Laws.{Stands, ReportedStand, NumbersOfGuardsDiffer, ReportedStandAtClose}
 
 pub prefix_same : {A : Type 0} (xs ys : List A) → ys ≡ xs → IsPrefix xs ys
 prefix_same xs ys e = ([], append-nil xs ∙ sym e)

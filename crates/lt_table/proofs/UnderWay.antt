@@ -6,8 +6,7 @@ use Rattle.lt_table.specs.Sound.{IsSound}
 use mathlib.Core.List.{IsPrefix}
 use Rattle.lt_ids.specs.Ids.{Wait, IsNumber, IsWaitNumber, value_of}
 use Rattle.lt_words.specs.declared.event.Event.{Event}
-use Rattle.lt_words.specs.History.{LetIn}
-use Rattle.lt_words.specs.Rules.{IsStatus}
+use Rattle.lt_words.specs.History.{LetIn, IsStatus}
 use Rattle.lt_words.specs.Row.{Seer}
 use Rattle.lt_words.proofs.Histories.{let_later}
 use Rattle.lt_table.specs.declared.progress.Mode.{Mode}

@@ -1,5 +1,5 @@
--- What is left of a table that is closed.
-use Rattle.std.specs.Prelude.{ℕ, ◌≡◌, ◌+◌, ◌<◌, ◌≤◌, ◌++◌, List, [], ◌∷◌, map, length, slice_index, slice_index_or}
+-- What is left by a leave, and of a table that is closed.
+use Rattle.std.specs.Prelude.{ℕ, ◌≡◌, ◌+◌, ◌<◌, ◌≤◌, ◌++◌, List, [], ◌∷◌, map, length, slice_index, slice_index_or, Result, Ok, Err}
 use Rattle.std.specs.Global.{Vec}
 use Rattle.std.specs.List.{AllByRecursion}
 use mathlib.Core.List.{IsPrefix}
@@ -11,7 +11,14 @@ use Rattle.lt_words.specs.Row.{Opening, Seer}
 use Rattle.lt_shard.specs.Shards.{View}
 use Rattle.lt_table.specs.declared.closing.CloseError.{CloseError}
 use Rattle.lt_table.specs.declared.closing.CloseError.TheVariants.{PassesOut, Memory, Counts}
-use Rattle.lt_table.specs.Reported.{GuardState}
+use Rattle.lt_table.specs.declared.leaving.Left.{Left}
+use Rattle.lt_table.specs.declared.leaving.LeaveStopped.{LeaveStopped}
+use Rattle.lt_table.specs.Reported.{GuardState, AllLeft, StoppedLeaving}
+
+-- What a leave answers.
+abbrev pub IsLeave : GuardState → Result Left LeaveStopped → Type 0
+IsLeave old (Ok left) = AllLeft old left.pass left.answers.items
+IsLeave old (Err e) = StoppedLeaving old e.guard
 
 -- how many steps these passes made at a shard
 abbrev pub counts_at : ℕ → List Seer → ℕ

@@ -70,11 +70,6 @@ ProceedHasPassedEach = (max_waits : ℕ) (old new : GuardState) (shards : ℕ) �
 abbrev pub ThroughGoesOn : Type 0
 ThroughGoesOn = (number : ℕ) (p : Progress) (word word' : ℕ) → polled (heard number p word) ≡ Through → IsOk (scan_start (heard number (heard number p word) word'))
 
--- Of two steps that a pass reports of one shard, the later one has the greater place.
-abbrev pub PlacesRise : Type 0
-PlacesRise = (first second third last : Seer) (x y : Step) → Reported first second x → IsPrefix second.seen third.seen → Reported third last y →
-    shard_at first x ≡ shard_at third y → x.answer.at < y.answer.at
-
 -- Guards that entered by different passes, or the one after what the other's pass had then seen, have different numbers,
 -- where what both passes have seen begins one legal history.
 abbrev pub NumbersOfGuardsDiffer : Type 0

@@ -1,7 +1,6 @@
 pub mod Keys
 pub mod Machine
 pub mod Reported
-pub mod Leaving
 pub mod Entered
 pub mod Configs
 pub mod Closed

@@ -1,10 +1,9 @@
 -- What a call of the table tells of the steps that it made through a pass.
-use Rattle.std.specs.Prelude.{ℕ, ◌≡◌, ◌+◌, nat_eq, if◌then◌else◌, List, [], ◌∷◌, Result}
+use Rattle.std.specs.Prelude.{ℕ, ◌≡◌, ◌+◌, nat_eq, if◌then◌else◌, ◌<◌, List, [], ◌∷◌, Result}
 use mathlib.Core.List.{IsPrefix}
 use Rattle.lt_ids.specs.Ids.{Wait}
 use Rattle.lt_history.specs.declared.entry.Entry.{Entry}
-use Rattle.lt_words.specs.History.{shard_of}
-use Rattle.lt_words.specs.Rules.{IsStatus}
+use Rattle.lt_words.specs.History.{shard_of, IsStatus}
 use Rattle.lt_words.specs.Row.{Seer, SeesMore, Reports}
 use Rattle.lt_shard.specs.declared.answer.Answer.{Answer}
 use Rattle.lt_table.specs.declared.scan.Scan.{Scan}
@@ -91,3 +90,8 @@ pub record StoppedLeaving (old guard : GuardState) : Type 0 where
   pub steps : List Step
   pub reported : AreReported old.pass steps guard.pass
   pub stopped : IsRefusedLeave old.walk steps guard.walk
+
+-- Of two steps that a pass reports of one shard, the later one has the greater place.
+abbrev pub PlacesRise : Type 0
+PlacesRise = (first second third last : Seer) (x y : Step) → Reported first second x → IsPrefix second.seen third.seen → Reported third last y →
+    shard_at first x ≡ shard_at third y → x.answer.at < y.answer.at

@@ -1,7 +1,8 @@
 //! What follows from what the calls of a table tell.
 //!
 //! Each law is the contract of a function without work, over the definitions alone.
-ghost use Rattle.lt_table.specs.Laws.{OneKeyList, ReportedStand, ProceedHasPassedEach, ThroughGoesOn, PlacesRise, NumbersOfGuardsDiffer, ReportedStandAtClose};
+ghost use Rattle.lt_table.specs.Laws.{OneKeyList, ReportedStand, ProceedHasPassedEach, ThroughGoesOn, NumbersOfGuardsDiffer, ReportedStandAtClose};
+ghost use Rattle.lt_table.specs.Reported.{PlacesRise};
 
 /// The accesses of a request decide its key list.
 pub fn one_key_list()

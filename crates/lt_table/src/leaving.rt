@@ -1,7 +1,7 @@
 //! Leaves.
 ghost use Rattle.std.specs.Prelude.{◌≡◌, IfOk, IfErr, OnOk, OnErr, IsSome, None};
 ghost use Rattle.lt_table.specs.Machine.{next_leave, leaving};
-ghost use Rattle.lt_table.specs.Leaving.{IsLeave};
+ghost use Rattle.lt_table.specs.Closed.{IsLeave};
 ghost use Rattle.lt_table.specs.Reported.{IsLeavingFrom, PassStays, GuardStays};
 
 use crate::guard::Guard;

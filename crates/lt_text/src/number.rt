@@ -1,29 +1,32 @@
-ghost use Rattle.std.specs.Prelude.{◌≡◌, ℕ, ◌<◌, ◌^◌, decimal, Some};
-ghost use Rattle.lt_text.specs.Number.{number_of};
+ghost use Rattle.std.specs.Prelude.{◌≡◌, MatchOption};
+ghost use Rattle.std.specs.Str.Parse.{AllDigits, digits_value};
+ghost use Rattle.lt_text.specs.Number.{number_of, IsNoNumber};
 
-use itoa::Buffer;
-
-/// Reads digits. What is no number's text may be read, too.
-#[tactic(auto, using(crate::proofs::Numbers::not_text))]
-fn loose_number(word: &[u8]) -> Option<u64>
-    ensures { (n : ℕ) → n < 2 ^ 64 → word.now ≡ decimal n → result ≡ Some n }
+/// The number below `2^64` that the digits spell, leading zeros or none.
+#[tactic(auto, using(crate::proofs::Numbers::not_a_digit, crate::proofs::Numbers::too_large, crate::proofs::Numbers::one_more))]
+fn value(digits: &[u8]) -> Option<u64>
+    ensures { MatchOption result (IsNoNumber digits.now) (λ n. AllDigits 10 digits.now × (n ≡ digits_value 10 digits.now)) }
 {
-    let Ok(text) = str::from_utf8(word) else {
-        return None;
-    };
-    match text.parse() {
-        Ok(n) => Some(n),
-        Err(_) => None,
+    let mut n = 0u64;
+    for &digit in digits {
+        if !digit.is_ascii_digit() {
+            return None;
+        }
+        n = n.checked_mul(10)?.checked_add(u64::from(digit - b'0'))?;
     }
+    Some(n)
 }
 
 /// The number below `2^64` that the word spells in digits, the first no zero unless it is the only one.
-#[tactic(auto, using(crate::proofs::Numbers::number_of_none, crate::proofs::Numbers::number_of_some))]
+#[tactic(auto, using(crate::proofs::Numbers::number_of_none, crate::proofs::Numbers::no_word, crate::proofs::Numbers::leading_zero, crate::proofs::Numbers::number_of_digits))]
 pub fn number(word: &[u8]) -> Option<u64>
     ensures { result ≡ number_of word.now }
 {
-    let n = loose_number(word)?;
-    let mut buffer = Buffer::new();
-    let is_its_text = buffer.format(n).as_bytes() == word;
-    if is_its_text { Some(n) } else { None }
+    if word.is_empty() {
+        return None;
+    }
+    if word[0] == b'0' && word.len() > 1 {
+        return None;
+    }
+    value(word)
 }

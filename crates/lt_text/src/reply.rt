@@ -1,6 +1,7 @@
-ghost use Rattle.std.specs.Prelude.{◌≡◌};
+ghost use Rattle.std.specs.Prelude.{◌≡◌, []};
+ghost use Rattle.std.specs.Str.{bytes_eq};
 ghost use Rattle.lt_text.specs.Calls.{Gives};
-ghost use Rattle.lt_text.specs.Replies.{reply_name, fixed_reply, held_of, waits_at, own_at, reply_of, reply_at, is_reply_of, is_visit_reply, is_acquire_reply, is_update_reply, is_finish_reply, is_leave_reply, is_look_reply};
+ghost use Rattle.lt_text.specs.Replies.{reply_name, reply_numbers, fixed_reply, held_of, waits_at, own_at, reply_of, reply_at, is_reply_of, is_visit_reply, is_acquire_reply, is_update_reply, is_finish_reply, is_leave_reply, is_look_reply};
 
 use crate::field::txn;
 use crate::words::Words;
@@ -47,11 +48,49 @@ const FIXED: [Reply; 13] = [
     Reply::Idle,
 ];
 
-#[tactic(auto, unfolding(crate::specs::Replies::fixed_reply))]
+/// Whether the word is the reply's first.
+fn is_spelled(reply: &Reply, word: &[u8]) -> bool
+    ensures { result ≡ bytes_eq (reply_name reply.now) word.now }
+{
+    name(*reply) == word
+}
+
+/// The reply of one word that is tried before the others: by its length and its first byte, the word can spell no other.
+fn likely(word: &[u8]) -> Reply
+    ensures { reply_numbers result ≡ [] }
+{
+    let Some(first) = word.first() else {
+        return Reply::Passed;
+    };
+    match (word.len(), *first) {
+        (4, b'w') => Reply::MustWait,
+        (5, b't') => Reply::Taken,
+        (4, b'k') => Reply::Kept,
+        (6, b'r') => Reply::Raised,
+        (5, b'o') => Reply::Other,
+        (5, b'f') => Reply::Freed,
+        (4, b'l') => if word[1] == b'o' {
+            Reply::TooLong
+        } else {
+            Reply::Left
+        },
+        (6, b'a') => Reply::Absent,
+        (7, b'n') => Reply::Nothing,
+        (8, b'r') => Reply::Reserved,
+        (4, b'i') => Reply::Idle,
+        _ => Reply::Passed,
+    }
+}
+
+#[tactic(auto, unfolding(crate::specs::Replies::fixed_reply), using(crate::proofs::ReplyLaws::named_is_fixed))]
 fn fixed(word: &[u8]) -> Option<Reply>
     ensures { result ≡ fixed_reply word.now }
 {
-    FIXED.iter().copied().find(|r| name(*r) == word)
+    let likely = likely(word);
+    if is_spelled(&likely, word) {
+        return Some(likely);
+    }
+    FIXED.iter().copied().find(|r| is_spelled(r, word))
 }
 
 /// Whether the lock is held; else it is reserved.

@@ -7,8 +7,8 @@ use Rattle.logbook.specs.Pages.{Cell, cell}
 use Rattle.lt_history.specs.declared.entry.Entry.{Entry}
 use Rattle.lt_words.specs.declared.event.Event.{Event}
 use Rattle.lt_words.specs.declared.event.Event.TheVariants.{Draw, Step}
-use Rattle.lt_words.specs.History.{part, draws_of, shard_of, MayFollow}
-use Rattle.lt_words.specs.Rules.{IsKept, IsStatus, ShowsLet}
+use Rattle.lt_words.specs.History.{part, draws_of, shard_of, MayFollow, IsStatus, ShowsLet}
+use Rattle.lt_words.specs.Rules.{IsKept}
 use Rattle.lt_words.proofs.Histories.{part-append, draws_of-append, let_more, legal_draw, legal_step}
 
 abbrev pub off : Cell

@@ -15,16 +15,15 @@ use Rattle.lt_ids.specs.declared.request.Access.TheVariants.{Read}
 use Rattle.lt_plain.specs.declared.call.Call.TheVariants.{Visit}
 use Rattle.lt_plain.specs.declared.call.Reply.TheVariants.{Passed, MustWait}
 use Rattle.lt_plain.specs.Rules.{Record, empty}
-use Rattle.lt_plain.specs.Step.{Event as KeyEvent, step, IsLegal, IsLegalFrom, Holds}
-use Rattle.lt_plain.specs.Laws.{OneHolder, ReadsPass, IsBelowOthers}
+use Rattle.lt_plain.specs.Step.{Event as KeyEvent, step, IsLegal, IsLegalFrom, Holds, IsBelowOthers}
+use Rattle.lt_plain.specs.Laws.{OneHolder, ReadsPass}
 use Rattle.lt_history.specs.declared.entry.Entry.{Entry}
 use Rattle.lt_history.specs.Histories.{event_of, AreLegalKeys}
 use Rattle.lt_history.specs.Histories.{part as key_part}
 use Rattle.lt_history.proofs.Keys.{same_key}
 use Rattle.lt_words.specs.declared.event.Event.{Event}
 use Rattle.lt_words.specs.declared.event.Event.TheVariants.{Opened, Draw, Step}
-use Rattle.lt_words.specs.History.{part, steps_of, shard_of, DrawsCount, StepsAtHome, IsLegalHistory}
-use Rattle.lt_words.specs.Laws.{key_history}
+use Rattle.lt_words.specs.History.{part, steps_of, shard_of, DrawsCount, StepsAtHome, IsLegalHistory, key_history}
 use Rattle.lt_words.proofs.Histories.{steps_of-append, part_prefix, key_in_part}
 use Rattle.lt_words.proofs.Prefixes.{prefix_get}
 

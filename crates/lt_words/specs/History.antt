@@ -1,16 +1,20 @@
 -- What a list of draws and steps says, and which lists are legal histories. The opening, which is a log's first entry, says
 -- nothing here, and no legal history has one: so what is counted in a log is what is counted in the history after its opening.
-use Rattle.std.specs.Prelude.{ℕ, ◌≡◌, ◌+◌, ◌==◌, ◌⊎◌, ◌%◌, List, [], ◌∷◌, map, if◌then◌else◌}
+use Rattle.std.specs.Prelude.{ℕ, ◌≡◌, ◌+◌, ◌==◌, ◌⊎◌, ◌%◌, List, [], ◌∷◌, map, if◌then◌else◌, Option, ◌++◌}
 use Rattle.std.specs.List.{sum}
-use Rattle.lt_ids.specs.Ids.{Wait}
+use Rattle.lt_ids.specs.Ids.{Wait, IsNumber, IsWaitNumber, value_of}
 use Rattle.lt_ids.specs.declared.ticket.Through.{Through}
 use Rattle.lt_plain.specs.Rules.{Record, empty}
-use Rattle.lt_plain.specs.Step.{step, record_after}
+use Rattle.lt_plain.specs.Step.{step, record_after, Event as KeyEvent, Holds, IsBelowOthers}
 use Rattle.lt_history.specs.declared.entry.Entry.{Entry}
 use Rattle.lt_history.specs.Histories.{event_of, AreLegalKeys}
 use Rattle.lt_history.specs.Histories.{part as key_part}
 use Rattle.lt_words.specs.declared.event.Event.{Event}
 use Rattle.lt_words.specs.declared.event.Event.TheVariants.{Opened, Draw, Step}
+use Rattle.lt_ids.specs.declared.timestamp.Timestamp.{Timestamp}
+use Rattle.lt_ids.specs.declared.request.Access.TheVariants.{Read}
+use Rattle.lt_plain.specs.declared.call.Call.TheVariants.{Visit}
+use Rattle.lt_plain.specs.declared.call.Reply.TheVariants.{Passed, MustWait}
 
 -- the shard of a key, among so many: the sum of its bytes
 abbrev pub shard_of : List ℕ → ℕ → ℕ
@@ -85,3 +89,32 @@ DrewIn [] p n = ⊥
 DrewIn (Opened shards passes ∷ h) p n = DrewIn h p n
 DrewIn (Draw pass number ∷ h) p n = ((pass ≡ p) × (number ≡ n)) ⊎ DrewIn h p n
 DrewIn (Step shard entry ∷ h) p n = DrewIn h p n
+
+-- The value of a ticket of this pass that was let through.
+pub record ShowsLet (h : List Event) (pass n : ℕ) : Type 0 where
+  pub ticket : Wait
+  pub number : IsNumber ticket.number
+  pub wait : IsWaitNumber ticket.wait
+  pub value : n ≡ value_of ticket
+  pub through : LetIn h pass ticket
+
+-- 0, or the value of a ticket of this pass that was let through
+abbrev pub IsStatus : List Event → ℕ → ℕ → Type 0
+IsStatus h pass n = (n ≡ 0) ⊎ ShowsLet h pass n
+
+-- ---- of any steps that are legal for each key, as a shard's part is
+
+-- the history of a key among these steps
+abbrev pub key_history : List ℕ → List Entry → List KeyEvent
+key_history key es = map event_of (key_part key es)
+
+-- At no place of a key's history do two transactions hold the lock.
+abbrev pub OneHolderAtEachKey : Type 0
+OneHolderAtEachKey = (es : List Entry) (key : List ℕ) (past rest : List KeyEvent) (T U : ℕ) → AreLegalKeys es →
+    key_history key es ≡ past ++ rest → Holds past T → Holds past U → T ≡ U
+
+-- A read passes exactly where each other holder's stamp is above its time, and else has to wait.
+abbrev pub ReadsPassAtEachKey : Type 0
+ReadsPassAtEachKey = (es : List Entry) (key : List ℕ) (past rest : List KeyEvent) (e : KeyEvent) (ticket : Wait) (txn : Option ℕ) (ts : Timestamp) (longest : ℕ) → AreLegalKeys es →
+    key_history key es ≡ past ++ e ∷ rest → e.call ≡ Visit ticket txn ts Read longest →
+    ((e.reply ≡ Passed) × IsBelowOthers past txn ts) ⊎ ((e.reply ≡ MustWait) × (IsBelowOthers past txn ts → ⊥))

@@ -1,18 +1,11 @@
 -- Laws of table histories. What a pass or a front has seen is a legal one, and it only grows: so of two histories below
 -- where one is a beginning of the other, the first is what was seen at some time, and the other what is seen later.
-use Rattle.std.specs.Prelude.{ℕ, ◌≡◌, ◌+◌, ◌<◌, ◌≤◌, ◌⊎◌, Option, Some, List, ◌∷◌, ◌++◌, map, slice_get}
+use Rattle.std.specs.Prelude.{ℕ, ◌≡◌, ◌+◌, ◌<◌, ◌≤◌, Some, List, ◌∷◌, ◌++◌, slice_get}
 use Rattle.std.specs.List.{AllByRecursion}
 use mathlib.Core.List.{IsPrefix}
 use Rattle.lt_ids.specs.Ids.{Wait}
-use Rattle.lt_ids.specs.declared.timestamp.Timestamp.{Timestamp}
-use Rattle.lt_ids.specs.declared.request.Access.TheVariants.{Read}
-use Rattle.lt_plain.specs.declared.call.Call.TheVariants.{Visit}
-use Rattle.lt_plain.specs.declared.call.Reply.TheVariants.{Passed, MustWait}
-use Rattle.lt_plain.specs.Step.{Event as KeyEvent, Holds}
-use Rattle.lt_plain.specs.Laws.{IsBelowOthers}
 use Rattle.lt_history.specs.declared.entry.Entry.{Entry}
-use Rattle.lt_history.specs.Histories.{event_of, AreLegalKeys}
-use Rattle.lt_history.specs.Histories.{part as key_part}
+use Rattle.lt_history.specs.Histories.{AreLegalKeys}
 use Rattle.lt_words.specs.declared.event.Event.{Event}
 use Rattle.lt_words.specs.declared.event.Event.TheVariants.{Draw}
 use Rattle.lt_words.specs.History.{part, draws_of, shard_of, IsLegalHistory, DrewIn, LetIn}
@@ -72,19 +65,3 @@ PartsAreAtHome = (shards shard : ℕ) (h : List Event) → IsLegalHistory shards
 abbrev pub PartsAreLegal : Type 0
 PartsAreLegal = (shards shard : ℕ) (h : List Event) → IsLegalHistory shards h → AreLegalKeys (part shard h)
 
--- ---- keys: of any steps that are legal for each key, as a shard's part is
-
--- the history of a key among these steps
-abbrev pub key_history : List ℕ → List Entry → List KeyEvent
-key_history key es = map event_of (key_part key es)
-
--- At no place of a key's history do two transactions hold the lock.
-abbrev pub OneHolderAtEachKey : Type 0
-OneHolderAtEachKey = (es : List Entry) (key : List ℕ) (past rest : List KeyEvent) (T U : ℕ) → AreLegalKeys es →
-    key_history key es ≡ past ++ rest → Holds past T → Holds past U → T ≡ U
-
--- A read passes exactly where each other holder's stamp is above its time, and else has to wait.
-abbrev pub ReadsPassAtEachKey : Type 0
-ReadsPassAtEachKey = (es : List Entry) (key : List ℕ) (past rest : List KeyEvent) (e : KeyEvent) (ticket : Wait) (txn : Option ℕ) (ts : Timestamp) (longest : ℕ) → AreLegalKeys es →
-    key_history key es ≡ past ++ e ∷ rest → e.call ≡ Visit ticket txn ts Read longest →
-    ((e.reply ≡ Passed) × IsBelowOthers past txn ts) ⊎ ((e.reply ≡ MustWait) × (IsBelowOthers past txn ts → ⊥))

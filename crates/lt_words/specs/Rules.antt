@@ -1,11 +1,10 @@
 -- The rule of the row of words, and what its steps tell.
-use Rattle.std.specs.Prelude.{ℕ, ◌≡◌, ◌+◌, ◌-◌, ◌==◌, ◌<◌, ◌≤◌, ◌⊎◌, true, List, [], ◌∷◌, ◌++◌, length, MatchBool}
+use Rattle.std.specs.Prelude.{ℕ, ◌≡◌, ◌+◌, ◌-◌, ◌==◌, ◌<◌, ◌≤◌, true, List, [], ◌∷◌, ◌++◌, length, MatchBool}
 use mathlib.Core.List.{IsPrefix}
 use Rattle.logbook.specs.Pages.{Cell, cell, Step as Turn, View, Book, Named}
-use Rattle.lt_ids.specs.Ids.{Wait, value_of, IsNumber, IsWaitNumber}
 use Rattle.lt_words.specs.declared.event.Event.{Event}
 use Rattle.lt_words.specs.declared.event.Event.TheVariants.{Opened, Draw, Step}
-use Rattle.lt_words.specs.History.{part, draws_of, IsLegalHistory, LetIn}
+use Rattle.lt_words.specs.History.{part, draws_of, IsLegalHistory, IsStatus}
 
 -- what a log says after its first entry
 abbrev pub history_of : List Event → List Event
@@ -26,18 +25,6 @@ step_word shard = shard + 1
 
 abbrev pub status_word : ℕ → ℕ
 status_word pass = pass + 64
-
--- The value of a ticket of this pass that was let through.
-pub record ShowsLet (h : List Event) (pass n : ℕ) : Type 0 where
-  pub ticket : Wait
-  pub number : IsNumber ticket.number
-  pub wait : IsWaitNumber ticket.wait
-  pub value : n ≡ value_of ticket
-  pub through : LetIn h pass ticket
-
--- 0, or the value of a ticket of this pass that was let through
-abbrev pub IsStatus : List Event → ℕ → ℕ → Type 0
-IsStatus h pass n = (n ≡ 0) ⊎ ShowsLet h pass n
 
 -- The rule: between any two steps the words agree with the log.
 pub record IsKept (cells : List Cell) (log : List Event) : Type 0 where

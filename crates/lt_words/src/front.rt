@@ -3,8 +3,8 @@ ghost use mathlib.Core.List.{IsPrefix};
 ghost use Rattle.lt_ids.specs.Ids.{Wait, value_of};
 ghost use Rattle.lt_words.specs.declared.event.Event.{Event};
 ghost use Rattle.lt_words.specs.declared.event.Event.TheVariants.{Opened, Draw, Step};
-ghost use Rattle.lt_words.specs.History.{part, draws_of, shard_of, IsLegalHistory, LetIn, MayFollow};
-ghost use Rattle.lt_words.specs.Rules.{IsStatus, IsLog, history_of};
+ghost use Rattle.lt_words.specs.History.{part, draws_of, shard_of, IsLegalHistory, LetIn, MayFollow, IsStatus};
+ghost use Rattle.lt_words.specs.Rules.{IsLog, history_of};
 ghost use Rattle.lt_words.specs.Row.{GoesTo, IsOpenLog, sight_of};
 
 use crate::book::Book;

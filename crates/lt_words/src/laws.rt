@@ -3,7 +3,8 @@
 //! Each law is the contract of a function without work. What a pass or a front has seen is a legal history
 //! (`Pass::legal`, `Front::legal`), and a later sight goes on from an earlier one; so the laws tell what the caller may
 //! conclude from what it was told at different times, and from what others were told.
-ghost use Rattle.lt_words.specs.Laws.{DrawsGiveTheNext, NumbersRise, NumbersAreOfDraws, NumbersAreDrawnOnce, NumbersAreOfOnePass, BeginningsAreLegal, PartsBegin, StepsStay, DrawsStay, LetsStay, PartsAreAtHome, PartsAreLegal, OneHolderAtEachKey, ReadsPassAtEachKey};
+ghost use Rattle.lt_words.specs.Laws.{DrawsGiveTheNext, NumbersRise, NumbersAreOfDraws, NumbersAreDrawnOnce, NumbersAreOfOnePass, BeginningsAreLegal, PartsBegin, StepsStay, DrawsStay, LetsStay, PartsAreAtHome, PartsAreLegal};
+ghost use Rattle.lt_words.specs.History.{OneHolderAtEachKey, ReadsPassAtEachKey};
 
 use lt_plain::laws::{one_holder, reads_pass};
 
