@@ -64,4 +64,3 @@ PartsAreAtHome = (shards shard : ℕ) (h : List Event) → IsLegalHistory shards
 -- Each key's steps in a shard's part are a legal history of that key.
 abbrev pub PartsAreLegal : Type 0
 PartsAreLegal = (shards shard : ℕ) (h : List Event) → IsLegalHistory shards h → AreLegalKeys (part shard h)
-
