@@ -23,28 +23,9 @@ IsFixed r = (reply_numbers r ≡ []) × IsReply r
 are_fixed : AllByRecursion IsFixed fixed_replies
 are_fixed = ((refl, tt), ((refl, tt), ((refl, tt), ((refl, tt), ((refl, tt), ((refl, tt), ((refl, tt), ((refl, tt), ((refl, tt), ((refl, tt), ((refl, tt), ((refl, tt), ((refl, tt), tt)))))))))))))
 
-same_fixed : (r : Reply) → reply_numbers r ≡ [] → fixed_reply (reply_name r) ≡ Some r
-unfolding fixed_reply
-same_fixed (WaitFor txn held) none = absurd cc
-same_fixed (WaitFirst txn held) none = absurd cc
-same_fixed (WaitOwn txn) none = absurd cc
-same_fixed Passed none = refl
-same_fixed MustWait none = refl
-same_fixed TooLong none = refl
-same_fixed Taken none = refl
-same_fixed Kept none = refl
-same_fixed Raised none = refl
-same_fixed Other none = refl
-same_fixed Freed none = refl
-same_fixed Left none = refl
-same_fixed Absent none = refl
-same_fixed Nothing none = refl
-same_fixed Reserved none = refl
-same_fixed Idle none = refl
-
--- the name of a reply of one word is read as this reply
-pub named_is_fixed : (r : Reply) (word : List ℕ) → reply_numbers r ≡ [] → bytes_eq (reply_name r) word ≡ true → Some r ≡ fixed_reply word
-named_is_fixed r word none e = sym (ap fixed_reply (sym ((bytes_eq-Decides (reply_name r) word).0 e)) ∙ same_fixed r none)
+-- the name of such a reply is read as this reply
+pub named_is_fixed : (r : Reply) (word : List ℕ) → fixed_reply (reply_name r) ≡ Some r → bytes_eq (reply_name r) word ≡ true → Some r ≡ fixed_reply word
+named_is_fixed r word found e = sym (ap fixed_reply (sym ((bytes_eq-Decides (reply_name r) word).0 e)) ∙ found)
 
 find_takes : (rs : List Reply) (word : List ℕ) (r : Reply) → AllByRecursion IsFixed rs → find (λ x. bytes_eq (reply_name x) word) rs ≡ Some r → (reply_name r ≡ word) × IsFixed r
 find_takes [] word r h e = absurd cc

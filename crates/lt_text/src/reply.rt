@@ -1,7 +1,7 @@
-ghost use Rattle.std.specs.Prelude.{◌≡◌, []};
+ghost use Rattle.std.specs.Prelude.{◌≡◌, Some};
 ghost use Rattle.std.specs.Str.{bytes_eq};
 ghost use Rattle.lt_text.specs.Calls.{Gives};
-ghost use Rattle.lt_text.specs.Replies.{reply_name, reply_numbers, fixed_reply, held_of, waits_at, own_at, reply_of, reply_at, is_reply_of, is_visit_reply, is_acquire_reply, is_update_reply, is_finish_reply, is_leave_reply, is_look_reply};
+ghost use Rattle.lt_text.specs.Replies.{reply_name, fixed_reply, held_of, waits_at, own_at, reply_of, reply_at, is_reply_of, is_visit_reply, is_acquire_reply, is_update_reply, is_finish_reply, is_leave_reply, is_look_reply};
 
 use crate::field::txn;
 use crate::words::Words;
@@ -55,9 +55,10 @@ fn is_spelled(reply: &Reply, word: &[u8]) -> bool
     name(*reply) == word
 }
 
-/// The reply of one word that is tried before the others: by its length and its first byte, the word can spell no other.
+/// A reply of one word, that which the word spells if it spells any.
+#[tactic(auto, unfolding(crate::specs::Replies::fixed_reply))]
 fn likely(word: &[u8]) -> Reply
-    ensures { reply_numbers result ≡ [] }
+    ensures { fixed_reply (reply_name result) ≡ Some result }
 {
     let Some(first) = word.first() else {
         return Reply::Passed;

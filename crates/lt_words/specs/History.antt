@@ -1,20 +1,20 @@
 -- What a list of draws and steps says, and which lists are legal histories. The opening, which is a log's first entry, says
 -- nothing here, and no legal history has one: so what is counted in a log is what is counted in the history after its opening.
-use Rattle.std.specs.Prelude.{ℕ, ◌≡◌, ◌+◌, ◌==◌, ◌⊎◌, ◌%◌, List, [], ◌∷◌, map, if◌then◌else◌, Option, ◌++◌}
+use Rattle.std.specs.Prelude.{ℕ, ◌≡◌, ◌+◌, ◌==◌, ◌⊎◌, ◌%◌, Option, List, [], ◌∷◌, ◌++◌, map, if◌then◌else◌}
 use Rattle.std.specs.List.{sum}
 use Rattle.lt_ids.specs.Ids.{Wait, IsNumber, IsWaitNumber, value_of}
 use Rattle.lt_ids.specs.declared.ticket.Through.{Through}
+use Rattle.lt_ids.specs.declared.timestamp.Timestamp.{Timestamp}
+use Rattle.lt_ids.specs.declared.request.Access.TheVariants.{Read}
+use Rattle.lt_plain.specs.declared.call.Call.TheVariants.{Visit}
+use Rattle.lt_plain.specs.declared.call.Reply.TheVariants.{Passed, MustWait}
 use Rattle.lt_plain.specs.Rules.{Record, empty}
-use Rattle.lt_plain.specs.Step.{step, record_after, Event as KeyEvent, Holds, IsBelowOthers}
+use Rattle.lt_plain.specs.Step.{Event as KeyEvent, step, record_after, Holds, IsBelowOthers}
 use Rattle.lt_history.specs.declared.entry.Entry.{Entry}
 use Rattle.lt_history.specs.Histories.{event_of, AreLegalKeys}
 use Rattle.lt_history.specs.Histories.{part as key_part}
 use Rattle.lt_words.specs.declared.event.Event.{Event}
 use Rattle.lt_words.specs.declared.event.Event.TheVariants.{Opened, Draw, Step}
-use Rattle.lt_ids.specs.declared.timestamp.Timestamp.{Timestamp}
-use Rattle.lt_ids.specs.declared.request.Access.TheVariants.{Read}
-use Rattle.lt_plain.specs.declared.call.Call.TheVariants.{Visit}
-use Rattle.lt_plain.specs.declared.call.Reply.TheVariants.{Passed, MustWait}
 
 -- the shard of a key, among so many: the sum of its bytes
 abbrev pub shard_of : List ℕ → ℕ → ℕ
