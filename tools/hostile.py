@@ -1,7 +1,7 @@
 #!/usr/bin/env python3
 """Has the proved programs meet what their contracts do not say: refused memory, failing streams, odd texts, long runs.
 
-    python3 tools/hostile.py [--seconds S] [--texts N] [--runs N]
+    python3 tools/hostile.py [--seconds S] [--texts N] [--runs N] [--waits N]
 
 The programs must have been built, as `rt ci` does. Each part prints what it tried; the last line is `N passed, M failed`.
 
@@ -12,7 +12,11 @@ The programs must have been built, as `rt ci` does. Each part prints what it tri
   output after a failed write; or just what it writes otherwise.
 - Scripts and histories of examples/, cut at every byte, are told as docs/FORMATS.md says.
 - `lockbench texts` tries scripts and histories that were changed by chance, N of them.
-- `lockbench soak` plays random requests on threads for S seconds.
+- `lockbench soak` plays random requests on threads for S seconds, a third of them on tables that keep their history whole, a third
+  on streamed ones, and a third on one that records nothing and may not grow. `lockrun check` reads the histories that are left.
+- The tests of waits run N times each, on processors that are busy with the others. `lockbench load --wait` has more sleeping
+  threads than processors, in each way of keeping the history, and must end. `lockbench sleep` has a thousand requests sleep at one
+  key: they go on in order, and take less than 5 of 100 of one processor meanwhile.
 - tools/random_runs.py compares N random scripts with what the rules of a pass say.
 """
 
@@ -36,6 +40,7 @@ TESTS = [
     ('lt_words_tests', 'tests::a_refused_open'),
     ('lt_words_tests', 'tests::a_book_is_used_by_its_name'),
     ('lt_schedules_tests', 'tests::schedules_come_out_alike'),
+    ('lt_table_tests', 'refusals::'),
     ('lt_tool_tests', 'checks::'),
     ('lt_tool_tests', 'scripts::'),
     ('lt_tool_tests', 'words::'),
@@ -44,13 +49,19 @@ TESTS = [
 # The calls of a table that take memory, each of which must have been refused in the schedules. The table over plain tables
 # is opened by `open_with`, the other by `open`.
 CALLS_OF_BOTH = ['Prepare', 'Enter', 'Scan', 'Look', 'Leave', 'Acquire', 'AcquireIn', 'Update', 'UpdateIn', 'Finish', 'FinishIn',
-                 'Close']
+                 'Inspect', 'InspectIn', 'LockedKeys', 'Close']
 TABLE_CALLS = [f'{table} {call}' for table in ('linked', 'plain') for call in CALLS_OF_BOTH]
 TABLE_CALLS += ['linked Open', 'plain OpenWith']
 
 # This one needs two threads, which cannot be made where memory for one is refused: its passes then run in turn. That one
 # takes no memory.
 OTHERS = ['scripts::passes_work_at_once', 'words::failures_are_told']
+
+# The ways in which a table keeps its history.
+WAYS = ['whole', 'streamed', 'unrecorded']
+
+# By how many KiB a table that records nothing may grow in a soak, with its threads and its first requests.
+GROWTH = 16 * 1024
 
 # Two passes with a key each: on threads, too, it has one output.
 APART = b'1 acquire 7 20.0 a\n2 open 8 20.0 b:w c:r\n2 scan\n1 finish 7 a\n2 acquire 8 20.0 b\n2 finish 8 b\n2 leave\n'
@@ -270,12 +281,69 @@ def cut_everywhere(report, lanes):
     report.tell(f'lockrun: scripts and histories cut at each of {tried} places', faults if tried else ['no examples'])
 
 
-def ends_with_none_wrong(report, words, folder):
-    ran = subprocess.run(words, capture_output=True, text=True, cwd=folder)
-    lines = ran.stdout.strip().splitlines()
-    is_right = ran.returncode == 0 and lines and re.search(r'\b0 wrong\b', lines[-1])
+def run_to_its_end(words, folder, seconds):
+    """The status, the lines of standard output and standard error; status None if it did not end in time."""
+    try:
+        ran = subprocess.run(words, capture_output=True, text=True, cwd=folder, timeout=seconds)
+    except subprocess.TimeoutExpired:
+        return None, [], f'not at its end after {seconds} seconds'
+    return ran.returncode, ran.stdout.strip().splitlines(), ran.stderr
+
+
+def ends_well(report, words, folder, wanted, seconds, and_also=lambda lines: []):
+    """Whether the program ends with status 0 and what is wanted in its last line, and nothing else is wrong with its lines."""
+    status, lines, err = run_to_its_end(words, folder, seconds)
+    is_right = status == 0 and lines and re.search(wanted, lines[-1])
     what = ' '.join([os.path.basename(words[0]), *words[1:]])
-    report.tell(f"{what}: {'; '.join(lines[-2:])}", [] if is_right else [f'status {ran.returncode}: {ran.stderr[-300:]}'])
+    report.tell(f"{what}: {'; '.join(lines[-2:])}", and_also(lines) if is_right else [f'status {status}: {err[-300:]}'])
+
+
+def ends_with_none_wrong(report, words, folder, and_also=lambda lines: []):
+    ends_well(report, words, folder, r'\b0 wrong\b', 24 * 3600, and_also)
+
+
+def growth(lines):
+    """What is wrong with the memory of a soak on a table that records nothing."""
+    told = re.search(r'(\d+) KiB in memory at the beginning, (\d+) KiB at the end', '\n'.join(lines))
+    if not told:
+        return ['the memory was not told']
+    begin, end = int(told[1]), int(told[2])
+    return [f'grew from {begin} to {end} KiB'] if end > begin + GROWTH else []
+
+
+def soak(report, folder, seconds):
+    """Random requests on threads, in each way of keeping the history; what histories are left are checked."""
+    for way in WAYS:
+        words = [built('lockbench'), 'soak', '--seconds', str(max(1, seconds // len(WAYS))), '--history', way]
+        ends_with_none_wrong(report, words, folder, growth if way == 'unrecorded' else lambda lines: [])
+        if way != 'unrecorded':
+            check = [built('lockrun'), 'check', 'lockbench.histories']
+            told = subprocess.run(check, capture_output=True, text=True, cwd=folder)
+            faults = [told.stderr] * (told.returncode != 0)
+            report.tell(f"lockrun check, of that soak's latest histories: {told.stdout.strip()}", faults)
+
+
+def too_busy(lines):
+    """What is wrong with the processor time of requests that sleep."""
+    told = re.search(r'cpu_percent=([0-9.]+)', lines[-1])
+    return [] if told and float(told[1]) < 5 else ['they take 5 of 100 of a processor, or more']
+
+
+def wait_again(report, lanes, folder, times):
+    """Waits that sleep: each test so many times, more sleeping threads than processors, and a thousand requests at one key."""
+    program = built('lt_waiting_tests', tests=True)
+    names = tests_of(program, '') if os.path.exists(program) else []
+    if not names:
+        report.tell('lt_waiting_tests: no test is built', ['run rt ci, or rt test in the crate'])
+    runs = [name for name in names for _ in range(times)]
+    ended = list(lanes.map(lambda name: (name, run_to_its_end([program, name], folder, 300)), runs))
+    faults = [f'{name}: status {status}, {err[-200:]}' for name, (status, _, err) in ended if status != 0]
+    report.tell(f'lt_waiting_tests: {len(names)} tests, {times} times each', faults)
+    for way in WAYS:
+        for passes in (16, 64):
+            words = [built('lockbench'), 'load', '--passes', str(passes), '--keys', '4', '--shards', '4', '--steps', '20000']
+            ends_well(report, [*words, '--threads', '--wait', '--history', way], folder, r'=', 300)
+    ends_well(report, [built('lockbench'), 'sleep'], folder, r'\blet_through=1000 order=kept\b', 300, too_busy)
 
 
 def main():
@@ -283,6 +351,7 @@ def main():
     parser.add_argument('--seconds', type=int, default=600)
     parser.add_argument('--texts', type=int, default=1000000)
     parser.add_argument('--runs', type=int, default=2000)
+    parser.add_argument('--waits', type=int, default=10)
     given = parser.parse_args()
     report = Report()
     with tempfile.TemporaryDirectory() as folder, ThreadPoolExecutor(os.cpu_count()) as lanes:
@@ -290,12 +359,9 @@ def main():
         refuse_in_tests(report, shim, lanes)
         refuse_in_program(report, shim, lanes)
         cut_everywhere(report, lanes)
-        bench = built('lockbench')
-        ends_with_none_wrong(report, [bench, 'texts', '--count', str(given.texts)], folder)
-        ends_with_none_wrong(report, [bench, 'soak', '--seconds', str(given.seconds)], folder)
-        check = [built('lockrun'), 'check', 'lockbench.histories']
-        told = subprocess.run(check, capture_output=True, text=True, cwd=folder)
-        report.tell(f'lockrun check, of the soak\'s latest histories: {told.stdout.strip()}', [told.stderr] * (told.returncode != 0))
+        ends_with_none_wrong(report, [built('lockbench'), 'texts', '--count', str(given.texts)], folder)
+        soak(report, folder, given.seconds)
+        wait_again(report, lanes, folder, given.waits)
         compare = [sys.executable, os.path.join(HERE, 'random_runs.py'), '--runs', str(given.runs)]
         ends_with_none_wrong(report, compare, os.path.dirname(HERE))
     print(f'{report.passed} passed, {report.failed} failed')

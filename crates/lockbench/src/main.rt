@@ -1,16 +1,23 @@
 //! Times calls of the lock table and its layers, and plays at them by chance. Without a word it says what it can do.
 //!
-//! - `load` times rounds of a store's transactions on a table, on one thread or many;
+//! - `load` times rounds of a store's transactions on a table, on one thread or many, that keeps its history whole, streams it,
+//!   or records none;
+//! - `sleep` measures the processor time of many requests that sleep at one key, and checks the order in which they go on;
 //! - `links` prints how many nanoseconds a call of the linked queues takes, for queues of several lengths;
 //! - `tables` prints how many nanoseconds the calls of both lock tables take, for several numbers of waiters;
 //! - `soak --seconds N` plays random requests on threads for so long, and checks the histories;
 //! - `texts --count N` runs and checks so many scripts and histories that were changed by chance.
 #![tactic(auto)]
 
+mod closing;
+mod drivers;
 mod links;
 mod load;
+mod memory;
+mod sleeping;
 mod soak;
 mod tables;
+mod taking;
 mod texts;
 mod words;
 
@@ -18,9 +25,10 @@ use crate::words::Job;
 use std::env;
 use std::sync::Wait;
 use std::thread::Threads;
+use std::time::{Clock, CpuClock};
 
 /// Does what the words say.
-fn run<H: Threads + Wait + Sync>(
+fn run<H: Threads + Wait + Clock + CpuClock + Sync>(
     threads: &H,
     rt: &HostRuntime,
     words: &[&str],
@@ -29,9 +37,13 @@ fn run<H: Threads + Wait + Sync>(
     match words::asked(alloc, words)? {
         Job::Links => links::report(rt, alloc),
         Job::Tables => tables::report(rt, alloc),
-        Job::Soak(seconds) => soak::report(threads, rt, alloc, seconds),
+        Job::Soak(soak) => soak::report(threads, rt, alloc, &soak),
         Job::Texts(count) => texts::report(threads, rt, alloc, count),
-        Job::Load(load) => load::report(threads, rt, alloc, &load),
+        Job::Load(load, trace) => {
+            let name = trace.as_ref().map(|name| name.as_str());
+            load::report(threads, rt, alloc, &load, name)
+        }
+        Job::Sleep(sizes) => sleeping::report(threads, rt, alloc, &sizes),
         Job::Help(text) => {
             print!(rt; "{text}")?;
             Ok(())

@@ -1,8 +1,11 @@
 //! What the words of the program ask for, read by clap.
 use crate::load::Load;
+use crate::sleeping::Sleep;
+use crate::soak::Soak;
 use anyhow::bail;
 use clap::error::ErrorKind;
 use clap::{Arg, ArgAction, ArgMatches, Command, Error};
+use lt_table::Keeping;
 use std::alloc::{AllocError, Global};
 
 /// What is asked for.
@@ -10,11 +13,12 @@ use std::alloc::{AllocError, Global};
 pub enum Job {
     Links,
     Tables,
-    /// For so many seconds.
-    Soak(u64),
+    Soak(Soak),
     /// So many texts.
     Texts(u64),
-    Load(Load),
+    /// The file is for a trace.
+    Load(Load, Option<String>),
+    Sleep(Sleep),
     /// To print this text.
     Help(String),
 }
@@ -24,10 +28,45 @@ fn number<'a>(alloc: Global, name: &'a str, help: &'a str) -> Arg<'a> {
     Arg::new(alloc, name).long(name).value_name("N").help(help)
 }
 
+/// The option that says how a table keeps its steps.
+fn history<'a>(alloc: Global) -> Arg<'a> {
+    Arg::new(alloc, "history")
+        .long("history")
+        .value_name("WAY")
+        .help("How the table keeps its steps: whole, streamed or unrecorded; whole if left out")
+}
+
+/// An option that is there or not.
+fn flag<'a>(alloc: Global, name: &'a str, help: &'a str) -> Arg<'a> {
+    Arg::new(alloc, name)
+        .long(name)
+        .action(ArgAction::SetTrue)
+        .help(help)
+}
+
 fn soak<'a>(alloc: Global) -> Result<Command<'a>, AllocError> {
     Command::new(alloc, "soak")
         .about("Plays random requests on threads, and checks the histories")
-        .arg(number(alloc, "seconds", "For so long; 60 if left out"))
+        .arg(number(alloc, "seconds", "For so long; 60 if left out"))?
+        .arg(history(alloc))
+}
+
+fn sleep<'a>(alloc: Global) -> Result<Command<'a>, AllocError> {
+    Command::new(alloc, "sleep")
+        .about("Measures requests that sleep at one key, and checks their order")
+        .arg(number(alloc, "requests", "Requests, 1 to 1023; 1000 if left out"))?
+        .arg(number(alloc, "threads", "Threads, 1 to 1023; 64 if left out"))?
+        .arg(number(alloc, "seconds", "For so long; 2 if left out"))
+}
+
+/// The file for a trace.
+fn trace<'a>(alloc: Global) -> Arg<'a> {
+    Arg::new(alloc, "trace")
+        .long("trace")
+        .value_name("FILE")
+        .help(
+            "With --history streamed: keep what is taken, and write the histories here at the end",
+        )
 }
 
 fn texts<'a>(alloc: Global) -> Result<Command<'a>, AllocError> {
@@ -51,12 +90,14 @@ fn load<'a>(alloc: Global) -> Result<Command<'a>, AllocError> {
             "shards",
             "Shards of the table, 1 to 64; 4 if left out",
         ))?
-        .arg(
-            Arg::new(alloc, "threads")
-                .long("threads")
-                .action(ArgAction::SetTrue)
-                .help("Run each pass on a thread of its own"),
-        )
+        .arg(flag(alloc, "threads", "Run each pass on a thread of its own"))?
+        .arg(flag(
+            alloc,
+            "wait",
+            "With --threads: sleep until let through, in place of polling",
+        ))?
+        .arg(history(alloc))?
+        .arg(trace(alloc))
 }
 
 fn command<'a>(alloc: Global) -> Result<Command<'a>, AllocError> {
@@ -69,6 +110,7 @@ fn command<'a>(alloc: Global) -> Result<Command<'a>, AllocError> {
         .subcommand(load(alloc)?)?
         .subcommand(links)?
         .subcommand(tables)?
+        .subcommand(sleep(alloc)?)?
         .subcommand(soak(alloc)?)?
         .subcommand(texts(alloc)?)
 }
@@ -84,6 +126,16 @@ fn number_of(matches: &ArgMatches<'_>, name: &str, default: u64, most: u64) -> a
     }
 }
 
+/// How a table is to keep its steps.
+fn keeping_of(matches: &ArgMatches<'_>) -> anyhow::Result<Keeping> {
+    match matches.get_str("history") {
+        None | Some("whole") => Ok(Keeping::Whole),
+        Some("streamed") => Ok(Keeping::Streamed),
+        Some("unrecorded") => Ok(Keeping::Unrecorded),
+        Some(_) => bail!("--history is whole, streamed or unrecorded"),
+    }
+}
+
 fn load_of(matches: &ArgMatches<'_>) -> anyhow::Result<Load> {
     Ok(Load {
         passes: number_of(matches, "passes", 4, 1024)? as usize,
@@ -91,19 +143,54 @@ fn load_of(matches: &ArgMatches<'_>) -> anyhow::Result<Load> {
         steps: number_of(matches, "steps", 1_000_000, 1 << 32)?,
         shards: number_of(matches, "shards", 4, 64)? as usize,
         threads: matches.get_flag("threads"),
+        waits: matches.get_flag("wait"),
+        keeping: keeping_of(matches)?,
+        traces: matches.get_str("trace").is_some(),
     })
 }
 
-fn job_of(matches: &ArgMatches<'_>) -> anyhow::Result<Job> {
+/// A load, and the file for its trace.
+fn load_job(alloc: Global, matches: &ArgMatches<'_>) -> anyhow::Result<Job> {
+    let load = load_of(matches)?;
+    if load.waits && !load.threads {
+        bail!("--wait needs --threads");
+    }
+    if load.traces && load.keeping != Keeping::Streamed {
+        bail!("--trace needs --history streamed");
+    }
+    let file = match matches.get_str("trace") {
+        Some(name) => Some(String::from_str(alloc, name)?),
+        None => None,
+    };
+    Ok(Job::Load(load, file))
+}
+
+fn sleep_of(matches: &ArgMatches<'_>) -> anyhow::Result<Sleep> {
+    Ok(Sleep {
+        requests: number_of(matches, "requests", 1_000, 1023)? as usize,
+        threads: number_of(matches, "threads", 64, 1023)? as usize,
+        seconds: number_of(matches, "seconds", 2, 1_000)?,
+    })
+}
+
+fn soak_of(matches: &ArgMatches<'_>) -> anyhow::Result<Soak> {
+    Ok(Soak {
+        seconds: number_of(matches, "seconds", 60, 1_000_000)?,
+        keeping: keeping_of(matches)?,
+    })
+}
+
+fn job_of(alloc: Global, matches: &ArgMatches<'_>) -> anyhow::Result<Job> {
     let Some((name, inner)) = matches.subcommand() else {
         bail!("there is no word");
     };
     Ok(match name {
         "links" => Job::Links,
         "tables" => Job::Tables,
-        "soak" => Job::Soak(number_of(inner, "seconds", 60, 1_000_000)?),
+        "soak" => Job::Soak(soak_of(inner)?),
+        "sleep" => Job::Sleep(sleep_of(inner)?),
         "texts" => Job::Texts(number_of(inner, "count", 100_000, 1 << 40)?),
-        _ => Job::Load(load_of(inner)?),
+        _ => load_job(alloc, inner)?,
     })
 }
 
@@ -120,7 +207,7 @@ fn told(alloc: Global, error: &Error) -> anyhow::Result<Job> {
 
 fn read(alloc: Global, words: &[&str]) -> anyhow::Result<Job> {
     match command(alloc)?.try_get_matches_from(words) {
-        Ok(matches) => job_of(&matches),
+        Ok(matches) => job_of(alloc, &matches),
         Err(error) => told(alloc, &error),
     }
 }

@@ -3,10 +3,12 @@ ghost use Rattle.std.specs.Prelude.{◌≡◌, IfOk, length};
 ghost use Rattle.std.specs.List.{All};
 ghost use Rattle.std.specs.FinMap as finmap;
 
-use crate::watched::{Stop, Watched};
+use crate::watched::{Stop, Stopping, Watched};
 use lt_ids::{Access, Key, Timestamp, TxnId};
 use lt_plain::{KeyTable, Reply};
-use lt_table::{Config, Poll, Ready, Scan, Table, open_with, prepare};
+use lt_table::{
+    Config, EnterRefused, Poll, Ready, Scan, Table, Waker, open_waking, open_with, prepare,
+};
 use lt_table_player::run::seated;
 use lt_table_player::seat::Seat;
 use lt_table_player::tables::empty_tables;
@@ -61,19 +63,20 @@ fn watched_tables<'a>(
 }
 
 /// The transaction takes the lock of the key.
-fn acquire<N: Name, T: KeyTable, R: Wait>(
+fn acquire<N: Name, T: KeyTable, W: Waker, R: Wait>(
     rt: &R,
     alloc: Global,
-    table: &Table<N, T>,
+    table: &Table<N, T, W>,
     seat: Seat<N>,
     txn: u64,
     key: u8,
 ) -> Option<Reply> {
-    let mut pass = seat.into_pass()?;
     let key = Key::from_bytes(alloc, &[key]).ok()?;
     let txn = TxnId::new(txn)?;
-    let answer = table.acquire(rt, &mut pass, &key, txn, TIME).ok()?;
-    Some(answer.reply)
+    let mut pass = seat.into_pass()?;
+    let answered = table.acquire(rt, &mut pass, &key, txn, TIME);
+    pass.abandon();
+    Some(answered.ok()?.reply)
 }
 
 /// Takes the lock of the key once another thread is at the stop, and then lets that one go on.
@@ -131,7 +134,10 @@ fn open_watched<'a, N: Name>(
     requires named { ready.of ≡ N.of }
     requires many { ready.of.shards ≡ shards }
 {
-    let tables = watched_tables(alloc, shards, stop).ok()?;
+    let Ok(tables) = watched_tables(alloc, shards, stop) else {
+        ready.abandon();
+        return None;
+    };
     let (table, passes) = open_with::<N, Watched<'a>>(alloc, ready, tables).ok()?;
     let seats = seated::<N>(alloc, passes)?;
     Some((table, seats))
@@ -205,36 +211,42 @@ fn poll_beside<N: Name, T: KeyTable>(
     let mut guard = seat.into_guard()?;
     let has_come = stop.come.wait();
     let poll = table.poll(&mut guard);
+    guard.abandon();
     stop.go.set();
     if has_come { Some(poll) } else { None }
 }
 
 /// A request comes to write the key, and its scan is told this.
-fn scanned<N: Name, T: KeyTable, R: Wait>(
+fn scanned<N: Name, T: KeyTable, W: Waker, R: Wait>(
     rt: &R,
     alloc: Global,
-    table: &Table<N, T>,
+    table: &Table<N, T, W>,
     seat: Seat<N>,
     txn: u64,
     key: u8,
 ) -> Option<(Seat<N>, Scan)> {
-    let pass = seat.into_pass()?;
     let key = Key::from_bytes(alloc, &[key]).ok()?;
     let txn = TxnId::new(txn)?;
     let mut accesses = Vec::new(alloc);
     accesses.push((key, Access::Write)).ok()?;
-    let Ok(mut guard) = table.enter(rt, alloc, pass, Some(txn), TIME, &accesses, 0) else {
-        return None;
+    let pass = seat.into_pass()?;
+    let mut guard = match table.enter(rt, alloc, pass, Some(txn), TIME, &accesses, 0) {
+        Ok(guard) => guard,
+        Err(EnterRefused { pass, error: _ }) => {
+            pass.abandon();
+            return None;
+        }
     };
-    let scan = table.scan(rt, &mut guard).ok()?;
-    Some((Seat::open(guard), scan))
+    let scanned = table.scan(rt, &mut guard);
+    let seat = Seat::open(guard);
+    Some((seat, scanned.ok()?))
 }
 
 /// Takes the lock of the key, and has a request come to write it.
-fn held_and_scanned<N: Name, T: KeyTable, R: Wait>(
+fn held_and_scanned<N: Name, T: KeyTable, W: Waker, R: Wait>(
     rt: &R,
     alloc: Global,
-    table: &Table<N, T>,
+    table: &Table<N, T, W>,
     seats: (Seat<N>, Seat<N>),
     key: u8,
 ) -> Option<(Seat<N>, Scan)> {
@@ -300,4 +312,115 @@ fn poll_named<N: Name + Send + Sync, R: Threads + Wait + Sync>(
 pub fn poll<R: Threads + Wait + Sync>(rt: &R, alloc: Global, keys: (u8, u8)) -> Option<Polled> {
     let ready = prepare(alloc, config_of(1, 3)).ok()?;
     poll_named::<Brand, R>(rt, alloc, ready, keys)
+}
+
+/// What came of a waker that goes on only when another thread has made a step of the same shard.
+#[derive(Clone, Copy, Debug, PartialEq, Eq)]
+pub struct Woken {
+    pub scan: Scan,
+    pub finish: Reply,
+    pub poll: Poll,
+    pub acquire: Reply,
+    /// The step had returned before the waker went on.
+    pub is_apart: bool,
+}
+
+/// Frees the lock of the key.
+fn finish<N: Name, T: KeyTable, W: Waker, R: Wait>(
+    rt: &R,
+    alloc: Global,
+    table: &Table<N, T, W>,
+    seat: Seat<N>,
+    txn: u64,
+    key: u8,
+) -> Option<Reply> {
+    let key = Key::from_bytes(alloc, &[key]).ok()?;
+    let txn = TxnId::new(txn)?;
+    let mut pass = seat.into_pass()?;
+    let answered = table.finish(rt, &mut pass, &key, txn);
+    pass.abandon();
+    Some(answered.ok()?.reply)
+}
+
+/// Once the waker has come, the request polls and takes the lock of another key; then the waker may go on.
+fn step_beside<N: Name, T: KeyTable, W: Waker, R: Wait>(
+    rt: &R,
+    alloc: Global,
+    table: &Table<N, T, W>,
+    seat: Seat<N>,
+    key: u8,
+    stop: &Stop,
+) -> Option<(Poll, Reply)> {
+    let key = Key::from_bytes(alloc, &[key]).ok()?;
+    let txn = TxnId::new(2)?;
+    let mut guard = seat.into_guard()?;
+    let has_come = stop.come.wait();
+    let poll = table.poll(&mut guard);
+    let answered = table.acquire_in(rt, &mut guard, &key, txn, TIME);
+    guard.abandon();
+    stop.go.set();
+    let reply = answered.ok()?.reply;
+    if has_come { Some((poll, reply)) } else { None }
+}
+
+/// The lock is freed, and beside it the request that waits makes its step.
+fn finish_beside<N: Name + Send + Sync, T: KeyTable + Send, R: Threads + Wait + Sync>(
+    rt: &R,
+    alloc: Global,
+    table: &Table<N, T, Stopping<'_>>,
+    stop: &Stop,
+    seats: (Seat<N>, Seat<N>),
+    keys: (u8, u8),
+) -> Option<(Reply, (Poll, Reply))> {
+    let (holder, waiting) = seats;
+    let (first, second) = join(
+        rt,
+        move || finish(rt, alloc, table, holder, 1, keys.0),
+        move || step_beside(rt, alloc, table, waiting, keys.1, stop),
+    );
+    Some((first?, second?))
+}
+
+/// A pass takes the lock of the key, another one's request waits for it, and then it is freed.
+fn wake_on<N: Name + Send + Sync, T: KeyTable + Send, R: Threads + Wait + Sync>(
+    rt: &R,
+    alloc: Global,
+    table: &Table<N, T, Stopping<'_>>,
+    stop: &Stop,
+    mut seats: Vec<Seat<N>>,
+    keys: (u8, u8),
+) -> Option<Woken> {
+    let holder = seats.pop()?;
+    let (waiting, scan) = held_and_scanned(rt, alloc, table, two_of(seats)?, keys.0)?;
+    let seats = (holder, waiting);
+    let (finish, (poll, acquire)) = finish_beside(rt, alloc, table, stop, seats, keys)?;
+    Some(Woken {
+        scan,
+        finish,
+        poll,
+        acquire,
+        is_apart: stop.gone.is_set(),
+    })
+}
+
+fn wake_named<N: Name + Send + Sync, R: Threads + Wait + Sync>(
+    rt: &R,
+    alloc: Global,
+    ready: Ready,
+    keys: (u8, u8),
+) -> Option<Woken>
+    requires { ready.of ≡ N.of }
+{
+    let stop = Stop::at(keys.0);
+    let waker = Stopping { stop: &stop };
+    let (table, passes) = open_waking::<N, Stopping<'_>>(alloc, ready, waker).ok()?;
+    let seats = seated::<N>(alloc, passes)?;
+    wake_on(rt, alloc, &table, &stop, seats, keys)
+}
+
+/// The lock of the first key is freed, which lets a request through; while the waker is told so, that request polls, and takes
+/// the lock of the second key in the same shard.
+pub fn wake<R: Threads + Wait + Sync>(rt: &R, alloc: Global, keys: (u8, u8)) -> Option<Woken> {
+    let ready = prepare(alloc, config_of(1, 3)).ok()?;
+    wake_named::<Brand, R>(rt, alloc, ready, keys)
 }

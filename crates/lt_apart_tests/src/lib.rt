@@ -1,4 +1,5 @@
-//! What works beside a thread that is inside a shard: a call at another shard, and a poll of that very shard's waiter.
+//! What works beside a thread that is inside a shard: a call at another shard, and a poll of that very shard's waiter. And
+//! what works beside a waker: a call at the shard whose step it is told of.
 //!
 //! A [`watched::Watched`] is the table of a shard whose acquire of one key goes no further, while it holds the shard's
 //! lock, until another thread sets a flag. [`beside`] has the two runs: in each the other thread sets the flag once its

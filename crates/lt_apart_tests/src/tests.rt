@@ -1,4 +1,4 @@
-use crate::beside::{Apart, Polled, poll, two_acquires};
+use crate::beside::{Apart, Polled, Woken, poll, two_acquires, wake};
 use lt_plain::Reply;
 use lt_table::{Poll, Scan};
 use std::test::Fail;
@@ -37,5 +37,21 @@ fn a_poll_takes_no_lock(rt: HostRuntime) -> Result<(), Fail> {
     };
     let polled = poll(&rt, rt.alloc(), (b'a', b'b')).ok_or("the poll")?;
     assert_eq!(rt; polled, wanted);
+    Ok(())
+}
+
+/// The waker is told of a let with no lock held, and after the let was shown: the request that was let through polls and makes
+/// a step of the same shard meanwhile.
+#[test]
+fn a_waker_is_called_under_no_lock(rt: HostRuntime) -> Result<(), Fail> {
+    let wanted = Woken {
+        scan: Scan::Waiting(0),
+        finish: Reply::Freed,
+        poll: Poll::Through,
+        acquire: Reply::Taken,
+        is_apart: true,
+    };
+    let woken = wake(&rt, rt.alloc(), (b'a', b'b')).ok_or("the waker")?;
+    assert_eq!(rt; woken, wanted);
     Ok(())
 }

@@ -1,15 +1,16 @@
-//! A table of one shard whose acquire of one key waits.
+//! A table of one shard whose acquire of one key waits, and a waker that waits.
 use crate::flag::Flag;
-use lt_ids::{Access, Key, Request, Through, Timestamp, TxnId};
-use lt_plain::{KeyTable, PlainTable, Reply};
+use lt_ids::{Access, Key, Request, Through, Ticket, Timestamp, TxnId};
+use lt_plain::{KeyState, KeyTable, PlainTable, Reply};
+use lt_table::Waker;
 use std::alloc::{AllocError, Global};
 
-/// The acquire of one key stops here.
+/// The acquire of one key stops here, or a waker.
 #[derive(Drop)]
 pub struct Stop {
     /// The one byte of the key.
     pub key: u8,
-    /// The acquire has come.
+    /// The acquire or the waker has come.
     pub come: Flag,
     /// It may go on.
     pub go: Flag,
@@ -27,14 +28,31 @@ impl Stop {
         }
     }
 
+    /// Tells that it has come, and goes on when it may.
+    fn meet(&self) {
+        self.come.set();
+        if self.go.wait() {
+            self.gone.set();
+        }
+    }
+
     /// An acquire of the key comes by.
     fn pass(&self, key: &Key) {
         if key.as_bytes() == [self.key].as_slice() {
-            self.come.set();
-            if self.go.wait() {
-                self.gone.set();
-            }
+            self.meet();
         }
+    }
+}
+
+/// A waker that stops.
+#[derive(Drop)]
+pub struct Stopping<'a> {
+    pub stop: &'a Stop,
+}
+
+impl<'a> Waker for Stopping<'a> {
+    fn wake(&self, _pass: u32, _ticket: Ticket) {
+        self.stop.meet();
     }
 }
 
@@ -114,5 +132,13 @@ impl<'a> KeyTable for Watched<'a> {
 
     fn look(&self, key: &Key, number: u64) -> Reply {
         self.table.look(key, number)
+    }
+
+    fn state(&self, alloc: Global, key: &Key) -> Result<KeyState, AllocError> {
+        self.table.state(alloc, key)
+    }
+
+    fn keys(&self, alloc: Global) -> Result<Vec<Key>, AllocError> {
+        self.table.keys(alloc)
     }
 }

@@ -1,5 +1,6 @@
 -- The lines of a pass, one after the other.
-use Rattle.std.proofs.Common.{◌≡◌, ℕ, ◌+◌, ◌<◌, ◌==◌, Bool, true, false, cond, List, [], ◌∷◌, ◌++◌, length, take, get_or, Option, None, refl, sym, ap, subst, ◌∙◌, inl, inr, append_assoc, append-nil}
+use Rattle.std.proofs.lemmas.Bool.Decides.{nat_tests}
+use Rattle.std.proofs.Common.{◌≡◌, ◌≢◌, arith, ℕ, ◌+◌, ◌<◌, ◌==◌, Bool, true, false, cond, List, [], ◌∷◌, ◌++◌, length, take, get_or, Option, None, refl, sym, ap, subst, ◌∙◌, inl, inr, append_assoc, append-nil}
 use Rattle.std.specs.List.{flat_map}
 use Rattle.std.proofs.lemmas.List.{map-append, take_more}
 use Rattle.std.proofs.lemmas.List.Elements.{filter-append}
@@ -173,3 +174,9 @@ pub worked_other : (rules : Rules) (always : Bool) (old : Seer) (cs : List Comma
     → IsWorked rules always old (lines_of old.number (take i cs)) w → IsWorked rules always old (lines_of old.number (take (i + 1) cs)) w
 worked_other rules always old cs i c w lt is miss h =
     subst (λ (ls : List Command). IsWorked rules always old ls w) (sym (ap (lines_of old.number) (front_more cs i c lt is) ∙ other old.number (take i cs) c miss)) h
+
+pub is_same : (m n : ℕ) → m ≡ n → (m == n) ≡ true
+is_same m n e = grind (arith, nat_tests)
+
+pub is_other : (m n : ℕ) → m ≢ n → (m == n) ≡ false
+is_other m n e = grind (arith, nat_tests)

@@ -125,7 +125,7 @@ record LetsThere (shards : ℕ) (g : List Event) (p : ℕ) (t : Wait) : Type 0 w
 
 let_there : (shards : ℕ) (g : List Event) (p : ℕ) (t : Wait) → 0 < shards → StepsAtHome shards g → LetIn g p t → LetsThere shards g p t
 let_there shards [] p t some home l = absurd l
-let_there shards (Opened a b ∷ g) p t some home l = absurd home
+let_there shards (Opened a b way ∷ g) p t some home l = absurd home
 let_there shards (Draw q n ∷ g) p t some home l =
     let old : LetsThere shards g p t = let_there shards g p t some home l in
     record { shard = old.shard; inside = old.inside; place = old.place; entry = old.entry; stands = old.stands; lets = old.lets }

@@ -62,7 +62,7 @@ ascend_append shards pass h (x ∷ xs) ys s a p q = (
 
 draws_append : (h g : List Event) → draws_of h ≤ draws_of (h ++ g)
 draws_append [] g = omega arith
-draws_append (Opened s p ∷ h) g = draws_append h g
+draws_append (Opened s p way ∷ h) g = draws_append h g
 draws_append (Draw p n ∷ h) g = let le : draws_of h ≤ draws_of (h ++ g) = draws_append h g in omega arith
 draws_append (Step s e ∷ h) g = draws_append h g
 
@@ -96,13 +96,13 @@ rise_append p old mid new (x ∷ xs) ys d e r s = (
 
 draws_snoc : (h : List Event) (p n : ℕ) → draws_of (h ++ Draw p n ∷ []) ≡ draws_of h + 1
 draws_snoc [] p n = refl
-draws_snoc (Opened a b ∷ h) p n = draws_snoc h p n
+draws_snoc (Opened a b way ∷ h) p n = draws_snoc h p n
 draws_snoc (Draw q m ∷ h) p n = ap (λ k. k + 1) (draws_snoc h p n)
 draws_snoc (Step s e ∷ h) p n = draws_snoc h p n
 
 drew_last : (h : List Event) (p n : ℕ) → DrewIn (h ++ Draw p n ∷ []) p n
 drew_last [] p n = inl (refl, refl)
-drew_last (Opened a b ∷ h) p n = drew_last h p n
+drew_last (Opened a b way ∷ h) p n = drew_last h p n
 drew_last (Draw q m ∷ h) p n = inr (drew_last h p n)
 drew_last (Step s e ∷ h) p n = drew_last h p n
 

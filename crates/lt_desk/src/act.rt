@@ -13,7 +13,10 @@ use crate::outcome::OutOfMemory;
 use lt_ids::{Access, Key, Timestamp, TxnId};
 use lt_plain::KeyTable;
 use lt_script::Action;
-use lt_table::{Answer, EnterError, Guard, Left, Poll, Scan, ScanError, StepError, Table};
+use lt_table::{
+    Answer, EnterError, EnterRefused, Guard, LeaveStopped, Left, Poll, Scan, ScanError, StepError,
+    Table,
+};
 use lt_words::{Name, Pass};
 use std::alloc::Global;
 use std::sync::Wait;
@@ -51,14 +54,18 @@ fn enter<N: Name, T: KeyTable, R: Wait>(
             })
         }
         Err(refused) => {
-            let refusal = match refused.error {
+            let EnterRefused { pass, error } = refused;
+            let refusal = match error {
                 EnterError::NoKeys => Refusal::NoKeys,
                 EnterError::TooManyKeys => Refusal::TooManyKeys,
                 EnterError::NumbersOut => Refusal::NumbersOut,
-                EnterError::Memory => return Err(OutOfMemory),
+                EnterError::Memory => {
+                    pass.abandon();
+                    return Err(OutOfMemory);
+                }
             };
             Ok(Told {
-                desk: Desk::Free(refused.pass),
+                desk: Desk::Free(pass),
                 answer: LineAnswer::Refused(refusal),
             })
         }
@@ -123,11 +130,17 @@ fn scan_of<N: Name, T: KeyTable, R: Wait>(
     ensures { IfOk result (λ told. Does (IsScanned table.now.max_waits) let_gone_on (Desk.Open guard) told.answer told.desk) }
 {
     let ended = table.scan(rt, &mut guard);
-    let answer = scan_answer(guard.keys(), ended)?;
-    Ok(Told {
-        desk: Desk::Open(guard),
-        answer,
-    })
+    let answered = scan_answer(guard.keys(), ended);
+    match answered {
+        Ok(answer) => Ok(Told {
+            desk: Desk::Open(guard),
+            answer,
+        }),
+        Err(error) => {
+            guard.abandon();
+            Err(error)
+        }
+    }
 }
 
 fn scan<N: Name, T: KeyTable, R: Wait>(
@@ -206,7 +219,10 @@ fn told_of(desk: Desk, answered: Result<Answer, StepError>) -> Result<Told, OutO
             desk,
             answer: LineAnswer::Refused(Refusal::HistoryFull),
         }),
-        Err(StepError::Memory) => Err(OutOfMemory),
+        Err(StepError::Memory) => {
+            desk.abandon();
+            Err(OutOfMemory)
+        }
     }
 }
 
@@ -322,19 +338,25 @@ fn leave_of<N: Name, T: KeyTable, R: Wait>(
 {
     match table.leave(rt, guard) {
         Ok(left) => {
-            let Left { pass, .. } = left;
+            let Left { pass, answers: _ } = left;
             Ok(Told {
                 desk: Desk::Free(pass),
                 answer: LineAnswer::Done,
             })
         }
-        Err(stopped) => match stopped.error {
-            StepError::HistoryFull => Ok(Told {
-                desk: Desk::Open(stopped.guard),
-                answer: LineAnswer::Refused(Refusal::HistoryFull),
-            }),
-            StepError::Memory => Err(OutOfMemory),
-        },
+        Err(stopped) => {
+            let LeaveStopped { guard, error } = stopped;
+            match error {
+                StepError::HistoryFull => Ok(Told {
+                    desk: Desk::Open(guard),
+                    answer: LineAnswer::Refused(Refusal::HistoryFull),
+                }),
+                StepError::Memory => {
+                    guard.abandon();
+                    Err(OutOfMemory)
+                }
+            }
+        }
     }
 }
 

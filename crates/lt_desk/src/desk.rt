@@ -3,14 +3,22 @@ use lt_table::Guard;
 use lt_words::Pass;
 
 /// What a pass has between two of its lines: a request, or none.
-#[derive(Drop)]
 pub enum Desk {
     Free(Pass),
     Open(Guard),
 }
 
+impl Desk {
+    /// Gives it up.
+    pub fn abandon(self) {
+        match self {
+            Desk::Free(pass) => pass.abandon(),
+            Desk::Open(guard) => guard.abandon(),
+        }
+    }
+}
+
 /// The answer of a line, and what the pass has then.
-#[derive(Drop)]
 pub(crate) struct Told {
     pub desk: Desk,
     pub answer: LineAnswer,

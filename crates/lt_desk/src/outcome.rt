@@ -1,6 +1,8 @@
 use crate::answer::AnswerLine;
 use crate::desk::Desk;
 use lt_history::Entry;
+use lt_words::Pass;
+use std::marker::Model;
 
 /// Memory ran out.
 #[derive(Clone, Copy, Debug, PartialEq, Eq)]
@@ -15,12 +17,78 @@ pub enum Finish {
     TurnsOut,
 }
 
-/// What a worker did: the answers of its lines, in order, how they ended, and what the pass has then.
-#[derive(Drop)]
+/// What a worker did: the answers of its lines, in order, how they ended, and what the pass has then. It may be let go, as
+/// where memory runs out in the middle of a run: what the pass has is then given up.
 pub struct Work {
     pub desk: Desk,
     pub answers: Vec<AnswerLine>,
     pub finish: Finish,
+}
+
+impl Drop for Work {
+    fn drop(self) {
+        let Work {
+            desk,
+            answers: _,
+            finish: _,
+        } = self;
+        desk.abandon();
+    }
+}
+
+impl Work {
+    ghost use Rattle.std.specs.Prelude.{◌≡◌};
+
+    /// Its desk, its answers and its finish.
+    pub(crate) fn into_parts(self) -> (Desk, Vec<AnswerLine>, Finish)
+        ensures desk { result.0 ≡ self.desk }
+        ensures answers { result.1 ≡ self.answers }
+        ensures finish { result.2 ≡ self.finish }
+    {
+        let Work {
+            desk,
+            answers,
+            finish,
+        } = self;
+        (desk, answers, finish)
+    }
+}
+
+/// A pass that has no line done yet. It may be let go: it is then given up.
+pub(crate) struct Seat {
+    pass: Pass,
+}
+
+impl Model for Seat {
+    ghost use Rattle.lt_words.specs.Row.{Seer};
+
+    ghost Value = { Seer };
+
+    ghost view = { λ s. s.pass };
+}
+
+impl Drop for Seat {
+    fn drop(self) {
+        let Seat { pass } = self;
+        pass.abandon();
+    }
+}
+
+impl Seat {
+    ghost use Rattle.std.specs.Prelude.{◌≡◌};
+
+    pub(crate) fn new(pass: Pass) -> Seat
+        ensures { result ≡ pass }
+    {
+        Seat { pass }
+    }
+
+    pub(crate) fn into_pass(self) -> Pass
+        ensures { result ≡ self }
+    {
+        let Seat { pass } = self;
+        pass
+    }
 }
 
 /// What came of a run.

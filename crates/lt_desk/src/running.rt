@@ -4,16 +4,32 @@ ghost use Rattle.std.specs.List.{All, AllByRecursion};
 ghost use Rattle.lt_desk.specs.Turns.{AreNumbered, AreTried, AreWorked, HaveBegun, IsAmong, IsReady, IsTriedOf, TakesTurn, slot_at, somes};
 
 use crate::gate::Gate;
-use crate::outcome::{OutOfMemory, Work};
+use crate::outcome::{OutOfMemory, Seat, Work};
 use crate::worker::{begin, lines_by_pass, lines_of_pass, next_line, work};
 use lt_plain::KeyTable;
 use lt_script::Command;
 use lt_table::Table;
-use lt_words::{Name, Pass};
+use lt_words::{Name, Pass, abandon_all};
 use std::alloc::Global;
 use std::sync::Wait;
 use std::thread::Threads;
 use std::{mem, thread};
+
+/// A seat for each pass.
+pub(crate) fn seats_of(alloc: Global, passes: Vec<Pass>) -> Result<Vec<Seat>, OutOfMemory>
+    ensures { IfOk result (λ seats. seats.items ≡ passes.items) }
+{
+    let Ok(mut seats) = Vec::with_capacity(alloc, passes.len()) else {
+        abandon_all(passes);
+        return Err(OutOfMemory);
+    };
+    let mut rest = passes.into_iter();
+    while let Some(pass) = rest.next() {
+        seats.push_reserved(Seat::new(pass));
+    }
+    rest.destroy_empty();
+    Ok(seats)
+}
 
 /// Each pass runs its lines on a thread of its own.
 fn start_all<N: Name + Send + Sync, T: KeyTable + Send, G: Gate + Sync, R: Threads + Wait + Sync>(
@@ -22,7 +38,7 @@ fn start_all<N: Name + Send + Sync, T: KeyTable + Send, G: Gate + Sync, R: Threa
     table: &Table<N, T>,
     gate: &G,
     turns: Option<u64>,
-    passes: Vec<Pass>,
+    passes: Vec<Seat>,
     commands: &[Command],
 ) -> Result<Vec<Result<Work, OutOfMemory>>, OutOfMemory>
     requires { All (λ p. p.of ≡ N.of) passes.items }
@@ -31,10 +47,10 @@ fn start_all<N: Name + Send + Sync, T: KeyTable + Send, G: Gate + Sync, R: Threa
     let done = thread::map_vec(
         rt,
         passes,
-        &|pass: Pass| -> Result<Work, OutOfMemory>
-            requires { pass.of ≡ N.of }
-            ensures { IsTriedOf (record { max_waits = table.entry.now.max_waits; turns = turns }) (G.always gate.entry.now) commands.entry.now pass result }
-        { work(rt, alloc, table, gate, turns, pass, commands) },
+        &|seat: Seat| -> Result<Work, OutOfMemory>
+            requires { seat.of ≡ N.of }
+            ensures { IsTriedOf (record { max_waits = table.entry.now.max_waits; turns = turns }) (G.always gate.entry.now) commands.entry.now seat result }
+        { work(rt, alloc, table, gate, turns, seat.into_pass(), commands) },
     );
     match done {
         Ok(works) => Ok(works),
@@ -68,7 +84,7 @@ pub(crate) fn run_on_threads<
     table: &Table<N, T>,
     gate: &G,
     turns: Option<u64>,
-    passes: Vec<Pass>,
+    passes: Vec<Seat>,
     commands: &[Command],
 ) -> Result<Vec<Work>, OutOfMemory>
     requires { All (λ p. p.of ≡ N.of) passes.items }
@@ -105,14 +121,15 @@ fn take_turn<N: Name, T: KeyTable, G: Gate, R: Wait>(
 
 fn begin_all(
     alloc: Global,
-    passes: Vec<Pass>,
+    passes: Vec<Seat>,
     commands: &[Command],
 ) -> Result<Vec<Option<Work>>, OutOfMemory>
     ensures { IfOk result (λ slots. HaveBegun passes.items slots.items) }
 {
     let lines = lines_by_pass(commands);
     let mut slots = Vec::new(alloc);
-    for pass in passes {
+    for seat in passes {
+        let pass = seat.into_pass();
         let room = lines_of_pass(&lines, &pass);
         let begun = begin(alloc, pass, room)?;
         let Ok(()) = slots.push(Some(begun)) else {
@@ -143,7 +160,7 @@ pub(crate) fn run_in_turn<N: Name, T: KeyTable, G: Gate, R: Wait>(
     table: &Table<N, T>,
     gate: &G,
     turns: Option<u64>,
-    passes: Vec<Pass>,
+    passes: Vec<Seat>,
     commands: &[Command],
 ) -> Result<Vec<Work>, OutOfMemory>
     requires numbered { AreNumbered 0 passes.items }

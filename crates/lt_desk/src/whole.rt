@@ -1,5 +1,5 @@
 //! A whole run: a table is opened, the lines are run, and the table is closed.
-ghost use Rattle.std.specs.Prelude.{◌≡◌, ◌≤◌, ◌<◌, ◌^◌, ◌⊎◌, IfOk, OnOk, length, map};
+ghost use Rattle.std.specs.Prelude.{◌≡◌, ◌≤◌, ◌<◌, ◌+◌, ◌^◌, ◌⊎◌, [], IfOk, length, map, vec_capacity};
 ghost use Rattle.std.specs.List.{All, AllByRecursion};
 ghost use Rattle.lt_table.specs.Closed.{passes_of};
 ghost use Rattle.lt_desk.specs.Desks.{pass_of};
@@ -11,18 +11,17 @@ use crate::answer::AnswerLine;
 use crate::desk::Desk;
 use crate::gate::Gate;
 use crate::outcome::{Finish, OutOfMemory, Ran, RunFault, Work};
-use crate::running::{run_in_turn, run_on_threads};
+use crate::running::{run_in_turn, run_on_threads, seats_of};
 use lt_plain::KeyTable;
 use lt_script::Command;
 use lt_table::{CloseError, Config, Guard, Ready, Table, open, prepare};
-use lt_words::{Name, Pass};
+use lt_words::{Name, Pass, abandon_all};
 use std::alloc::Global;
 use std::marker::Brand;
 use std::sync::Wait;
 use std::thread::Threads;
 
 /// What workers hand over: their passes, alone or in a guard, their answers, and how they ended.
-#[derive(Drop)]
 struct Handed {
     passes: Vec<Pass>,
     guards: Vec<Guard>,
@@ -40,15 +39,47 @@ fn join(one: Finish, other: Finish) -> Finish
     }
 }
 
-/// Puts what the desk holds at the end of the passes, or of the guards.
-fn put(desk: Desk, passes: &mut Vec<Pass>, guards: &mut Vec<Guard>) -> Result<(), OutOfMemory>
-    ensures { OnOk result (IsPut desk passes.old.items guards.old.items passes.new.items guards.new.items) }
+/// Puts what the desk holds at the end of the passes, or of the guards, where there is room.
+fn put(desk: Desk, passes: &mut Vec<Pass>, guards: &mut Vec<Guard>)
+    requires passes { length passes.old.items < vec_capacity passes.old }
+    requires guards { length guards.old.items < vec_capacity guards.old }
+    ensures put { IsPut desk passes.old.items guards.old.items passes.new.items guards.new.items }
+    ensures passes { (vec_capacity passes.new ≡ vec_capacity passes.old) × (length passes.new.items ≤ length passes.old.items + 1) }
+    ensures guards { (vec_capacity guards.new ≡ vec_capacity guards.old) × (length guards.new.items ≤ length guards.old.items + 1) }
 {
-    let pushed = match desk {
-        Desk::Free(pass) => passes.push(pass).is_ok(),
-        Desk::Open(guard) => guards.push(guard).is_ok(),
+    match desk {
+        Desk::Free(pass) => passes.push_reserved(pass),
+        Desk::Open(guard) => guards.push_reserved(guard),
+    }
+}
+
+/// Room for what so many workers hand over.
+struct Room {
+    passes: Vec<Pass>,
+    guards: Vec<Guard>,
+    answers: Vec<Vec<AnswerLine>>,
+}
+
+fn take_room(alloc: Global, many: usize) -> Result<Room, OutOfMemory>
+    ensures passes { IfOk result (λ r. (r.passes.items ≡ []) × (vec_capacity r.passes ≡ many)) }
+    ensures guards { IfOk result (λ r. (r.guards.items ≡ []) × (vec_capacity r.guards ≡ many)) }
+    ensures answers { IfOk result (λ r. (r.answers.items ≡ []) × (vec_capacity r.answers ≡ many)) }
+{
+    let Ok(answers) = Vec::with_capacity(alloc, many) else {
+        return Err(OutOfMemory);
     };
-    if pushed { Ok(()) } else { Err(OutOfMemory) }
+    let Ok(passes) = Vec::with_capacity(alloc, many) else {
+        return Err(OutOfMemory);
+    };
+    let Ok(guards) = Vec::with_capacity(alloc, many) else {
+        abandon_all(passes);
+        return Err(OutOfMemory);
+    };
+    Ok(Room {
+        passes,
+        guards,
+        answers,
+    })
 }
 
 fn hand_over<N: Name>(alloc: Global, works: Vec<Work>) -> Result<Handed, OutOfMemory>
@@ -59,20 +90,17 @@ fn hand_over<N: Name>(alloc: Global, works: Vec<Work>) -> Result<Handed, OutOfMe
     ensures answers { IfOk result (λ h. h.answers.items ≡ map (λ w. w.answers) works.items) }
     ensures finish { IfOk result (λ h. h.finish ≡ finish_all (map (λ w. w.finish) works.items)) }
 {
-    let mut passes = Vec::new(alloc);
-    let mut guards = Vec::new(alloc);
-    let mut answers = Vec::new(alloc);
+    let room = take_room(alloc, works.len())?;
+    let Room {
+        mut passes,
+        mut guards,
+        mut answers,
+    } = room;
     let mut finish = Finish::Done;
     for work in works {
-        let Work {
-            desk,
-            answers: lines,
-            finish: end,
-        } = work;
-        put(desk, &mut passes, &mut guards)?;
-        let Ok(()) = answers.push(lines) else {
-            return Err(OutOfMemory);
-        };
+        let (desk, lines, end) = work.into_parts();
+        put(desk, &mut passes, &mut guards);
+        answers.push_reserved(lines);
         finish = join(finish, end);
     }
     Ok(Handed {
@@ -98,9 +126,10 @@ fn run_lines<N: Name + Send + Sync, T: KeyTable + Send, G: Gate + Sync, R: Threa
     requires among { AllByRecursion (IsAmong (length passes.items)) commands.now }
     ensures { IfOk result (λ works. AreWorked (record { max_waits = table.now.max_waits; turns = turns }) (G.always gate.now) commands.now passes.items works.items) }
 {
+    let seats = seats_of(alloc, passes)?;
     match turns {
-        Some(_) => run_on_threads(rt, alloc, table, gate, turns, passes, commands),
-        None => run_in_turn(rt, alloc, table, gate, turns, passes, commands),
+        Some(_) => run_on_threads(rt, alloc, table, gate, turns, seats, commands),
+        None => run_in_turn(rt, alloc, table, gate, turns, seats, commands),
     }
 }
 
@@ -135,10 +164,14 @@ fn run_named<N: Name + Send + Sync, G: Gate + Sync, R: Threads + Wait + Sync>(
             finish,
             histories: histories.shards,
         }),
-        Err(refused) => match refused.error {
-            CloseError::Memory => Err(RunFault::Memory),
-            _ => Err(RunFault::Counts),
-        },
+        Err(refused) => {
+            let error = refused.error;
+            refused.abandon();
+            match error {
+                CloseError::Memory => Err(RunFault::Memory),
+                _ => Err(RunFault::Counts),
+            }
+        }
     }
 }
 

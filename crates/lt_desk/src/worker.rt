@@ -5,7 +5,7 @@ ghost use Rattle.lt_desk.specs.Worked.{is_turns, finish_of, lines_of, IsBegun, I
 
 use crate::act::act;
 use crate::answer::{AnswerLine, LineAnswer};
-use crate::desk::Desk;
+use crate::desk::{Desk, Told};
 use crate::gate::Gate;
 use crate::outcome::{Finish, OutOfMemory, Work};
 use lt_plain::KeyTable;
@@ -40,15 +40,18 @@ fn take_line<N: Name, T: KeyTable, R: Wait>(
     requires { (pass_of desk).of ≡ N.of }
     ensures { IfOk result (λ r. TakesLine (record { max_waits = table.now.max_waits; turns = turns }) command.now desk answers.old.items r.0 answers.new.items r.1) }
 {
-    let told = act(rt, alloc, table, turns, desk, &command.action)?;
-    let out = is_turns(&told.answer);
+    let Told { desk, answer } = act(rt, alloc, table, turns, desk, &command.action)?;
+    let out = is_turns(&answer);
     let answer = AnswerLine {
         line: command.line,
-        answer: told.answer,
+        answer,
     };
     match answers.push(answer) {
-        Ok(()) => Ok((told.desk, out)),
-        Err(_) => Err(OutOfMemory),
+        Ok(()) => Ok((desk, out)),
+        Err(_) => {
+            desk.abandon();
+            Err(OutOfMemory)
+        }
     }
 }
 
@@ -99,17 +102,12 @@ pub(crate) fn next_line<N: Name, T: KeyTable, G: Gate, R: Wait>(
 {
     match work.finish {
         Finish::TurnsOut => Ok(work),
-        Finish::Done => live_line(
-            rt,
-            alloc,
-            table,
-            gate,
-            turns,
-            work.desk,
-            work.answers,
-            number,
-            command,
-        ),
+        Finish::Done => {
+            let (desk, answers, _) = work.into_parts();
+            live_line(
+                rt, alloc, table, gate, turns, desk, answers, number, command,
+            )
+        }
     }
 }
 
@@ -118,6 +116,7 @@ pub(crate) fn begin(alloc: Global, pass: Pass, lines: usize) -> Result<Work, Out
     ensures { IfOk result (IsBegun pass) }
 {
     let Ok(answers) = Vec::with_capacity(alloc, lines) else {
+        pass.abandon();
         return Err(OutOfMemory);
     };
     Ok(Work {

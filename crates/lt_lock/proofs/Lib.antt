@@ -10,3 +10,4 @@ pub mod Leaves
 pub mod Tables
 pub mod Waits
 pub mod Visits
+pub mod Copies

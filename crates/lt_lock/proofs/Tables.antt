@@ -4,12 +4,13 @@ use mathlib.Core.Bool.{true≢false}
 use Rattle.std.proofs.lemmas.Bool.Decides.{nat_tests}
 use Rattle.std.proofs.lemmas.Result.{IfOk-weaker}
 use Rattle.std.specs.Option.{option_map}
-use Rattle.std.specs.Result.{IfOk, OnErr}
+use Rattle.std.specs.Result.{IfOk, OnOk, OnErr}
 use Rattle.std.specs.declared.result.Result.{Result}
 use Rattle.std.specs.declared.result.Result.TheVariants.{Ok, Err}
 use Rattle.std.specs.Cmp.Lexicographic.{nat_list_cmp_total}
-use Rattle.std.specs.FinMap.{get, find, gets, get-from_entries, get-remove}
+use Rattle.std.specs.FinMap.{get, find, keys, gets, get-from_entries, get-remove}
 use Rattle.std.specs.BTreeMap as tree
+use Rattle.std.specs.List.Sorted.{IsStrictlySortedBy}
 use Rattle.std.specs.BTreeMap.{is_at, UpdatesBy}
 use Rattle.std.specs.Map.{lookup}
 use Rattle.lt_ids.specs.declared.ticket.Through.{Through}
@@ -25,6 +26,7 @@ use Rattle.lt_plain.specs.declared.call.Reply.TheVariants.{Taken}
 use Rattle.lt_plain.specs.Rules.{Record, empty, is_empty, Outcome, unchanged, take_lock}
 use Rattle.lt_plain.specs.Table.{record_at, with_record, AreSound, IsKept, IsStep}
 use Rattle.lt_plain.specs.Lawful.{IsLawful}
+use Rattle.lt_plain.proofs.Rising.{keys-from_entries}
 use Rattle.lt_plain.proofs.Maps.{order, same_records, same_or_apart, is_apart, others_dropped, sound_filled}
 use Rattle.lt_lock.specs.declared.row.Row.{Row}
 use Rattle.lt_lock.specs.Linked.{Rows, row_at, request_of, writer_of, no_stand, stand_at, stands_at, line, queue_at, record_of, records_of, IsLinked, IsUsed, AreLinked}
@@ -41,6 +43,20 @@ find_mapped g k (e ∷ es) = elim (is_at (order k) e.0) as (λ b. cond b (Some (
 -- a key's record is what its row and the links say
 pub get_of : (m : Maps) (rows : Rows) (k : List ℕ) → get (records_of m rows) k ≡ option_map (record_of m) (row_at rows k)
 get_of m rows k = get-from_entries nat_list_cmp_total (map (λ e. (e.0, record_of m e.1)) rows.entries) k ∙ find_mapped (record_of m) k rows.entries
+
+-- the keys that have a record are those that have a row, which rise
+pub keys_of : (m : Maps) (rows : Rows) → IsStrictlySortedBy order (tree.keys rows) → keys (records_of m rows) ≡ tree.keys rows
+keys_of m rows rising =
+    keys-from_entries (map (λ (e : List ℕ × Row). (e.0, record_of m e.1)) rows.entries) (subst (IsStrictlySortedBy order) (sym (firsts (record_of m) rows.entries)) rising)
+    ∙ firsts (record_of m) rows.entries
+  where
+    firsts : {V X : Type 0} (g : V → X) (es : List (List ℕ × V)) → map (λ (e : List ℕ × X). e.0) (map (λ (e : List ℕ × V). (e.0, g e.1)) es) ≡ map (λ (e : List ℕ × V). e.0) es
+    firsts g [] = refl
+    firsts g (e ∷ es) = ap (λ ks. e.0 ∷ ks) (firsts g es)
+
+pub keys_told : {A E : Type 0} (m : Maps) (rows : Rows) (items : A → List (List ℕ)) (r : Result A E) → IfOk r (λ all. items all ≡ tree.keys rows) → OnOk r (IsStrictlySortedBy order (tree.keys rows)) → IfOk r (λ all. items all ≡ keys (records_of m rows))
+keys_told m rows items (Ok all) are rising = are ∙ sym (keys_of m rows rising)
+keys_told m rows items (Err e) are rising = tt
 
 -- the record of a row that a look-up finds
 pub found : (m : Maps) (rows : Rows) (k : List ℕ) (r : Row) → Some r ≡ row_at rows k → record_at (records_of m rows) k ≡ record_of m r

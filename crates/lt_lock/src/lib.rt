@@ -11,11 +11,12 @@
 //!
 //! All memory is taken before the first change, that of the lets too, so an error changes nothing.
 //!
-//! `specs/Linked.antt` says what a row and its queues mean: the record of a key. In `src/`, `find` finds a request's
+//! `specs/Linked.antt` says what a row and its queues mean: the record of a key. In `src/`, `copy` tells a key's state, `find` finds a request's
 //! stand, `txn` compares whose it is, `lines` writes queues, `walk` goes through them, `settle` sees to the
 //! distinguished waiter, `visit` and `row` have what the calls do to one row, and `table` the table.
 #![tactic(auto)]
 
+mod copy;
 mod find;
 mod lines;
 mod row;

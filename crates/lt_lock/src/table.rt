@@ -1,6 +1,10 @@
 //! The table: a row for each key that is locked or waited for, over the links.
-ghost use Rattle.std.specs.Prelude.{◌≡◌, [], true, IfOk, OnErr, IsOk};
+ghost use Rattle.std.specs.Prelude.{◌≡◌, [], true, IfOk, OnErr, OnOk, IsOk};
 ghost use Rattle.std.specs.FinMap as map;
+ghost use Rattle.std.specs.BTreeMap.{keys};
+ghost use Rattle.std.specs.Cmp.Lexicographic.{slice_cmp};
+ghost use Rattle.std.specs.List.Sorted.{IsStrictlySortedBy};
+ghost use Rattle.std.specs.Ordering.{nat_cmp};
 ghost use Rattle.lt_ids.specs.Ids.{IsWaitNumber};
 ghost use Rattle.lt_plain.specs.declared.call.Reply.TheVariants.{Absent};
 ghost use Rattle.lt_plain.specs.Rules.{empty, TakesNoMemory, acquire, update, finish, leave, take_lock};
@@ -10,12 +14,13 @@ ghost use Rattle.lt_plain.specs.Table.{queued_of, record_at, with_record, IsStep
 ghost use Rattle.lt_lock.specs.Linked.{records_of, request_of, IsNamed, AreLinked};
 ghost use Rattle.lt_lock.specs.Went.{IsTable};
 
+use crate::copy::state;
 use crate::row;
 use crate::row::Row;
 use crate::visit::visit;
 use lt_ids::{Access, Key, Request, Through, Timestamp, TxnId};
 use lt_links::{Links, Stand};
-use lt_plain::{Holder, KeyTable, Reply};
+use lt_plain::{Holder, KeyState, KeyTable, Reply};
 use std::alloc::{AllocError, Global};
 use std::collections::BTreeMap;
 use std::marker::Model;
@@ -184,6 +189,28 @@ fn look_at(links: &Links, rows: &Rows, key: &Key, number: u64) -> Reply
     }
 }
 
+fn state_at(links: &Links, rows: &Rows, alloc: Global, key: &Key) -> Result<KeyState, AllocError>
+    requires { IsTable links.now rows.now }
+    ensures { IfOk result (λ state. state ≡ record_at (records_of links.now rows.now) key.now) }
+{
+    match rows.get(key) {
+        None => Ok(KeyState::empty(alloc)),
+        Some(row) => state(links, alloc, row),
+    }
+}
+
+/// The keys that have a row, in order.
+fn all_keys(rows: &Rows, alloc: Global) -> Result<Vec<Key>, AllocError>
+    ensures keys { IfOk result (λ all. all.items ≡ keys rows.now) }
+    ensures rising { OnOk result (IsStrictlySortedBy (slice_cmp nat_cmp) (keys rows.now)) }
+{
+    let mut all = Vec::with_capacity(alloc, rows.len())?;
+    for key in rows.keys() {
+        all.push(key.copy()?)?;
+    }
+    Ok(all)
+}
+
 /// Takes the lock of a key that has no row.
 fn insert_held(
     links: &mut Links,
@@ -300,5 +327,13 @@ impl KeyTable for LinkedTable {
 
     fn look(&self, key: &Key, number: u64) -> Reply {
         look_at(&self.links, &self.rows, key, number)
+    }
+
+    fn state(&self, alloc: Global, key: &Key) -> Result<KeyState, AllocError> {
+        state_at(&self.links, &self.rows, alloc, key)
+    }
+
+    fn keys(&self, alloc: Global) -> Result<Vec<Key>, AllocError> {
+        all_keys(&self.rows, alloc)
     }
 }

@@ -14,6 +14,7 @@
 #![tactic(auto)]
 
 mod call;
+mod key_state;
 mod key_table;
 pub mod laws;
 mod plain_record;
@@ -23,6 +24,7 @@ mod queues;
 pub mod step;
 
 pub use call::{Call, Reply};
+pub use key_state::KeyState;
 pub use key_table::KeyTable;
 pub use plain_table::PlainTable;
 pub use queued::{Holder, QueuedRequest, QueuedWriter};

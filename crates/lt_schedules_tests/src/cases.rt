@@ -1,4 +1,5 @@
 //! What came about in the schedules, counted, so that the test can tell that it met each kind of answer.
+use crate::standing::{Standing, Wanted};
 use crate::steps::{Asked, Step};
 use lt_plain::Reply;
 use lt_table::{EnterError, Poll, Scan, ScanError, StepError};
@@ -60,10 +61,19 @@ pub enum Case {
     RepliedWaitFirstForAHolder,
     RepliedWaitFirstForAReservation,
     RepliedWaitOwn,
+    AskedEmpty,
+    AskedHeld,
+    AskedReserved,
+    AskedWriters,
+    AskedIdleWriter,
+    AskedReaders,
+    AskedDistinguished,
+    AskedForNoKeys,
+    AskedForKeys,
 }
 
 /// All of them.
-pub const CASES: [Case; 52] = [
+pub const CASES: [Case; 61] = [
     Case::Entered,
     Case::NoKeys,
     Case::NumbersOut,
@@ -116,12 +126,21 @@ pub const CASES: [Case; 52] = [
     Case::RepliedWaitFirstForAHolder,
     Case::RepliedWaitFirstForAReservation,
     Case::RepliedWaitOwn,
+    Case::AskedEmpty,
+    Case::AskedHeld,
+    Case::AskedReserved,
+    Case::AskedWriters,
+    Case::AskedIdleWriter,
+    Case::AskedReaders,
+    Case::AskedDistinguished,
+    Case::AskedForNoKeys,
+    Case::AskedForKeys,
 ];
 
 /// How often each case came about.
 #[derive(Drop)]
 pub struct Counts {
-    counts: [u64; 52],
+    counts: [u64; 61],
 }
 
 /// How a request stood before a command.
@@ -137,7 +156,7 @@ pub struct Before {
 
 impl Counts {
     pub fn new() -> Self {
-        Counts { counts: [0; 52] }
+        Counts { counts: [0; 61] }
     }
 
     pub fn add(&mut self, case: Case) {
@@ -168,6 +187,38 @@ impl Counts {
         if before.goes_on && matches!(line.told, Told::Scanned(Scan::TooLong(_))) {
             self.add(Case::TooLongAfterALet);
         }
+    }
+
+    /// The case, where it is so.
+    fn add_if(&mut self, case: Case, is_so: bool) {
+        if is_so {
+            self.add(case);
+        }
+    }
+
+    /// What was to be answered to a question.
+    pub fn add_wanted(&mut self, wanted: &Wanted) {
+        match wanted {
+            Wanted::State(standing) => self.add_standing(standing),
+            Wanted::Keys(keys) => {
+                self.add_if(Case::AskedForNoKeys, keys.is_empty());
+                self.add_if(Case::AskedForKeys, keys.len() > 1);
+            }
+        }
+    }
+
+    /// How a key stood that was asked for.
+    fn add_standing(&mut self, standing: &Standing) {
+        let is_held = standing.holder.is_some();
+        let is_reserved = standing.reserved.is_some();
+        let has_idle = standing.writers.iter().any(|writer| !writer.active);
+        self.add_if(Case::AskedEmpty, !is_held && !is_reserved);
+        self.add_if(Case::AskedHeld, is_held);
+        self.add_if(Case::AskedReserved, is_reserved);
+        self.add_if(Case::AskedWriters, standing.writers.len() > 1);
+        self.add_if(Case::AskedIdleWriter, has_idle);
+        self.add_if(Case::AskedReaders, standing.readers.len() > 1);
+        self.add_if(Case::AskedDistinguished, standing.distinguished.is_some());
     }
 
     /// What this step was.

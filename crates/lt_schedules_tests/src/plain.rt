@@ -5,6 +5,7 @@ ghost use Rattle.std.specs.FinMap as finmap;
 
 use lt_plain::PlainTable;
 use lt_table::{Config, Ready, open_with, prepare};
+use lt_table_player::asking::Question;
 use lt_table_player::command::{Row, TableCall};
 use lt_table_player::run::{Ran, play_all};
 use lt_table_player::tables::empty_tables;
@@ -33,13 +34,16 @@ fn run_named<N: Name, R: Wait>(
     ready: Ready,
     tables: Vec<PlainTable>,
     rows: &[Row],
+    questions: &[Option<Question>],
 ) -> Result<Ran, TableCall>
     requires named { ready.of ≡ N.of }
     requires many { length tables.items ≡ N.of.shards }
     requires empty { All (λ t. t ≡ finmap.empty) tables.items }
 {
     match open_with::<N, PlainTable>(alloc, ready, tables) {
-        Ok((table, passes)) => play_all(rt, alloc, table, passes, rows).ok_or(TableCall::Beside),
+        Ok((table, passes)) => {
+            play_all(rt, alloc, table, passes, rows, questions).ok_or(TableCall::Beside)
+        }
         Err(_) => Err(TableCall::OpenWith),
     }
 }
@@ -50,12 +54,14 @@ pub fn run_plain<R: Wait>(
     alloc: Global,
     config: Config,
     rows: &[Row],
+    questions: &[Option<Question>],
 ) -> Result<Ran, TableCall> {
     let Ok(ready) = prepare(alloc, config) else {
         return Err(TableCall::Prepare);
     };
     let Ok(tables) = plain_tables(alloc, config.shards) else {
+        ready.abandon();
         return Err(TableCall::Beside);
     };
-    run_named::<Brand, R>(rt, alloc, ready, tables, rows)
+    run_named::<Brand, R>(rt, alloc, ready, tables, rows, questions)
 }

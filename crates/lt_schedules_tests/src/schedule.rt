@@ -1,10 +1,12 @@
 ghost use Rattle.std.specs.Prelude.{◌<◌, ◌≤◌};
 
 use crate::cases::Counts;
+use crate::standing::Wanted;
 use crate::table::SecondTable;
 use lt_ids::Access;
 use lt_rules_tests::random::Random;
 use lt_table::Config;
+use lt_table_player::asking::Question;
 use lt_table_player::command::{Command, Row};
 use lt_table_player::desk::Line;
 use std::alloc::Global;
@@ -12,12 +14,17 @@ use std::alloc::Global;
 /// How many commands a schedule has.
 const COMMANDS: usize = 80;
 
-/// A schedule: the numbers of its table, commands with what each is to be told, and what the rules give in full.
+/// A schedule: the numbers of its table, commands with what each is to be told, what is asked behind some of them, and what
+/// the rules give in full.
 #[derive(Drop)]
 pub struct Schedule {
     pub config: Config,
     pub rows: Vec<Row>,
     pub lines: Vec<Line>,
+    /// What is asked behind the command at the same place.
+    pub questions: Vec<Option<Question>>,
+    /// What is to be answered, question after question.
+    pub wanted: Vec<Wanted>,
     pub second: SecondTable,
 }
 
@@ -181,8 +188,44 @@ fn random_start(alloc: Global, random: &mut Random) -> Schedule
         config,
         rows: Vec::new(alloc),
         lines: Vec::new(alloc),
+        questions: Vec::new(alloc),
+        wanted: Vec::new(alloc),
         second: SecondTable::new(alloc, config),
     }
+}
+
+/// Asks in one of four cases how a key stands, and now and then which keys of a shard have a record, if the pass can.
+fn random_question(random: &mut Random, is_open: bool) -> Option<Question> {
+    match random.below(8) {
+        0 | 1 => Some(Question::State(random_key(random))),
+        2 if !is_open => Some(Question::Keys(random_key(random))),
+        _ => None,
+    }
+}
+
+/// What the rules give for a question.
+fn wanted_of(second: &SecondTable, question: Question) -> Option<Wanted> {
+    match question {
+        Question::State(key) => Some(Wanted::State(second.standing(key)?)),
+        Question::Keys(key) => Some(Wanted::Keys(second.keys_beside(key)?)),
+    }
+}
+
+/// Adds what the pass at this place asks behind its latest command, and what the rules give for it.
+fn add_question(
+    random: &mut Random,
+    place: usize,
+    schedule: &mut Schedule,
+    counts: &mut Counts,
+) -> Option<()> {
+    let question = random_question(random, schedule.second.stands(place).is_open);
+    if let Some(question) = question {
+        let wanted = wanted_of(&schedule.second, question)?;
+        counts.add_wanted(&wanted);
+        schedule.wanted.push(wanted).ok()?;
+    }
+    schedule.questions.push(question).ok()?;
+    Some(())
 }
 
 /// Adds a command by the pass at this place, and what the rules give for it.
@@ -210,6 +253,7 @@ pub fn random_schedule(alloc: Global, seed: u64, counts: &mut Counts) -> Option<
     for _ in 0..COMMANDS {
         let place = random.below(passes) as usize;
         add_command(alloc, &mut random, place, &mut schedule, counts)?;
+        add_question(&mut random, place, &mut schedule, counts)?;
     }
     for step in schedule.second.steps() {
         counts.add_step(step);

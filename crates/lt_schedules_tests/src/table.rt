@@ -2,6 +2,7 @@ ghost use Rattle.std.specs.Prelude.{◌<◌};
 
 use crate::cases::Before;
 use crate::request::Request;
+use crate::standing::Standing;
 use crate::steps::{Asked, Step, Steps};
 use lt_ids::Access;
 use lt_plain::Reply;
@@ -80,6 +81,16 @@ impl SecondTable {
     /// The transaction that holds the lock of this key.
     pub fn holder(&self, key: u8) -> Option<u64> {
         self.steps.holder(key)
+    }
+
+    /// How this key stands. None where memory is refused.
+    pub fn standing(&self, key: u8) -> Option<Standing> {
+        self.steps.standing(key).ok()
+    }
+
+    /// The letters of the keys of this key's shard that have a record, in byte order. None where memory is refused.
+    pub fn keys_beside(&self, key: u8) -> Option<Vec<u8>> {
+        self.steps.keys_beside(key).ok()
     }
 
     /// How the pass at this place and its request stand.

@@ -1,12 +1,14 @@
 use crate::cases::Counts;
 use crate::plain::run_plain;
 use crate::schedule::{Schedule, random_schedule};
+use crate::standing::{Standing, Wanted, standing_of};
 use crate::steps::{Asked, Step};
 use lt_history::{Entry, write_out};
-use lt_ids::{Access, Timestamp, TxnId};
+use lt_ids::{Access, Key, Timestamp, TxnId};
 use lt_plain::{Call, Reply};
 use lt_rules_tests::second::{Let, Time};
-use lt_table::ScanError;
+use lt_table::{KeyState, ScanError};
+use lt_table_player::asking::Sight;
 use lt_table_player::command::{TableCall, Told};
 use lt_table_player::desk::Line;
 use lt_table_player::key::key_length;
@@ -95,6 +97,12 @@ fn compare_lines<R: Abort>(rt: &R, seed: u64, schedule: &Schedule, ran: &Ran) ->
     Ok(())
 }
 
+/// The key is the one that the letter names.
+fn is_key(key: &Key, letter: u8) -> bool {
+    let bytes = key.as_bytes();
+    bytes.len() == key_length(letter) && bytes.iter().all(|byte| *byte == letter)
+}
+
 /// The entry is this step.
 fn compare_entry<R: Abort>(
     rt: &R,
@@ -103,11 +111,7 @@ fn compare_entry<R: Abort>(
     entry: &Entry,
     step: &Step,
 ) -> Result<(), Fail> {
-    let bytes = entry.key().as_bytes();
-    assert_eq!(rt; bytes.len(), key_length(step.key), "the key, seed {seed}");
-    for byte in bytes {
-        assert_eq!(rt; *byte, step.key, "the key, seed {seed}");
-    }
+    assert!(rt; is_key(entry.key(), step.key), "the key, seed {seed}");
     assert_eq!(rt; entry.pass(), step.pass, "the pass, seed {seed}");
     assert_eq!(rt;
         asked_of(&entry.call()),
@@ -143,6 +147,66 @@ fn compare_history<R: Abort>(
     Ok(())
 }
 
+/// The key stands so.
+fn compare_standing<R: Abort>(
+    rt: &R,
+    alloc: Global,
+    seed: u64,
+    state: &KeyState,
+    wanted: &Standing,
+) -> Result<(), Fail> {
+    let mut told = standing_of(alloc, state);
+    if told.is_err() {
+        told = standing_of(alloc, state);
+    }
+    assert_eq!(rt; told?, *wanted, "how a key stands, seed {seed}");
+    Ok(())
+}
+
+/// The keys are those that the letters name, in their order.
+fn are_keys(keys: &[Key], letters: &[u8]) -> bool {
+    keys.len() == letters.len()
+        && keys
+            .iter()
+            .zip(letters)
+            .all(|(key, letter)| is_key(key, *letter))
+}
+
+/// The table answered as the rules give.
+fn compare_sight<R: Abort>(
+    rt: &R,
+    alloc: Global,
+    seed: u64,
+    sight: &Sight,
+    wanted: &Wanted,
+) -> Result<(), Fail> {
+    match (sight, wanted) {
+        (Sight::State(state), Wanted::State(standing)) => {
+            compare_standing(rt, alloc, seed, state, standing)
+        }
+        (Sight::Keys(keys), Wanted::Keys(letters)) => {
+            assert!(rt; are_keys(keys, letters), "the keys of a shard, seed {seed}");
+            Ok(())
+        }
+        _ => Err("an answer to another question")?,
+    }
+}
+
+/// Each question was answered as the rules give.
+fn compare_sights<R: Abort>(
+    rt: &R,
+    alloc: Global,
+    seed: u64,
+    schedule: &Schedule,
+    ran: &Ran,
+) -> Result<(), Fail> {
+    assert_eq!(rt; ran.sights.len(), schedule.wanted.len(), "seed {seed}");
+    for (sight, wanted) in ran.sights.iter().zip(&schedule.wanted) {
+        compare_sight(rt, alloc, seed, sight, wanted)?;
+    }
+    Ok(())
+}
+
 /// The run came out as the rules give, and no more than one call was refused memory.
 fn compare<R: Abort>(
     rt: &R,
@@ -152,6 +216,7 @@ fn compare<R: Abort>(
     ran: &Ran,
 ) -> Result<(), Fail> {
     compare_lines(rt, seed, schedule, ran)?;
+    compare_sights(rt, alloc, seed, schedule, ran)?;
     assert!(rt; ran.refused.len() <= 1, "seed {seed}");
     assert_eq!(rt;
         ran.histories.draws,
@@ -210,13 +275,20 @@ fn compare_both<R: Abort + Wait>(
     let schedule = schedule.ok_or("the schedule")?;
     let config = schedule.config;
     let rows = schedule.rows.as_slice();
-    let linked = compare_run(rt, alloc, seed, &schedule, || run(rt, alloc, config, rows))?;
+    let asked = schedule.questions.as_slice();
+    let linked = compare_run(
+        rt,
+        alloc,
+        seed,
+        &schedule,
+        || run(rt, alloc, config, rows, asked),
+    )?;
     let plain = compare_run(
         rt,
         alloc,
         seed,
         &schedule,
-        || run_plain(rt, alloc, config, rows),
+        || run_plain(rt, alloc, config, rows, asked),
     )?;
     Ok([linked, plain])
 }

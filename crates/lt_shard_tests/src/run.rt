@@ -1,5 +1,5 @@
 //! Steps of one key on one thread: the lock is taken, a request waits to write, and the lock is freed.
-ghost use Rattle.std.specs.Prelude.{◌≡◌, ◌<◌, IfSome};
+ghost use Rattle.std.specs.Prelude.{◌≡◌, ◌<◌, ◌≤◌, IfSome};
 ghost use Rattle.std.specs.FinMap as finmap;
 ghost use Rattle.lt_history.specs.Histories.{NamesNumber};
 ghost use Rattle.lt_words.specs.History.{shard_of};
@@ -7,7 +7,7 @@ ghost use Rattle.lt_words.specs.History.{shard_of};
 use lt_ids::{Access, Key, Ticket, Timestamp, TxnId};
 use lt_plain::{Call, KeyTable, PlainTable};
 use lt_shard::{Answer, Shard, StepError};
-use lt_words::{Book, Name, Pass, shard_of};
+use lt_words::{Book, Name, Pass, abandon_all, shard_of};
 use std::alloc::Global;
 use std::marker::Brand;
 use std::sync::Wait;
@@ -38,6 +38,25 @@ pub struct Calls {
     pub acquire: Call,
     pub visit: Call,
     pub finish: Call,
+}
+
+/// A visit to read of a transaction with the request's number.
+fn visit(number: u64) -> Option<Call>
+    ensures { IfSome result (λ c. NamesNumber c) }
+{
+    let txn = TxnId::new(number)?;
+    let ticket = Ticket::new(number, 1)?;
+    let ts = Timestamp {
+        wall: 10,
+        logical: 0,
+    };
+    Some(Call::Visit {
+        ticket,
+        txn: Some(txn),
+        ts,
+        access: Access::Read,
+        longest: 0,
+    })
 }
 
 fn make_calls() -> Option<Calls>
@@ -142,15 +161,91 @@ fn run_named<N: Name, T: KeyTable + Drop, R: Wait>(
     })
 }
 
+/// A new book, and its two passes.
+fn open_two(alloc: Global, shards: usize) -> Option<(Book, Pass, Pass)>
+    requires some { 0 < shards }
+    requires few { shards ≤ 64 }
+    ensures shards { IfSome result (λ r. r.0.shards ≡ shards) }
+    ensures one { IfSome result (λ r. r.1.of ≡ r.0) }
+    ensures two { IfSome result (λ r. r.2.of ≡ r.0) }
+{
+    let (book, mut passes) = Book::open(alloc, shards, 2).ok()?;
+    let Some(two) = passes.pop() else {
+        abandon_all(passes);
+        return None;
+    };
+    let Some(one) = passes.pop() else {
+        two.abandon();
+        abandon_all(passes);
+        return None;
+    };
+    abandon_all(passes);
+    Some((book, one, two))
+}
+
 /// The steps of a book that is opened for them. None where memory was refused outside the steps.
 pub fn run<R: Wait>(rt: &R, alloc: Global) -> Option<Ran> {
-    let (book, mut passes) = Book::open(alloc, 2, 2).ok()?;
-    let mut two = passes.pop()?;
-    let mut one = passes.pop()?;
     let key = Key::from_bytes(alloc, b"a").ok()?;
     let calls = make_calls()?;
+    let (book, mut one, mut two) = open_two(alloc, 2)?;
     let table = PlainTable::new(alloc);
-    run_named::<Brand, PlainTable, R>(
+    let ran = run_named::<Brand, PlainTable, R>(
         rt, alloc, &book, table, 2, &mut one, &mut two, &key, &calls,
-    ).ok()
+    );
+    one.abandon();
+    two.abandon();
+    ran.ok()
+}
+
+fn let_two_named<N: Name, T: KeyTable + Drop, R: Wait>(
+    rt: &R,
+    alloc: Global,
+    book: &Book,
+    table: T,
+    one: &mut Pass,
+    two: &mut Pass,
+    key: &Key,
+    calls: &Calls,
+    visits: (&Call, &Call),
+) -> Result<(u64, u64), StepError>
+    requires book { book.now ≡ N.of }
+    requires shards { N.of.shards ≡ 1 }
+    requires empty { T.records table ≡ finmap.empty }
+    requires one { one.old.of ≡ N.of }
+    requires two { two.old.of ≡ N.of }
+    requires calls { NamesNumber calls.now.acquire × NamesNumber calls.now.finish }
+    requires visits { NamesNumber visits.0.now × NamesNumber visits.1.now }
+{
+    let place = shard_of(key, 1);
+    let mut shard = Shard::<N, T>::new(alloc, table, book, place, 4);
+    make(rt, book, &mut shard, one, key, &calls.acquire)?;
+    make(rt, book, &mut shard, two, key, visits.0)?;
+    make(rt, book, &mut shard, two, key, visits.1)?;
+    let before = book.read(two);
+    make(rt, book, &mut shard, one, key, &calls.finish)?;
+    Ok((before, book.read(two)))
+}
+
+/// The second pass waits to read with two requests of these numbers, in this order, and one step lets both through: what it
+/// reads before and after that step. None where memory was refused outside the steps.
+pub fn let_two<R: Wait>(rt: &R, alloc: Global, first: u64, second: u64) -> Option<(u64, u64)> {
+    let key = Key::from_bytes(alloc, b"a").ok()?;
+    let calls = make_calls()?;
+    let visits = (visit(first)?, visit(second)?);
+    let (book, mut one, mut two) = open_two(alloc, 1)?;
+    let table = PlainTable::new(alloc);
+    let read = let_two_named::<Brand, PlainTable, R>(
+        rt,
+        alloc,
+        &book,
+        table,
+        &mut one,
+        &mut two,
+        &key,
+        &calls,
+        (&visits.0, &visits.1),
+    );
+    one.abandon();
+    two.abandon();
+    read.ok()
 }

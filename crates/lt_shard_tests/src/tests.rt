@@ -1,4 +1,4 @@
-use crate::run::run;
+use crate::run::{let_two, run};
 use lt_ids::Ticket;
 use lt_plain::Reply;
 use lt_shard::{Answer, StepError};
@@ -28,5 +28,19 @@ fn a_shard_steps_shows_a_let_and_fills_up(rt: HostRuntime) -> Result<(), Fail> {
     let ticket = Ticket::new(1, 1).ok_or("the ticket")?;
     assert_eq!(rt; ran.shown, ticket.value());
     assert_eq!(rt; ran.stored, 3);
+    Ok(())
+}
+
+/// One step lets two tickets of a pass through: the word of that pass is then the higher one, 2.1, a number times 2^24, and
+/// the wait, in whichever order they came.
+#[test]
+fn of_two_lets_of_a_pass_its_word_is_the_higher(rt: HostRuntime) -> Result<(), Fail> {
+    for (first, second) in [(1, 2), (2, 1)] {
+        let words = match let_two(&rt, rt.alloc(), first, second) {
+            Some(words) => words,
+            None => let_two(&rt, rt.alloc(), first, second).ok_or("the steps")?,
+        };
+        assert_eq!(rt; words, (0, 33_554_433));
+    }
     Ok(())
 }

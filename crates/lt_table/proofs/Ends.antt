@@ -1,6 +1,7 @@
 -- A table on its way to be closed.
-use Rattle.std.proofs.Common.{◌≡◌, ℕ, zero, suc, ◌+◌, ◌<◌, List, [], ◌∷◌, ◌++◌, length, map, take, get_or, ap, sym, subst, ◌∙◌, arith, add-one, length-append}
+use Rattle.std.proofs.Common.{◌≡◌, ℕ, zero, suc, Bool, true, ◌+◌, ◌<◌, ◌≤◌, List, [], ◌∷◌, ◌++◌, length, map, take, drop, get_or, ap, sym, subst, ◌∙◌, arith, add-one, length-append}
 use Rattle.std.proofs.Math.Seq.{get_or-append_seam}
+use Rattle.std.proofs.lemmas.List.{get_or-map, length-map}
 use Rattle.std.proofs.Math.ListN.{get_or-append}
 use Rattle.std.specs.Prelude.{slice_index}
 use Rattle.std.specs.Global.{Vec}
@@ -12,12 +13,16 @@ use Rattle.lt_history.specs.declared.entry.Entry.{Entry}
 use Rattle.lt_history.specs.Histories.{AreLegalKeys, IsInRange}
 use Rattle.lt_words.specs.declared.event.Event.{Event}
 use Rattle.lt_words.specs.History.{part, draws_of, shard_of, IsLegalHistory}
+use Rattle.lt_ids.specs.declared.ticket.Through.{Through}
+use Rattle.lt_words.specs.Shown.{AreShown, AreLet}
 use Rattle.lt_words.specs.Row.{Opening, Seer, SeesMore}
 use Rattle.lt_words.proofs.Prefixes.{prefix_trans}
 use Rattle.lt_words.proofs.Histories.{part_prefix}
-use Rattle.lt_shard.specs.Shards.{View, IsShard}
+use Rattle.lt_shard.specs.declared.holding.Rest.{Rest}
+use Rattle.lt_shard.specs.Shards.{View, IsShard, OnlySeesMore}
+use Rattle.lt_shard.proofs.Storing.{shown_on}
 use Rattle.lt_table.proofs.InPlace.{prefix_same}
-use Rattle.lt_table.specs.Closed.{counts_at, IsCounted, IsMet, AreMet, IsClosed}
+use Rattle.lt_table.specs.Closed.{counts_at, IsCounted, IsMet, IsEnded, AreEnded, IsFinal, IsClosed, IsRest, IsClosedRest, AreWhole}
 
 -- ---- counts
 
@@ -42,33 +47,40 @@ each_seen [] f a = tt
 each_seen (p ∷ ps) f a = (f p.seen a.0, each_seen ps f a.1)
 
 -- one more pass was learnt of
-pub learnt : (ps : List Seer) (i : ℕ) (p : Seer) (h h' : List Event) → AllByRecursion (λ q. IsPrefix q.seen h) (take i ps) → i < length ps → p ≡ get_or ps i p → IsPrefix h h' → IsPrefix p.seen h' → AllByRecursion (λ q. IsPrefix q.seen h') (take (suc i) ps)
-learnt [] i p h h' a lt is more that = absurd (omega arith)
-learnt (q ∷ qs) zero p h h' a lt is more that = (subst (λ (s : Seer). IsPrefix s.seen h') is that, tt)
-learnt (q ∷ qs) (suc i) p h h' a lt is more that = (prefix_trans q.seen h h' a.0 more, learnt qs i p h h' a.1 (omega arith) is more that)
+pub learnt : {A : Type 0} (f : Seer → List A) (ps : List Seer) (i : ℕ) (p : Seer) (h h' : List A) → AllByRecursion (λ q. IsPrefix (f q) h) (take i ps) → i < length ps → p ≡ get_or ps i p → IsPrefix h h' → IsPrefix (f p) h' → AllByRecursion (λ q. IsPrefix (f q) h') (take (suc i) ps)
+learnt f [] i p h h' a lt is more that = absurd (omega arith)
+learnt f (q ∷ qs) zero p h h' a lt is more that = (subst (λ (s : Seer). IsPrefix (f s) h') is that, tt)
+learnt f (q ∷ qs) (suc i) p h h' a lt is more that = (prefix_trans (f q) h h' a.0 more, learnt f qs i p h h' a.1 (omega arith) is more that)
 
-pub all_and_last : (ps : List Seer) (p : Seer) (h : List Event) → AllByRecursion (λ q. IsPrefix q.seen h) ps → IsPrefix p.seen h → AllByRecursion (λ q. IsPrefix q.seen h) (ps ++ p ∷ [])
-all_and_last [] p h a last = (last, tt)
-all_and_last (q ∷ qs) p h a last = (a.0, all_and_last qs p h a.1 last)
+pub all_and_last : {A : Type 0} (f : Seer → List A) (ps : List Seer) (p : Seer) (h : List A) → AllByRecursion (λ q. IsPrefix (f q) h) ps → IsPrefix (f p) h → AllByRecursion (λ q. IsPrefix (f q) h) (ps ++ p ∷ [])
+all_and_last f [] p h a last = (last, tt)
+all_and_last f (q ∷ qs) p h a last = (a.0, all_and_last f qs p h a.1 last)
 
 -- ---- shards that were met
 
-pub was_met : (of : Opening) (v w : View) (old new : Seer) (es : List Entry) → IsShard of w → w.index ≡ v.index → w.stored ≡ v.stored → es ≡ w.stored → part v.index new.seen ≡ v.stored → IsPrefix old.seen new.seen → IsMet of old new v.index es
-was_met of v w old new es kept index stored is met more =
-    let all : es ≡ part v.index new.seen = is ∙ (stored ∙ sym met) in
-    record {
-      legal = subst AreLegalKeys (sym is) kept.legal;
-      home = subst (λ i. AllByRecursion (λ e. i ≡ shard_of e.key of.shards) es) index (subst (AllByRecursion (λ e. w.index ≡ shard_of e.key of.shards)) (sym is) kept.home);
-      in_range = subst (AllByRecursion IsInRange) (sym is) kept.in_range;
-      within = subst (IsPrefix (part v.index old.seen)) (sym all) (part_prefix v.index old.seen new.seen more);
-      behind = prefix_same es (part v.index new.seen) (sym all);
-    }
+pub was_met : (of : Opening) (v w : View) (old new : Seer) (t : Rest) → IsShard of w → OnlySeesMore v w → t.from ≡ w.before → t.entries.items ≡ w.held → part v.index new.seen ≡ v.stored → IsPrefix v.told new.shown → IsPrefix old.seen new.seen → IsEnded of old new v.index v t
+was_met of v w old new t kept same from entries met told more = record {
+  met = record {
+    legal = subst AreLegalKeys same.stored kept.legal;
+    home = subst (λ i. AllByRecursion (λ e. i ≡ shard_of e.key of.shards) v.stored) same.index (subst (AllByRecursion (λ e. w.index ≡ shard_of e.key of.shards)) same.stored kept.home);
+    in_range = subst (AllByRecursion IsInRange) same.stored kept.in_range;
+    within = subst (IsPrefix (part v.index old.seen)) met (part_prefix v.index old.seen new.seen more);
+    behind = prefix_same v.stored (part v.index new.seen) met;
+    shown = shown_on v.stored v.told new.shown told (subst (λ ts. AllByRecursion (λ e. AreShown ts e.lets) v.stored) same.told (subst (AllByRecursion (λ e. AreShown w.told e.lets)) same.stored kept.shown));
+  };
+  from = from ∙ same.before;
+  entries = entries ∙ same.held;
+  within = subst (λ n. n ≤ length v.stored) same.before (subst (λ es. w.before ≤ length es) same.stored kept.before);
+  held = sym same.held ∙ (kept.held ∙ (ap (λ n. drop n w.stored) same.before ∙ ap (drop v.before) same.stored));
+  whole = λ e. sym same.before ∙ kept.whole e;
+  unrecorded = λ e. sym same.held ∙ kept.unrecorded e;
+}
 
-met_later : (of : Opening) (old mid new : Seer) (s : ℕ) (es : List Entry) → IsMet of old mid s es → IsPrefix mid.seen new.seen → IsMet of old new s es
-met_later of old mid new s es m more = record { legal = m.legal; home = m.home; in_range = m.in_range; within = m.within; behind = prefix_trans es (part s mid.seen) (part s new.seen) m.behind (part_prefix s mid.seen new.seen more) }
+met_later : (of : Opening) (old mid new : Seer) (s : ℕ) (es : List Entry) → IsMet of old mid s es → IsPrefix mid.seen new.seen → IsPrefix mid.shown new.shown → IsMet of old new s es
+met_later of old mid new s es m more later = record { legal = m.legal; home = m.home; in_range = m.in_range; within = m.within; behind = prefix_trans es (part s mid.seen) (part s new.seen) m.behind (part_prefix s mid.seen new.seen more); shown = shown_on es mid.shown new.shown later m.shown }
 
 met_before : (of : Opening) (old mid new : Seer) (s : ℕ) (es : List Entry) → IsMet of mid new s es → IsPrefix old.seen mid.seen → IsMet of old new s es
-met_before of old mid new s es m more = record { legal = m.legal; home = m.home; in_range = m.in_range; within = prefix_trans (part s old.seen) (part s mid.seen) es (part_prefix s old.seen mid.seen more) m.within; behind = m.behind }
+met_before of old mid new s es m more = record { legal = m.legal; home = m.home; in_range = m.in_range; within = prefix_trans (part s old.seen) (part s mid.seen) es (part_prefix s old.seen mid.seen more) m.within; behind = m.behind; shown = m.shown }
 
 -- at each place of a list and of one more, a fact of the item there
 at_each : {A : Type 0} (P : ℕ → A → Type 0) (xs : List A) (x : A) (n : ℕ) → n ≡ length xs → ((s : ℕ) (d : A) → s < n → P s (get_or xs s d)) → P n x → (s : ℕ) (d : A) → s < n + 1 → P s (get_or (xs ++ x ∷ []) s d)
@@ -77,45 +89,94 @@ at_each P xs x n many each last s d lt =
     (λ same. subst (λ k. P k (get_or (xs ++ x ∷ []) k d)) (sym same) (subst (λ k. P n (get_or (xs ++ x ∷ []) k d)) (sym many) (subst (P n) (sym (get_or-append_seam xs x [] d)) last)))
     (λ other. let inside : s < n = omega (arith, lt, other) in subst (P s) (sym (get_or-append xs (x ∷ []) d s (omega (arith, inside, many)))) (each s d inside))
 
-pub met_more : (of : Opening) (old mid new : Seer) (vs : List View) (hs : List (Vec Entry)) (v : View) (h : Vec Entry) → AreMet of old mid vs hs → IsPrefix old.seen mid.seen → IsPrefix mid.seen new.seen → IsMet of mid new (length vs) h.items → h.items ≡ v.stored
-    → AreMet of old new (vs ++ v ∷ []) (hs ++ h ∷ [])
-met_more of old mid new vs hs v h m before later last same =
+ended_at : (of : Opening) (old new old' new' : Seer) (s : ℕ) (v v' : View) (t : Rest) → v ≡ v' → (IsMet of old new s v.stored → IsMet of old' new' s v.stored) → IsEnded of old new s v t → IsEnded of old' new' s v' t
+ended_at of old new old' new' s v v' t same f m = subst (λ x. IsEnded of old' new' s x t) same (record { met = f m.met; from = m.from; entries = m.entries; within = m.within; held = m.held; whole = m.whole; unrecorded = m.unrecorded })
+
+pub met_more : (of : Opening) (old mid new : Seer) (vs : List View) (ts : List Rest) (v : View) (t : Rest) → AreEnded of old mid vs ts → IsPrefix old.seen mid.seen → IsPrefix mid.seen new.seen → IsPrefix mid.shown new.shown → IsEnded of mid new (length vs) v t
+    → AreEnded of old new (vs ++ v ∷ []) (ts ++ t ∷ [])
+met_more of old mid new vs ts v t m before later shown last =
     let longer : length (vs ++ v ∷ []) ≡ length vs + 1 = length-append vs (v ∷ []) in
     record {
-      many = omega (arith, length-append hs (h ∷ []), longer, m.many);
-      same = λ s w d lt. at_each (λ k x. x.items ≡ (get_or (vs ++ v ∷ []) k w).stored) hs h (length vs) (sym m.many)
-          (λ k e inside. m.same k w e inside ∙ sym (ap (λ x. x.stored) (get_or-append vs (v ∷ []) w k inside)))
-          (same ∙ sym (ap (λ x. x.stored) (get_or-append_seam vs v [] w))) s d (omega (arith, lt, longer));
-      met = λ s d lt. at_each (λ k x. IsMet of old new k x.items) hs h (length vs) (sym m.many)
-          (λ k e inside. met_later of old mid new k (get_or hs k e).items (m.met k e inside) later)
-          (met_before of old mid new (length vs) h.items last before) s d (omega (arith, lt, longer));
+      many = omega (arith, length-append ts (t ∷ []), longer, m.many);
+      each = λ s w d lt. at_each (λ k x. IsEnded of old new k (get_or (vs ++ v ∷ []) k w) x) ts t (length vs) (sym m.many)
+          (λ k e inside. ended_at of old mid old new k (get_or vs k w) (get_or (vs ++ v ∷ []) k w) (get_or ts k e) (sym (get_or-append vs (v ∷ []) w k inside))
+          (λ a. met_later of old mid new k (get_or vs k w).stored a later shown) (m.each k w e inside))
+          (ended_at of mid new old new (length vs) v (get_or (vs ++ v ∷ []) (length vs) w) t (sym (get_or-append_seam vs v [] w)) (λ a. met_before of old mid new (length vs) v.stored a before) last)
+          s d (omega (arith, lt, longer));
     }
 
 -- ---- the end
 
-pub ends : (of : Opening) (ps : List Seer) (vs : List View) (hs : List (Vec Entry)) (one two three : Seer) (draws : ℕ) → AllByRecursion (λ p. IsPrefix p.seen one.seen) ps → AreMet of one two vs hs → IsPrefix one.seen two.seen → IsPrefix two.seen three.seen
-    → IsLegalHistory of.shards three.seen → draws ≡ draws_of three.seen → length vs ≡ of.shards → ((s : ℕ) (v : View) → s < of.shards → IsCounted ps s (get_or vs s v)) → (v : View) → IsClosed of ps hs draws
-ends of ps vs hs one two three draws seen met first second legal drawn many counted v = record {
+each_shown_on : (ps : List Seer) (h h' : List Through) → IsPrefix h h' → AllByRecursion (λ p. IsPrefix p.shown h) ps → AllByRecursion (λ p. IsPrefix p.shown h') ps
+each_shown_on [] h h' more all = tt
+each_shown_on (p ∷ ps) h h' more all = (prefix_trans p.shown h h' all.0 more, each_shown_on ps h h' more all.1)
+
+rest_of : (of : Opening) (only_whole : Bool) (ps : List Seer) (one two three : Seer) (s : ℕ) (v : View) (t : Rest) → AllByRecursion (λ p. IsPrefix p.seen one.seen) ps → IsEnded of one two s v t → IsPrefix two.seen three.seen → IsPrefix two.shown three.shown → IsCounted only_whole ps s v → IsRest of ps three.seen three.shown s t.from t.entries.items
+rest_of of only_whole ps one two three s v t seen m second later counted = record {
+  all = v.stored;
+  final = record {
+    legal = m.met.legal;
+    home = m.met.home;
+    in_range = m.met.in_range;
+    counted = counted.counted;
+    seen = each_seen ps (λ h p. prefix_trans (part s h) (part s one.seen) v.stored (part_prefix s h one.seen p) m.met.within) seen;
+    stands = prefix_trans v.stored (part s two.seen) (part s three.seen) m.met.behind (part_prefix s two.seen three.seen second);
+  };
+  lets_shown = shown_on v.stored two.shown three.shown later m.met.shown;
+  within = subst (λ n. n ≤ length v.stored) (sym m.from) m.within;
+  rest = m.entries ∙ (m.held ∙ ap (λ n. drop n v.stored) (sym m.from));
+  is_whole = λ e. m.from ∙ m.whole e;
+  unrecorded = λ e. m.entries ∙ m.unrecorded e;
+}
+
+pub ends : (of : Opening) (only_whole : Bool) (ps : List Seer) (vs : List View) (ts : List Rest) (one two three : Seer) (draws : ℕ) → AllByRecursion (λ p. IsPrefix p.seen one.seen) ps → AllByRecursion (λ p. IsPrefix p.shown one.shown) ps → IsPrefix one.shown two.shown → IsPrefix two.shown three.shown → AreLet three.seen three.shown
+    → AreEnded of one two vs ts → IsPrefix one.seen two.seen → IsPrefix two.seen three.seen
+    → IsLegalHistory of.shards three.seen → draws ≡ draws_of three.seen → length vs ≡ of.shards → ((s : ℕ) (v : View) → s < of.shards → IsCounted only_whole ps s (get_or vs s v)) → (v : View) → IsClosedRest of ps ts draws
+ends of only_whole ps vs ts one two three draws seen shown more later through met first second legal drawn many counted v = record {
   whole = three.seen;
   legal = legal;
   seen = each_seen ps (λ h p. prefix_trans h one.seen three.seen p (prefix_trans one.seen two.seen three.seen first second)) seen;
+  whole_shown = three.shown;
+  let_through = through;
+  shown = each_shown_on ps one.shown three.shown (prefix_trans one.shown two.shown three.shown more later) shown;
   draws_are = drawn;
   many = met.many ∙ many;
-  each = λ s d lt.
-      let m : IsMet of one two s (get_or hs s d).items = met.met s d (omega (arith, lt, many)) in
-      record {
-        legal = m.legal;
-        home = m.home;
-        in_range = m.in_range;
-        counted = ap length (met.same s v d (omega (arith, lt, many))) ∙ (counted s v lt).counted;
-        seen = each_seen ps (λ h p. prefix_trans (part s h) (part s one.seen) (get_or hs s d).items (part_prefix s h one.seen p) m.within) seen;
-        stands = prefix_trans (get_or hs s d).items (part s two.seen) (part s three.seen) m.behind (part_prefix s two.seen three.seen second);
-      };
+  each = λ s d lt. rest_of of only_whole ps one two three s (get_or vs s v) (get_or ts s d) seen (met.each s v d (omega (arith, lt, many))) second later (counted s v lt);
 }
 
+-- nothing is gone of shards that have to hold all
+pub ends_whole : (of : Opening) (only_whole : Bool) (ps : List Seer) (vs : List View) (ts : List Rest) (one two : Seer) → AreEnded of one two vs ts → length vs ≡ of.shards → ((s : ℕ) (v : View) → s < of.shards → IsCounted only_whole ps s (get_or vs s v)) → (v : View) → only_whole ≡ true → AreWhole of ts
+ends_whole of only_whole ps vs ts one two met many counted v sure = λ s d lt. (met.each s v d (omega (arith, lt, many))).from ∙ (counted s v lt).whole sure
+
+-- what is left where nothing is gone is the histories
+all_left : (of : Opening) (ps : List Seer) (whole : List Event) (shown : List Through) (s from : ℕ) (es fs : List Entry) → IsRest of ps whole shown s from es → from ≡ 0 → es ≡ fs → IsFinal of ps whole s fs × AllByRecursion (λ e. AreShown shown e.lets) fs
+all_left of ps whole shown s from es fs m none same =
+    let all : m.all ≡ fs = sym (ap (λ n. drop n m.all) none) ∙ (sym m.rest ∙ same) in
+    (subst (IsFinal of ps whole s) all m.final, subst (AllByRecursion (λ e. AreShown shown e.lets)) all m.lets_shown)
+
+pub whole_closed : (of : Opening) (ps : List Seer) (ts : List Rest) (hs : List (Vec Entry)) (draws draws' : ℕ) → IsClosedRest of ps ts draws → AreWhole of ts → hs ≡ map (λ t. t.entries) ts → draws' ≡ draws → IsClosed of ps hs draws'
+whole_closed of ps ts hs draws draws' m none same drawn = record {
+  whole = m.whole;
+  legal = m.legal;
+  seen = m.seen;
+  whole_shown = m.whole_shown;
+  let_through = m.let_through;
+  shown = m.shown;
+  draws_are = drawn ∙ m.draws_are;
+  many = ap length same ∙ (length-map ts (λ t. t.entries) ∙ m.many);
+  each = λ s d lt. (left s d lt).0;
+  lets_shown = λ s d lt. (left s d lt).1;
+}
+  where
+    left : (s : ℕ) (d : Vec Entry) → s < of.shards → IsFinal of ps m.whole s (get_or hs s d).items × AllByRecursion (λ e. AreShown m.whole_shown e.lets) (get_or hs s d).items
+    left s d lt =
+        let t : Rest = record { from = 0; entries = d } in
+        let at : get_or hs s d ≡ (get_or ts s t).entries = ap (λ l. get_or l s d) same ∙ get_or-map (λ t. t.entries) ts s t d (omega (arith, lt, m.many)) in
+        all_left of ps m.whole m.whole_shown s (get_or ts s t).from (get_or ts s t).entries.items (get_or hs s d).items (m.each s t lt) (none s t lt) (sym (ap (λ x. x.items) at))
+
 -- a shard at its place with the steps of the passes and of the guards' passes
-pub counted_here : (ps qs : List Seer) (s left rest steps : ℕ) (v : View) → v.index ≡ s → steps ≡ length v.stored → left + counts_at s ps ≡ steps → rest + counts_at s qs ≡ left → rest ≡ 0 → IsCounted (ps ++ qs) s v
-counted_here ps qs s left rest steps v index all first second none = record { index = index; counted = omega (arith, all, first, second, none, counts_append s ps qs) }
+pub counted_here : (only_whole : Bool) (ps qs : List Seer) (s left rest steps : ℕ) (v : View) → v.index ≡ s → steps ≡ length v.stored → left + counts_at s ps ≡ steps → rest + counts_at s qs ≡ left → rest ≡ 0 → (only_whole ≡ true → v.before ≡ 0) → IsCounted only_whole (ps ++ qs) s v
+counted_here only_whole ps qs s left rest steps v index all first second none whole = record { index = index; counted = omega (arith, all, first, second, none, counts_append s ps qs); whole = whole }
 
 -- a fact of each item of two lists
 pub all_of_both : {A : Type 0} (P : A → Type 0) (xs ys : List A) → ((k : ℕ) (d : A) → k < length xs → P (get_or xs k d)) → ((k : ℕ) (d : A) → k < length ys → P (get_or ys k d)) → (k : ℕ) (d : A) → k < length (xs ++ ys) → P (get_or (xs ++ ys) k d)
@@ -129,7 +190,7 @@ all_mapped P f (x ∷ xs) h zero d lt = h 0 x (omega arith)
 all_mapped P f (x ∷ xs) h (suc k) d lt = all_mapped P f xs (λ j e inside. h (suc j) e (omega (arith, inside))) k d (omega (arith, lt))
 
 pub sees_on : (old mid new : Seer) → SeesMore old mid → SeesMore mid new → SeesMore old new
-sees_on old mid new a b = record { of = b.of ∙ a.of; number = b.number ∙ a.number; counts = b.counts ∙ a.counts; seen = prefix_trans old.seen mid.seen new.seen a.seen b.seen }
+sees_on old mid new a b = record { of = b.of ∙ a.of; number = b.number ∙ a.number; counts = b.counts ∙ a.counts; seen = prefix_trans old.seen mid.seen new.seen a.seen b.seen; shown = prefix_trans old.shown mid.shown new.shown a.shown b.shown }
 
 -- a fact of each item holds of the last
 pub of_last : {A : Type 0} (P : A → Type 0) (xs ys : List A) (y : A) → xs ≡ ys ++ y ∷ [] → ((k : ℕ) (d : A) → k < length xs → P (get_or xs k d)) → P y

@@ -12,3 +12,6 @@ pub mod Found
 pub mod Passing
 pub mod Ends
 pub mod Starts
+pub mod Waking
+pub mod Takes
+pub mod Waits

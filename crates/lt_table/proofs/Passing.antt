@@ -75,7 +75,7 @@ kept_fine false e es p a = a
 
 part_fine : (s : ℕ) (h : List Event) → AllByRecursion IsFineEntry (steps_of h) → AllByRecursion IsFineEntry (part s h)
 part_fine s [] a = tt
-part_fine s (Opened shards passes ∷ h) a = part_fine s h a
+part_fine s (Opened shards passes keeping ∷ h) a = part_fine s h a
 part_fine s (Draw pass number ∷ h) a = part_fine s h a
 part_fine s (Step shard entry ∷ h) a = kept_fine (s == shard) entry (part s h) a.0 (part_fine s h a.1)
 

@@ -1,5 +1,6 @@
 -- What stays through a scan, where a request waits, and that who waited goes on only where it was let through.
 use Rattle.std.proofs.Common.{◌≡◌, ◌≢◌, ℕ, ◌<◌, Bool, true, false, cond, nat_eq, nat_lt, List, [], ◌∷◌, length, Option, Some, None, Result, Ok, Err, refl, sym, ◌∙◌, ap, subst}
+use mathlib.Core.List.{IsPrefix}
 use Rattle.lt_ids.specs.Ids.{IsNumber, value_of}
 use Rattle.lt_words.specs.History.{LetIn}
 use Rattle.lt_plain.specs.declared.call.Call.{Call}
@@ -18,7 +19,7 @@ use Rattle.lt_table.specs.Machine as runs
 use Rattle.lt_table.specs.Reported.{GuardState, AreReported, IsScan, IsLeavingFrom, PassStays, GuardStays, wait_of}
 use Rattle.lt_table.specs.Sound.{IsSound}
 use Rattle.lt_words.proofs.Histories.{let_later}
-use Rattle.lt_table.proofs.InPlace.{all_stand}
+use Rattle.lt_table.proofs.InPlace.{all_stand, prefix_same}
 use Rattle.lt_table.proofs.UnderWay.{status_tells, named}
 
 still_waits : (m : Mode) (b : Bool) (p : Progress) (max_waits : ℕ) (old : WalkState) (steps : List runs.Step) (result : Result Scan ScanError) (after : WalkState) → m ≡ Awaiting → b ≡ false →
@@ -32,7 +33,7 @@ still_waits Leaving b p max_waits old steps result after e f s = absurd cc
 
 -- what stays through steps that were reported
 pub reported_stays : (p : Seer) (xs : List runs.Step) (q : Seer) → AreReported p xs q → PassStays p q
-reported_stays p xs q c = record { of = same_of p xs q c; number = same_number p xs q c; seen = (all_stand p q xs c).0 }
+reported_stays p xs q c = record { of = same_of p xs q c; number = same_number p xs q c; seen = (all_stand p q xs c).0; shown = same_shown p xs q c }
   where
     same_of : (p : Seer) (xs : List runs.Step) (q : Seer) → AreReported p xs q → q.of ≡ p.of
     same_of p [] q c = ap (λ s. s.of) c
@@ -42,8 +43,12 @@ reported_stays p xs q c = record { of = same_of p xs q c; number = same_number p
     same_number p [] q c = ap (λ s. s.number) c
     same_number p (x ∷ xs) q c = same_number c.0 xs q c.2 ∙ c.1.reports.number
 
+    same_shown : (p : Seer) (xs : List runs.Step) (q : Seer) → AreReported p xs q → IsPrefix p.shown q.shown
+    same_shown p [] q c = prefix_same p.shown q.shown (ap (λ s. s.shown) c)
+    same_shown p (x ∷ xs) q c = prefix_trans p.shown c.0.shown q.shown c.1.reports.shown (same_shown c.0 xs q c.2)
+
 stays_on : (p q r : Seer) → SeesMore p q → PassStays q r → PassStays p r
-stays_on p q r a b = record { of = b.of ∙ a.of; number = b.number ∙ a.number; seen = prefix_trans p.seen q.seen r.seen a.seen b.seen }
+stays_on p q r a b = record { of = b.of ∙ a.of; number = b.number ∙ a.number; seen = prefix_trans p.seen q.seen r.seen a.seen b.seen; shown = prefix_trans p.shown q.shown r.shown a.shown b.shown }
 
 begun_asked : (b : Result Progress ScanError) (max_waits : ℕ) (old : WalkState) (steps : List runs.Step) (result : Result Scan ScanError) (after : WalkState) → IsScanBegun b max_waits old steps result after → after.asked ≡ old.asked
 begun_asked (Err e) max_waits old steps result after s = ap (λ w. w.asked) s.2

@@ -1,13 +1,17 @@
 -- What is left by a leave, and of a table that is closed.
-use Rattle.std.specs.Prelude.{ℕ, ◌≡◌, ◌+◌, ◌<◌, ◌≤◌, ◌++◌, List, [], ◌∷◌, map, length, slice_index, slice_index_or, Result, Ok, Err}
+use Rattle.std.specs.Prelude.{ℕ, Bool, true, ◌≡◌, ◌+◌, ◌<◌, ◌≤◌, ◌++◌, List, [], ◌∷◌, map, length, drop, slice_index, slice_index_or, Result, Ok, Err}
 use Rattle.std.specs.Global.{Vec}
 use Rattle.std.specs.List.{AllByRecursion}
 use mathlib.Core.List.{IsPrefix}
+use Rattle.lt_ids.specs.declared.ticket.Through.{Through}
 use Rattle.lt_history.specs.declared.entry.Entry.{Entry}
 use Rattle.lt_history.specs.Histories.{AreLegalKeys, IsInRange}
 use Rattle.lt_words.specs.declared.event.Event.{Event}
+use Rattle.lt_words.specs.declared.keeping.Keeping.TheVariants.{Whole, Unrecorded}
 use Rattle.lt_words.specs.History.{part, draws_of, shard_of, IsLegalHistory}
+use Rattle.lt_words.specs.Shown.{AreShown, AreLet}
 use Rattle.lt_words.specs.Row.{Opening, Seer}
+use Rattle.lt_shard.specs.declared.holding.Rest.{Rest}
 use Rattle.lt_shard.specs.Shards.{View}
 use Rattle.lt_table.specs.declared.closing.CloseError.{CloseError}
 use Rattle.lt_table.specs.declared.closing.CloseError.TheVariants.{PassesOut, Memory, Counts}
@@ -42,14 +46,50 @@ pub record IsFinal (of : Opening) (ps : List Seer) (whole : List Event) (s : ℕ
   -- it begins the shard's part of the one history of all shards
   pub stands : IsPrefix es (part s whole)
 
--- One history for each shard, and one legal history of all, which begins with what each pass had seen.
+-- One history for each shard, and one legal history of all, which begins with what each pass had seen; and one list of what
+-- was shown, of lets, which begins with what each pass had seen shown.
 pub record IsClosed (of : Opening) (ps : List Seer) (shards : List (Vec Entry)) (draws : ℕ) : Type 0 where
   pub whole : List Event
   pub legal : IsLegalHistory of.shards whole
   pub seen : AllByRecursion (λ p. IsPrefix p.seen whole) ps
+  pub whole_shown : List Through
+  pub let_through : AreLet whole whole_shown
+  pub shown : AllByRecursion (λ p. IsPrefix p.shown whole_shown) ps
   pub draws_are : draws ≡ draws_of whole
   pub many : length shards ≡ of.shards
   pub each : (s : ℕ) (d : Vec Entry) → s < of.shards → IsFinal of ps whole s (slice_index_or shards s d).items
+  -- each let of these histories was shown to the pass that waits
+  pub lets_shown : (s : ℕ) (d : Vec Entry) → s < of.shards → AllByRecursion (λ e. AreShown whole_shown e.lets) (slice_index_or shards s d).items
+
+-- What is left of a shard: its final history from this place on.
+pub record IsRest (of : Opening) (ps : List Seer) (whole : List Event) (whole_shown : List Through) (s from : ℕ) (es : List Entry) : Type 0 where
+  -- the final history, of which the first steps are gone
+  pub all : List Entry
+  pub final : IsFinal of ps whole s all
+  -- each of its lets was shown to the pass that waits
+  pub lets_shown : AllByRecursion (λ e. AreShown whole_shown e.lets) all
+  pub within : from ≤ length all
+  pub rest : es ≡ drop from all
+  -- of a whole table nothing is gone, of an unrecorded one nothing is left
+  pub is_whole : of.keeping ≡ Whole → from ≡ 0
+  pub unrecorded : of.keeping ≡ Unrecorded → es ≡ []
+
+-- What is left of each shard, and one legal history of all, which begins with what each pass had seen; and one list of what
+-- was shown, of lets, which begins with what each pass had seen shown.
+pub record IsClosedRest (of : Opening) (ps : List Seer) (rests : List Rest) (draws : ℕ) : Type 0 where
+  pub whole : List Event
+  pub legal : IsLegalHistory of.shards whole
+  pub seen : AllByRecursion (λ p. IsPrefix p.seen whole) ps
+  pub whole_shown : List Through
+  pub let_through : AreLet whole whole_shown
+  pub shown : AllByRecursion (λ p. IsPrefix p.shown whole_shown) ps
+  pub draws_are : draws ≡ draws_of whole
+  pub many : length rests ≡ of.shards
+  pub each : (s : ℕ) (d : Rest) → s < of.shards → IsRest of ps whole whole_shown s (slice_index_or rests s d).from (slice_index_or rests s d).entries.items
+
+-- Of no shard is anything gone.
+abbrev pub AreWhole : Opening → List Rest → Type 0
+AreWhole of rests = (s : ℕ) (d : Rest) → s < of.shards → (slice_index_or rests s d).from ≡ 0
 
 -- Why a table is not closed, of so many passes of which so many are handed back.
 abbrev pub IsUnclosed : CloseError → ℕ → ℕ → Type 0
@@ -59,10 +99,11 @@ IsUnclosed (Counts place) handed passes = passes ≤ handed
 
 -- ---- on the way
 
--- A shard stands at its place, with as many steps as these passes made there.
-pub record IsCounted (ps : List Seer) (s : ℕ) (v : View) : Type 0 where
+-- A shard stands at its place, with as many steps as these passes made there, and holds all of them where it has to.
+pub record IsCounted (only_whole : Bool) (ps : List Seer) (s : ℕ) (v : View) : Type 0 where
   pub index : v.index ≡ s
   pub counted : length v.stored ≡ counts_at s ps
+  pub whole : only_whole ≡ true → v.before ≡ 0
 
 -- A pass met a shard: what it had seen of the shard begins the shard's history, which begins what it has then seen.
 pub record IsMet (of : Opening) (old new : Seer) (s : ℕ) (es : List Entry) : Type 0 where
@@ -71,9 +112,20 @@ pub record IsMet (of : Opening) (old new : Seer) (s : ℕ) (es : List Entry) : T
   pub in_range : AllByRecursion IsInRange es
   pub within : IsPrefix (part s old.seen) es
   pub behind : IsPrefix es (part s new.seen)
+  -- each let of the shard's history was shown, as far as it has then seen
+  pub shown : AllByRecursion (λ e. AreShown new.shown e.lets) es
 
--- It met each of these shards, and these are their histories.
-pub record AreMet (of : Opening) (old new : Seer) (shards : List View) (histories : List (Vec Entry)) : Type 0 where
-  pub many : length histories ≡ length shards
-  pub same : (s : ℕ) (v : View) (d : Vec Entry) → s < length shards → (slice_index_or histories s d).items ≡ (slice_index_or shards s v).stored
-  pub met : (s : ℕ) (d : Vec Entry) → s < length shards → IsMet of old new s (slice_index_or histories s d).items
+-- It met this shard, of which this is left.
+pub record IsEnded (of : Opening) (old new : Seer) (s : ℕ) (v : View) (t : Rest) : Type 0 where
+  pub met : IsMet of old new s v.stored
+  pub from : t.from ≡ v.before
+  pub entries : t.entries.items ≡ v.held
+  pub within : v.before ≤ length v.stored
+  pub held : v.held ≡ drop v.before v.stored
+  pub whole : of.keeping ≡ Whole → v.before ≡ 0
+  pub unrecorded : of.keeping ≡ Unrecorded → v.held ≡ []
+
+-- It met each of these shards, of which these are left.
+pub record AreEnded (of : Opening) (old new : Seer) (shards : List View) (rests : List Rest) : Type 0 where
+  pub many : length rests ≡ length shards
+  pub each : (s : ℕ) (v : View) (t : Rest) → s < length shards → IsEnded of old new s (slice_index_or shards s v) (slice_index_or rests s t)

@@ -1,23 +1,29 @@
 -- What follows from what the calls of a table tell.
-use Rattle.std.specs.Prelude.{ℕ, ◌≡◌, ◌≢◌, ◌+◌, ◌<◌, ◌≤◌, ◌⊎◌, Option, List, length, map, Ok, Some, IsOk, slice_get, slice_index, slice_index_or}
+use Rattle.std.specs.Prelude.{ℕ, ◌≡◌, ◌≢◌, ◌+◌, ◌<◌, ◌≤◌, ◌⊎◌, Option, List, length, map, Result, Ok, Err, Some, IsOk, slice_get, slice_index, slice_index_or}
 use Rattle.std.specs.Global.{Vec}
 use mathlib.Core.List.{IsPrefix}
 use Rattle.std.specs.List.{AllByRecursion}
 use Rattle.lt_ids.specs.declared.request.Access.{Access}
+use Rattle.lt_ids.specs.Ids.{Wait, value_of}
 use Rattle.lt_ids.specs.declared.timestamp.Timestamp.{Timestamp}
 use Rattle.lt_plain.specs.declared.call.Reply.TheVariants.{Passed, TooLong}
 use Rattle.lt_history.specs.declared.entry.Entry.{Entry}
-use Rattle.lt_words.specs.History.{part, IsLegalHistory}
+use Rattle.lt_words.specs.History.{part, IsLegalHistory, Among, LetIn}
+use Rattle.lt_words.specs.Shown.{IsShown}
 use Rattle.lt_words.specs.declared.event.Event.{Event}
 use Rattle.lt_words.specs.Row.{Opening, Seer}
 use Rattle.lt_shard.specs.declared.answer.Answer.{Answer}
-use Rattle.lt_table.specs.declared.progress.Mode.TheVariants.{Free}
+use Rattle.lt_table.specs.declared.progress.Mode.TheVariants.{Free, Awaiting}
 use Rattle.lt_table.specs.declared.progress.Progress.{Progress}
+use Rattle.lt_table.specs.declared.scan.Scan.{Scan}
 use Rattle.lt_table.specs.declared.scan.Scan.TheVariants.{Proceed}
+use Rattle.lt_table.specs.declared.scan.ScanError.{ScanError}
+use Rattle.lt_table.specs.declared.scan.ScanError.TheVariants.{StillWaiting}
+use Rattle.lt_table.specs.declared.scan.Poll.{Poll}
 use Rattle.lt_table.specs.declared.scan.Poll.TheVariants.{Through}
 use Rattle.lt_table.specs.Machine.{Asked, heard, polled, scan_start, restarted, visit_call, Step, answer_of}
 use Rattle.lt_table.specs.Keys.{IsKeyList}
-use Rattle.lt_table.specs.Reported.{shard_at, Reported, AreReported, steps_at, GuardState, IsScan}
+use Rattle.lt_table.specs.Reported.{shard_at, Reported, AreReported, steps_at, GuardState, IsScan, IsPoll, wait_of}
 use Rattle.lt_table.specs.Entered.{IsEntered}
 use Rattle.lt_table.specs.Closed.{IsClosed}
 
@@ -69,6 +75,29 @@ ProceedHasPassedEach = (max_waits : ℕ) (old new : GuardState) (shards : ℕ) �
 -- After a poll that answered Through, a scan is not refused at once, whatever word it reads.
 abbrev pub ThroughGoesOn : Type 0
 ThroughGoesOn = (number : ℕ) (p : Progress) (word word' : ℕ) → polled (heard number p word) ≡ Through → IsOk (scan_start (heard number (heard number p word) word'))
+
+-- A later ticket of this pass was let through.
+abbrev pub LaterLet : List Event → ℕ → Wait → Type 0
+LaterLet h pass t = (later : Wait) × (value_of t < value_of later) × LetIn h pass later
+
+-- Who waits, and was shown the very wait that it is in, as far as its pass had seen, is answered Through by its next poll;
+-- unless a later ticket of its pass was let through.
+abbrev pub ShownIsThrough : Type 0
+ShownIsThrough = (old new : GuardState) (result : Poll) → IsPoll old new result → old.walk.progress.mode ≡ Awaiting → IsShown old.pass.shown old.pass.number (wait_of old.walk) →
+    (result ≡ Through) ⊎ LaterLet new.pass.seen old.pass.number (wait_of old.walk)
+
+-- The same of its next scan, which is not refused.
+abbrev pub ShownGoesOn : Type 0
+ShownGoesOn = (max_waits : ℕ) (old new : GuardState) (result : Result Scan ScanError) → IsScan max_waits old new result → old.walk.progress.mode ≡ Awaiting → IsShown old.pass.shown old.pass.number (wait_of old.walk) →
+    (result ≢ Err StillWaiting) ⊎ LaterLet new.pass.seen old.pass.number (wait_of old.walk)
+
+-- No wake-up is lost: where a step that anyone reports lets the very wait through that a request is in, and the request's pass
+-- has seen what was shown to whoever made the step, its next poll answers Through; unless a later ticket of its pass was let
+-- through.
+abbrev pub NoWakeUpIsLost : Type 0
+NoWakeUpIsLost = (before after : Seer) (x : Step) (old new : GuardState) (result : Poll) → (step : Reported before after x) → Among step.entry.lets old.pass.number (wait_of old.walk) →
+    IsPrefix after.shown old.pass.shown → old.walk.progress.mode ≡ Awaiting → IsPoll old new result →
+    (result ≡ Through) ⊎ LaterLet new.pass.seen old.pass.number (wait_of old.walk)
 
 -- Guards that entered by different passes, or the one after what the other's pass had then seen, have different numbers,
 -- where what both passes have seen begins one legal history.

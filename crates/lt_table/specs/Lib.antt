@@ -6,3 +6,4 @@ pub mod Configs
 pub mod Closed
 pub mod Laws
 pub mod Sound
+pub mod Taken

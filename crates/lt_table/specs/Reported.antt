@@ -4,6 +4,7 @@ use mathlib.Core.List.{IsPrefix}
 use Rattle.lt_ids.specs.Ids.{Wait}
 use Rattle.lt_history.specs.declared.entry.Entry.{Entry}
 use Rattle.lt_words.specs.History.{shard_of, IsStatus}
+use Rattle.lt_words.specs.Shown.{word_of}
 use Rattle.lt_words.specs.Row.{Seer, SeesMore, Reports}
 use Rattle.lt_shard.specs.declared.answer.Answer.{Answer}
 use Rattle.lt_table.specs.declared.scan.Scan.{Scan}
@@ -48,6 +49,7 @@ pub record PassStays (old new : Seer) : Type 0 where
   pub of : new.of ≡ old.of
   pub number : new.number ≡ old.number
   pub seen : IsPrefix old.seen new.seen
+  pub shown : IsPrefix old.shown new.shown
 
 -- The pass is the same, and the request asks for what it asked for.
 pub record GuardStays (old new : GuardState) : Type 0 where
@@ -60,6 +62,7 @@ pub record IsScan (max_waits : ℕ) (old new : GuardState) (result : Result Scan
   pub read : Seer
   pub word : ℕ
   pub reads : SeesMore old.pass read
+  pub word_is : word ≡ word_of old.pass.number read.shown
   pub status : IsStatus read.seen old.pass.number word
   pub steps : List Step
   pub reported : AreReported read steps new.pass
@@ -69,6 +72,7 @@ pub record IsScan (max_waits : ℕ) (old new : GuardState) (result : Result Scan
 pub record IsPoll (old new : GuardState) (result : Poll) : Type 0 where
   pub word : ℕ
   pub reads : SeesMore old.pass new.pass
+  pub word_is : word ≡ word_of old.pass.number new.pass.shown
   pub status : IsStatus new.pass.seen old.pass.number word
   pub walk : new.walk ≡ record old.walk { progress = heard old.walk.asked.number old.walk.progress word }
   pub answer : result ≡ polled new.walk.progress

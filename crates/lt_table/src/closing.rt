@@ -1,17 +1,17 @@
 //! A table is closed.
-ghost use Rattle.std.specs.Prelude.{◌≡◌, ◌≤◌, ◌<◌, ◌+◌, ℕ, [], IsTrue, map, length, slice_index_or, vec_len, vec_capacity, IfOk, IfErr, IfSome, IfNone, OnErr, OnOk};
+ghost use Rattle.std.specs.Prelude.{◌≡◌, ◌≤◌, ◌<◌, ◌+◌, ℕ, [], true, IsTrue, IsFalse, map, length, slice_index_or, vec_len, vec_capacity, IfOk, IfErr, IfSome, IfNone, OnErr, OnOk};
 ghost use Rattle.std.specs.List.{All, AllByRecursion};
 ghost use mathlib.Core.List.{IsPrefix};
 ghost use Rattle.lt_shard.specs.Shards.{View};
 ghost use Rattle.lt_words.specs.Row.{SeesMore};
-ghost use Rattle.lt_table.specs.Closed.{counts_at, passes_of, IsCounted, IsMet, AreMet, IsClosed, IsUnclosed};
+ghost use Rattle.lt_table.specs.Closed.{counts_at, passes_of, IsCounted, IsEnded, AreEnded, IsClosed, IsClosedRest, AreWhole, IsUnclosed};
 
 use crate::guard::Guard;
 use crate::table::{Slot, Table};
 use lt_history::Entry;
 use lt_plain::KeyTable;
-use lt_shard::Shard;
-use lt_words::{Book, Name, Pass};
+use lt_shard::{Rest, Shard};
+use lt_words::{Book, Name, Pass, Waker, abandon_all};
 use std::alloc::{AllocError, Global};
 use std::sync::Wait;
 use thiserror::Error;
@@ -25,6 +25,15 @@ pub struct Histories {
     pub draws: u64,
 }
 
+/// What is left of a table of which steps may be gone: taken out, or never stored.
+#[derive(Drop)]
+pub struct Rests {
+    /// What is left of each shard, from which place on. All its steps are as many as come before and as are left.
+    pub shards: Vec<Rest>,
+    /// How many numbers were drawn.
+    pub draws: u64,
+}
+
 /// Why a table is not closed.
 #[derive(Clone, Copy, Debug, PartialEq, Eq, Drop, Error)]
 pub enum CloseError {
@@ -33,18 +42,40 @@ pub enum CloseError {
     PassesOut(usize),
     #[error("out of memory")]
     Memory,
-    /// The shard at this place is another, or its steps are not the sum of the passes' counts there. No table makes it.
+    /// The shard at this place is another, or the steps that it has are not the sum of the passes' counts there. No whole
+    /// table makes it, and no other that is closed by `close_rest`.
     #[error("the steps of a shard are not those of the passes: {0}")]
     Counts(usize),
 }
 
 /// A table is not closed: all comes back as it was.
-#[derive(Drop)]
-pub struct CloseRefused<N: Name, T: KeyTable> {
-    pub table: Table<N, T>,
+pub struct CloseRefused<N: Name, T: KeyTable, W: Waker = ()> {
+    pub table: Table<N, T, W>,
     pub passes: Vec<Pass>,
     pub guards: Vec<Guard>,
     pub error: CloseError,
+}
+
+impl<N: Name, T: KeyTable + Drop, W: Waker + Drop> CloseRefused<N, T, W> {
+    /// Gives the table up, with its passes and guards.
+    pub fn abandon(self) {
+        let CloseRefused {
+            table: _,
+            passes,
+            guards,
+            error: _,
+        } = self;
+        abandon_all(passes);
+        abandon_guards(guards);
+    }
+}
+
+/// Gives each of the guards up.
+pub fn abandon_guards(mut guards: Vec<Guard>) {
+    while let Some(guard) = guards.pop() {
+        guard.abandon();
+    }
+    guards.destroy_empty();
 }
 
 /// What is left of these steps of a shard without those that the passes made; nothing, where they made more.
@@ -71,22 +102,32 @@ fn without_guards(steps: u64, place: usize, guards: &[Guard]) -> Option<u64>
     Some(left)
 }
 
-/// Whether the shard is the one of this place, and its steps are those of the passes.
+/// Whether steps are missing that have to be there.
+fn is_missing(only_whole: bool, before: u64) -> bool
+    ensures { IsFalse result → only_whole ≡ true → before ≡ 0 }
+{
+    only_whole && before != 0
+}
+
+/// Whether the shard is the one of this place, its steps are those of the passes, and it holds all where it has to.
 fn is_counted<N: Name, T: KeyTable>(
     shard: &Shard<N, T>,
     place: usize,
+    only_whole: bool,
     passes: &[Pass],
     guards: &[Guard],
 ) -> bool
     requires passes { All (λ p. place < p.of.shards) passes.now }
     requires guards { All (λ g. place < g.pass.of.shards) guards.now }
-    ensures { IsTrue result → IsCounted (passes_of passes.now guards.now) place shard.now }
+    ensures { IsTrue result → IsCounted only_whole (passes_of passes.now guards.now) place shard.now }
 {
     if shard.index() != place {
         return false;
     }
-    let steps = shard.history().len() as u64;
-    let Some(left) = without_passes(steps, place, passes) else {
+    if is_missing(only_whole, shard.before()) {
+        return false;
+    }
+    let Some(left) = without_passes(shard.count(), place, passes) else {
         return false;
     };
     let Some(rest) = without_guards(left, place, guards) else {
@@ -95,19 +136,20 @@ fn is_counted<N: Name, T: KeyTable>(
     rest == 0
 }
 
-/// The first shard that is another, or whose steps are not those of the passes.
+/// The first shard that is another, or whose steps are not those of the passes, or of which steps are missing.
 fn first_miscounted<N: Name, T: KeyTable>(
     shards: &[Shard<N, T>],
+    only_whole: bool,
     passes: &[Pass],
     guards: &[Guard],
 ) -> Option<usize>
     requires many { length shards.now ≡ N.of.shards }
     requires passes { All (λ p. p.of ≡ N.of) passes.now }
     requires guards { All (λ g. g.pass.of ≡ N.of) guards.now }
-    ensures { IfNone result ((s : ℕ) (v : View) → s < N.of.shards → IsCounted (passes_of passes.now guards.now) s (slice_index_or shards.now s v)) }
+    ensures { IfNone result ((s : ℕ) (v : View) → s < N.of.shards → IsCounted only_whole (passes_of passes.now guards.now) s (slice_index_or shards.now s v)) }
 {
     for place in 0..shards.len() {
-        if !is_counted(&shards[place], place, passes, guards) {
+        if !is_counted(&shards[place], place, only_whole, passes, guards) {
             return Some(place);
         }
     }
@@ -119,48 +161,60 @@ fn learn_all(last: &mut Pass, passes: &[Pass])
     requires { All (λ p. p.of ≡ last.old.of) passes.now }
     ensures more { SeesMore last.old last.new }
     ensures all { AllByRecursion (λ p. IsPrefix p.seen last.new.seen) passes.now }
+    ensures shown { AllByRecursion (λ p. IsPrefix p.shown last.new.shown) passes.now }
 {
     for pass in passes {
         last.learn(&pass.seen());
     }
 }
 
-/// The pass meets the shard, of which its history is left.
+/// The pass meets the shard, of which what it holds is left.
 fn end_shard<N: Name, T: KeyTable + Drop, R: Wait>(
     rt: &R,
     book: &Book,
     mut shard: Shard<N, T>,
     last: &mut Pass,
-) -> Vec<Entry>
+) -> Rest
     requires book { book.now ≡ N.of }
     requires pass { last.old.of ≡ N.of }
-    ensures same { result.items ≡ shard.stored }
-    ensures met { IsMet N.of last.old last.new shard.index result.items }
+    ensures ended { IsEnded N.of last.old last.new shard.index shard result }
     ensures more { SeesMore last.old last.new }
 {
     shard.meet(rt, book, last);
-    shard.into_history()
+    shard.into_rest()
 }
 
-/// The pass meets each shard, of which the histories are left.
+/// The pass meets each shard, of which what they hold is left.
 fn end_shards<N: Name, T: KeyTable + Drop, R: Wait>(
     rt: &R,
     book: &Book,
     shards: Vec<Shard<N, T>>,
     last: &mut Pass,
-    mut histories: Vec<Vec<Entry>>,
-) -> Vec<Vec<Entry>>
+    mut rests: Vec<Rest>,
+) -> Vec<Rest>
     requires book { book.now ≡ N.of }
     requires pass { last.old.of ≡ N.of }
     requires places { (s : ℕ) (v : View) → s < length shards.items → (slice_index_or shards.items s v).index ≡ s }
-    requires empty { histories.items ≡ [] }
-    requires room { length shards.items ≤ vec_capacity histories }
-    ensures met { AreMet N.of last.old last.new shards.items result.items }
+    requires empty { rests.items ≡ [] }
+    requires room { length shards.items ≤ vec_capacity rests }
+    ensures ended { AreEnded N.of last.old last.new shards.items result.items }
     ensures more { SeesMore last.old last.new }
 {
     for shard in shards {
-        let history = end_shard(rt, book, shard, last);
-        histories.push_reserved(history);
+        let rest = end_shard(rt, book, shard, last);
+        rests.push_reserved(rest);
+    }
+    rests
+}
+
+/// The histories of which nothing is gone, for which there is room.
+fn whole_histories(rests: Vec<Rest>, mut histories: Vec<Vec<Entry>>) -> Vec<Vec<Entry>>
+    requires empty { histories.items ≡ [] }
+    requires room { length rests.items ≤ vec_capacity histories }
+    ensures { result.items ≡ map (λ t. t.entries) rests.items }
+{
+    for rest in rests {
+        histories.push_reserved(rest.entries);
     }
     histories
 }
@@ -170,9 +224,11 @@ fn all_passes(mut passes: Vec<Pass>, guards: Vec<Guard>) -> Vec<Pass>
     requires { length passes.items + length guards.items ≤ vec_capacity passes }
     ensures { result.items ≡ passes_of passes.items guards.items }
 {
-    for guard in guards {
+    let mut rest = guards.into_iter();
+    while let Some(guard) = rest.next() {
         passes.push_reserved(guard.into_pass());
     }
+    rest.destroy_empty();
     passes
 }
 
@@ -189,11 +245,12 @@ fn each_into<A: Drop, B: Drop, F: Fn(A) -> B>(items: Vec<A>, mut made: Vec<B>, m
     made
 }
 
-/// Room for the shards, for their locks if the table comes back, and for their histories.
+/// Room for the shards, for their locks if the table comes back, for what is left of them, and for their histories.
 #[derive(Drop)]
 struct Room<N: Name, T: KeyTable> {
     shards: Vec<Shard<N, T>>,
     slots: Vec<Slot<N, T>>,
+    rests: Vec<Rest>,
     histories: Vec<Vec<Entry>>,
 }
 
@@ -206,6 +263,7 @@ fn take_room<N: Name, T: KeyTable + Drop>(
 ) -> Result<Room<N, T>, AllocError>
     ensures shards { IfOk result (λ room. (room.shards.items ≡ []) × (shards ≤ vec_capacity room.shards)) }
     ensures slots { IfOk result (λ room. (room.slots.items ≡ []) × (shards ≤ vec_capacity room.slots)) }
+    ensures rests { IfOk result (λ room. (room.rests.items ≡ []) × (shards ≤ vec_capacity room.rests)) }
     ensures histories { IfOk result (λ room. (room.histories.items ≡ []) × (shards ≤ vec_capacity room.histories)) }
     ensures passes { passes.new.items ≡ passes.old.items }
     ensures guards { OnOk result (length passes.old.items + guards ≤ vec_capacity passes.new) }
@@ -214,6 +272,7 @@ fn take_room<N: Name, T: KeyTable + Drop>(
     Ok(Room {
         shards: Vec::with_capacity(alloc, shards)?,
         slots: Vec::with_capacity(alloc, shards)?,
+        rests: Vec::with_capacity(alloc, shards)?,
         histories: Vec::with_capacity(alloc, shards)?,
     })
 }
@@ -223,44 +282,72 @@ fn end<N: Name, T: KeyTable + Drop, R: Wait>(
     rt: &R,
     book: &Book,
     shards: Vec<Shard<N, T>>,
+    only_whole: bool,
     mut passes: Vec<Pass>,
-    histories: Vec<Vec<Entry>>,
-) -> Histories
+    rests: Vec<Rest>,
+) -> Rests
     requires book { book.now ≡ N.of }
     requires some { 0 < length passes.items }
     requires passes { All (λ p. p.of ≡ N.of) passes.items }
     requires many { length shards.items ≡ N.of.shards }
-    requires counted { (s : ℕ) (v : View) → s < N.of.shards → IsCounted passes.items s (slice_index_or shards.items s v) }
-    requires empty { histories.items ≡ [] }
-    requires room { length shards.items ≤ vec_capacity histories }
-    ensures { IsClosed N.of passes.items result.shards.items result.draws }
+    requires counted { (s : ℕ) (v : View) → s < N.of.shards → IsCounted only_whole passes.items s (slice_index_or shards.items s v) }
+    requires empty { rests.items ≡ [] }
+    requires room { length shards.items ≤ vec_capacity rests }
+    ensures closed { IsClosedRest N.of passes.items result.shards.items result.draws }
+    ensures whole { only_whole ≡ true → AreWhole N.of result.shards.items }
 {
     let Some(mut last) = passes.pop() else {
         unreachable!()
     };
     learn_all(&mut last, &passes);
-    let histories = end_shards(rt, book, shards, &mut last, histories);
+    let rests = end_shards(rt, book, shards, &mut last, rests);
     let draws = book.drawn(&mut last);
     last.legal();
-    Histories {
-        shards: histories,
+    last.abandon();
+    abandon_all(passes);
+    Rests {
+        shards: rests,
         draws,
     }
 }
 
-impl<N: Name, T: KeyTable + Drop> Table<N, T> {
-    /// Closes the table, when all passes are back, alone or in a guard: gives one history for each shard and the number
-    /// of draws. A guard may be closed without leaving; its stands are then left in the records, which end here.
-    pub fn close<R: Wait>(
+/// What is left of a table, and room for its histories.
+#[derive(Drop)]
+struct Ended {
+    rests: Rests,
+    histories: Vec<Vec<Entry>>,
+}
+
+/// The histories of a table of which nothing is gone.
+fn into_histories(ended: Ended) -> Histories
+    requires empty { ended.histories.items ≡ [] }
+    requires room { length ended.rests.shards.items ≤ vec_capacity ended.histories }
+    ensures shards { result.shards.items ≡ map (λ t. t.entries) ended.rests.shards.items }
+    ensures draws { result.draws ≡ ended.rests.draws }
+{
+    let Ended { rests, histories } = ended;
+    let Rests { shards, draws } = rests;
+    Histories {
+        shards: whole_histories(shards, histories),
+        draws,
+    }
+}
+
+impl<N: Name, T: KeyTable + Drop, W: Waker + Drop> Table<N, T, W> {
+    /// Closes the table, when all passes are back; where `only_whole`, not if steps are gone.
+    fn close_as<R: Wait>(
         self,
         rt: &R,
         alloc: Global,
+        only_whole: bool,
         mut passes: Vec<Pass>,
         guards: Vec<Guard>,
-    ) -> Result<Histories, CloseRefused<N, T>>
+    ) -> Result<Ended, CloseRefused<N, T, W>>
         requires passes { All (λ p. p.of ≡ N.of) passes.items }
         requires guards { All (λ g. g.pass.of ≡ N.of) guards.items }
-        ensures closed { IfOk result (λ h. IsClosed N.of (passes_of passes.items guards.items) h.shards.items h.draws) }
+        ensures closed { IfOk result (λ e. IsClosedRest N.of (passes_of passes.items guards.items) e.rests.shards.items e.rests.draws) }
+        ensures whole { IfOk result (λ e. only_whole ≡ true → AreWhole N.of e.rests.shards.items) }
+        ensures room { IfOk result (λ e. (e.histories.items ≡ []) × (length e.rests.shards.items ≤ vec_capacity e.histories)) }
         ensures enough { OnOk result (self.passes ≤ length passes.items + length guards.items) }
         ensures refused { IfErr result (λ e. IsUnclosed e.error (length passes.items + length guards.items) self.passes) }
         ensures table { IfErr result (λ e. e.table ≡ self) }
@@ -289,14 +376,16 @@ impl<N: Name, T: KeyTable + Drop> Table<N, T> {
             config,
             book,
             shards,
+            waker,
         } = self;
         let shards = each_into(shards, room.shards, |slot| slot.into_shard());
-        if let Some(place) = first_miscounted(&shards, &passes, &guards) {
+        if let Some(place) = first_miscounted(&shards, only_whole, &passes, &guards) {
             return Err(CloseRefused {
                 table: Table {
                     config,
                     book,
                     shards: each_into(shards, room.slots, |shard| Slot::new(shard)),
+                    waker,
                 },
                 passes,
                 guards,
@@ -304,6 +393,57 @@ impl<N: Name, T: KeyTable + Drop> Table<N, T> {
             });
         }
         let passes = all_passes(passes, guards);
-        Ok(end(rt, &book, shards, passes, room.histories))
+        let rests = end(rt, &book, shards, only_whole, passes, room.rests);
+        Ok(Ended {
+            rests,
+            histories: room.histories,
+        })
+    }
+
+    /// Closes the table, when all passes are back, alone or in a guard: gives one history for each shard and the number
+    /// of draws. A guard may be closed without leaving; its stands are then left in the records, which end here.
+    ///
+    /// A table of which steps are gone, which is no whole one, has no such histories: it is refused with `Counts`, and
+    /// [`Table::close_rest`] closes it.
+    pub fn close<R: Wait>(
+        self,
+        rt: &R,
+        alloc: Global,
+        passes: Vec<Pass>,
+        guards: Vec<Guard>,
+    ) -> Result<Histories, CloseRefused<N, T, W>>
+        requires passes { All (λ p. p.of ≡ N.of) passes.items }
+        requires guards { All (λ g. g.pass.of ≡ N.of) guards.items }
+        ensures closed { IfOk result (λ h. IsClosed N.of (passes_of passes.items guards.items) h.shards.items h.draws) }
+        ensures enough { OnOk result (self.passes ≤ length passes.items + length guards.items) }
+        ensures refused { IfErr result (λ e. IsUnclosed e.error (length passes.items + length guards.items) self.passes) }
+        ensures table { IfErr result (λ e. e.table ≡ self) }
+        ensures passes { IfErr result (λ e. e.passes.items ≡ passes.items) }
+        ensures guards { IfErr result (λ e. e.guards.items ≡ guards.items) }
+    {
+        let ended = self.close_as(rt, alloc, true, passes, guards)?;
+        Ok(into_histories(ended))
+    }
+
+    /// The same for a table that may have given steps away or stored none: gives of each shard the steps that are left,
+    /// and from which place on they are.
+    pub fn close_rest<R: Wait>(
+        self,
+        rt: &R,
+        alloc: Global,
+        passes: Vec<Pass>,
+        guards: Vec<Guard>,
+    ) -> Result<Rests, CloseRefused<N, T, W>>
+        requires passes { All (λ p. p.of ≡ N.of) passes.items }
+        requires guards { All (λ g. g.pass.of ≡ N.of) guards.items }
+        ensures closed { IfOk result (λ r. IsClosedRest N.of (passes_of passes.items guards.items) r.shards.items r.draws) }
+        ensures enough { OnOk result (self.passes ≤ length passes.items + length guards.items) }
+        ensures refused { IfErr result (λ e. IsUnclosed e.error (length passes.items + length guards.items) self.passes) }
+        ensures table { IfErr result (λ e. e.table ≡ self) }
+        ensures passes { IfErr result (λ e. e.passes.items ≡ passes.items) }
+        ensures guards { IfErr result (λ e. e.guards.items ≡ guards.items) }
+    {
+        let ended = self.close_as(rt, alloc, false, passes, guards)?;
+        Ok(ended.rests)
     }
 }

@@ -1,7 +1,7 @@
 ghost use Rattle.std.specs.Prelude.{◌≡◌, ◌⊎◌, Some, None, IfOk, IfErr, OnOk};
 ghost use Rattle.lt_table.specs.Configs.{is_between, fault, IsOpened};
 
-use lt_words::{Book, Pass};
+use lt_words::{Book, Keeping, Pass, abandon_all};
 use std::alloc::{AllocError, Global};
 use std::marker::Model;
 use thiserror::Error;
@@ -13,7 +13,7 @@ pub struct Config {
     pub shards: usize,
     /// How many passes: 1 to 1,024. Each serves one caller at a time.
     pub passes: usize,
-    /// How many steps a shard may make: 1 to 2^32.
+    /// How many steps a shard may hold: 1 to 2^32. Where each step is held until the close, so many it may make.
     pub max_steps: u64,
     /// How many requests may enter: 1 to 2^40 - 1.
     pub max_requests: u64,
@@ -83,7 +83,6 @@ fn fault(config: Config) -> Option<PrepareError>
 }
 
 /// A book and its passes, from which a table is opened.
-#[derive(Drop)]
 pub struct Ready {
     pub(crate) config: Config,
     pub(crate) book: Book,
@@ -102,6 +101,18 @@ impl Model for Ready {
     ghost invariant = { λ r. IsOpened r.config r.book × (r.passes.items ≡ fresh_passes r.book r.config.passes) };
 }
 
+impl Ready {
+    /// Gives the book and its passes up.
+    pub fn abandon(self) {
+        let Ready {
+            config: _,
+            book: _,
+            passes,
+        } = self;
+        abandon_all(passes);
+    }
+}
+
 /// Looks at the numbers, and takes the memory of the words and of the passes.
 pub fn prepare(alloc: Global, config: Config) -> Result<Ready, PrepareError>
     ensures ok { OnOk result (fault config ≡ None) }
@@ -109,11 +120,25 @@ pub fn prepare(alloc: Global, config: Config) -> Result<Ready, PrepareError>
     // The book has the numbers of shards and passes that were asked for.
     ensures opened { IfOk result (λ ready. IsOpened config ready.of) }
     ensures refused { IfErr result (λ e. (fault config ≡ Some e) ⊎ ((fault config ≡ None) × (e ≡ PrepareError.Memory))) }
+    // Each step is stored until the table is closed.
+    ensures whole { IfOk result (λ ready. ready.of.keeping ≡ Keeping.Whole) }
+{
+    prepare_with(alloc, config, Keeping::Whole)
+}
+
+/// The same for a table that keeps steps in this way. A table that streams holds at most `max_steps` steps of a shard at a
+/// time; one that records none has no use for that number.
+pub fn prepare_with(alloc: Global, config: Config, keeping: Keeping) -> Result<Ready, PrepareError>
+    ensures ok { OnOk result (fault config ≡ None) }
+    ensures config { IfOk result (λ ready. ready.config ≡ config) }
+    ensures opened { IfOk result (λ ready. IsOpened config ready.of) }
+    ensures keeping { IfOk result (λ ready. ready.of.keeping ≡ keeping) }
+    ensures refused { IfErr result (λ e. (fault config ≡ Some e) ⊎ ((fault config ≡ None) × (e ≡ PrepareError.Memory))) }
 {
     if let Some(error) = fault(config) {
         return Err(error);
     }
-    let (book, passes) = Book::open(alloc, config.shards, config.passes)?;
+    let (book, passes) = Book::open_keeping(alloc, config.shards, config.passes, keeping)?;
     Ok(Ready {
         config,
         book,

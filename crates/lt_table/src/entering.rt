@@ -10,12 +10,11 @@ use crate::walk::Walk;
 use lt_ids::{Access, Key, Timestamp, TxnId};
 use lt_plain::KeyTable;
 use lt_shard::Answer;
-use lt_words::{Name, Pass};
+use lt_words::{Name, Pass, Waker};
 use std::alloc::Global;
 use std::sync::Wait;
 
 /// A request does not enter: its pass comes back, and no number was drawn.
-#[derive(Drop)]
 pub struct EnterRefused {
     pub pass: Pass,
     pub error: EnterError,
@@ -46,7 +45,7 @@ impl Room {
     }
 }
 
-impl<N: Name, T: KeyTable> Table<N, T> {
+impl<N: Name, T: KeyTable, W: Waker> Table<N, T, W> {
     /// A request of these accesses enters through the pass, which its guard keeps until it leaves. Its number is drawn
     /// last, so that a refusal for what was given or for memory draws none. It is of the transaction or of none, and joins
     /// the writers of a key only where they are fewer than `longest`; 0 is no bound.

@@ -1,16 +1,20 @@
 ghost use Rattle.std.specs.Prelude.{◌≡◌};
+ghost use mathlib.Core.List.{IsPrefix};
 ghost use Rattle.lt_ids.specs.Ids.{IsNumber};
 ghost use Rattle.lt_words.specs.History.{IsLegalHistory};
+ghost use Rattle.lt_words.specs.Row.{SeesMore};
 
 use crate::progress::Mode;
 use crate::walk::Walk;
 use lt_ids::{Access, Key};
 use lt_shard::Answer;
-use lt_words::Pass;
+use lt_words::{Front, Pass};
 use std::marker::Model;
 
 /// A request on its way through its keys, with the pass that makes its calls.
-#[derive(Drop)]
+///
+/// A guard cannot be let go by the way: it leaves ([`Table::leave`](crate::Table::leave)), is closed with its table, or is
+/// given up by name ([`Guard::abandon`]).
 pub struct Guard {
     pub(crate) pass: Pass,
     pub(crate) walk: Walk,
@@ -69,10 +73,36 @@ impl Guard {
         self.pass.legal();
     }
 
+    /// What its pass has seen, for another to learn.
+    pub fn seen(&self) -> Front
+        ensures of { result.of ≡ self.now.pass.of }
+        ensures seen { result.seen ≡ self.now.pass.seen }
+        ensures shown { result.shown ≡ self.now.pass.shown }
+    {
+        self.pass.seen()
+    }
+
+    /// Afterwards its pass has seen what the front has, too.
+    pub fn learn(&mut self, front: &Front)
+        requires { front.now.of ≡ self.old.pass.of }
+        ensures more { SeesMore self.old.pass self.new.pass }
+        ensures seen { IsPrefix front.now.seen self.new.pass.seen }
+        ensures shown { IsPrefix front.now.shown self.new.pass.shown }
+        ensures walk { self.new.walk ≡ self.old.walk }
+    {
+        self.pass.learn(front);
+    }
+
     pub(crate) fn into_pass(self) -> Pass
         ensures { result ≡ self.pass }
     {
-        let Guard { pass, .. } = self;
+        let Guard { pass, walk: _ } = self;
         pass
+    }
+
+    /// Gives the request and its pass up. Its stands remain in the records of its keys: who comes behind them waits for
+    /// ever.
+    pub fn abandon(self) {
+        self.into_pass().abandon();
     }
 }

@@ -1,8 +1,9 @@
 //! What follows from what the calls of a table tell.
 //!
 //! Each law is the contract of a function without work, over the definitions alone.
-ghost use Rattle.lt_table.specs.Laws.{OneKeyList, ReportedStand, ProceedHasPassedEach, ThroughGoesOn, NumbersOfGuardsDiffer, ReportedStandAtClose};
+ghost use Rattle.lt_table.specs.Laws.{OneKeyList, ReportedStand, ProceedHasPassedEach, ThroughGoesOn, ShownIsThrough, ShownGoesOn, NoWakeUpIsLost, NumbersOfGuardsDiffer, ReportedStandAtClose};
 ghost use Rattle.lt_table.specs.Reported.{PlacesRise};
+ghost use Rattle.lt_table.specs.Taken.{TakesJoin};
 
 /// The accesses of a request decide its key list.
 pub fn one_key_list()
@@ -26,6 +27,24 @@ pub fn through_goes_on()
     ensures { ThroughGoesOn }
 {}
 
+/// Who waits, and was shown the very wait that it is in, as far as its pass had seen, is answered `Through` by its next
+/// poll; unless a later ticket of its pass was let through.
+pub fn shown_is_through()
+    ensures { ShownIsThrough }
+{}
+
+/// The same of its next scan, which is not refused `StillWaiting`.
+pub fn shown_goes_on()
+    ensures { ShownGoesOn }
+{}
+
+/// No wake-up is lost: where a step that anyone reports lets the very wait through that a request is in, and the
+/// request's pass has seen what was shown to whoever made the step, its next poll answers `Through`; unless a later
+/// ticket of its pass was let through.
+pub fn no_wake_up_is_lost()
+    ensures { NoWakeUpIsLost }
+{}
+
 /// Two steps that a pass reports of one shard never share a place: the later one has the greater.
 pub fn places_rise()
     ensures { PlacesRise }
@@ -39,4 +58,9 @@ pub fn numbers_of_guards_differ()
 /// A step that was reported stands at its place in the histories of the close.
 pub fn reported_stand_at_close()
     ensures { ReportedStandAtClose }
+{}
+
+/// Takes of a shard that follow one another give its steps without a gap, and none twice.
+pub fn takes_join()
+    ensures { TakesJoin }
 {}

@@ -1,5 +1,5 @@
 //! Leaves.
-ghost use Rattle.std.specs.Prelude.{◌≡◌, IfOk, IfErr, OnOk, OnErr, IsSome, None};
+ghost use Rattle.std.specs.Prelude.{◌≡◌, ◌≢◌, Err, IfOk, IfErr, OnOk, OnErr, IsSome, None};
 ghost use Rattle.lt_table.specs.Machine.{next_leave, leaving};
 ghost use Rattle.lt_table.specs.Closed.{IsLeave};
 ghost use Rattle.lt_table.specs.Reported.{IsLeavingFrom, PassStays, GuardStays};
@@ -9,18 +9,16 @@ use crate::progress::Mode;
 use crate::table::Table;
 use lt_plain::KeyTable;
 use lt_shard::{Answer, StepError};
-use lt_words::{Name, Pass};
+use lt_words::{Keeping, Name, Pass, Waker};
 use std::sync::Wait;
 
 /// All keys are left: the pass, and an answer for each key, in the guard's order.
-#[derive(Drop)]
 pub struct Left {
     pub pass: Pass,
     pub answers: Vec<Answer>,
 }
 
 /// A leave was refused: the guard is leaving, and stands at the refused key. A further leave goes on there.
-#[derive(Drop)]
 pub struct LeaveStopped {
     pub guard: Guard,
     pub error: StepError,
@@ -46,13 +44,14 @@ impl Guard {
     }
 }
 
-impl<N: Name, T: KeyTable> Table<N, T> {
+impl<N: Name, T: KeyTable, W: Waker> Table<N, T, W> {
     fn leave_on<R: Wait>(&self, rt: &R, guard: &mut Guard) -> Result<(), StepError>
         requires pass { guard.old.pass.of ≡ N.of }
         requires leaving { guard.old.walk.progress.mode ≡ Mode.Leaving }
         ensures leave { IsLeavingFrom guard.old guard.new }
         ensures ok { OnOk result (next_leave guard.new.walk.asked guard.new.walk.progress ≡ None) }
         ensures err { OnErr result (IsSome (next_leave guard.new.walk.asked guard.new.walk.progress)) }
+        ensures never_full { N.of.keeping ≡ Keeping.Unrecorded → result ≢ Err StepError.HistoryFull }
     {
         while guard.walk.has_leave() {
             let leave = guard.walk.leave_call();
@@ -69,6 +68,7 @@ impl<N: Name, T: KeyTable> Table<N, T> {
         ensures leave { IsLeave guard result }
         ensures left { IfOk result (λ left. PassStays guard.pass left.pass) }
         ensures stopped { IfErr result (λ e. GuardStays guard e.guard) }
+        ensures never_full { N.of.keeping ≡ Keeping.Unrecorded → IfErr result (λ e. e.error ≢ StepError.HistoryFull) }
     {
         guard.begin_leave();
         match self.leave_on(rt, &mut guard) {

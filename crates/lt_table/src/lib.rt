@@ -10,7 +10,7 @@
 //!     match table.scan(rt, &mut guard)? {                              // one visit of each key, in order
 //!         Scan::Proceed => break,                                      // no conflict: evaluate now
 //!         Scan::Rescan => {}                                           // it waited on the way: once more
-//!         Scan::Waiting(_) => while table.poll(&mut guard) != Poll::Through {}
+//!         Scan::Waiting(_) => { table.wait(rt, &mut guard); }          // it sleeps until it is let through
 //!         Scan::TooLong(_) => return table.leave(rt, guard),           // there are as many writers as its bound
 //!     }
 //! }
@@ -19,10 +19,14 @@
 //! table.finish(rt, &mut pass, &key, txn)?;                             // at its end: the lock is free, the next may go
 //! ```
 //!
-//! A scan waits for the locks of shards alone: at a conflict its request stands in the key's queue, and it answers
+//! A scan waits for the locks of shards alone. At a conflict its request stands in the key's queue, and it answers
 //! `Waiting`. A poll is one load of the pass's own status word, so a thread may poll as often as it likes, or do something
-//! else meanwhile. Keys are spread over 1 to 64 shards by the sum of their bytes; each shard has a lock of its own, and a
-//! call holds at most one of them, for one key step.
+//! else meanwhile. [`Table::wait`] sleeps until the step that lets the request through wakes it, and [`Table::wait_until`]
+//! does so up to a deadline. A store that does not keep a thread for each request opens its table with a [`Waker`]
+//! ([`open_waking`]), which is told of each let.
+//!
+//! Keys are spread over 1 to 64 shards by the sum of their bytes. Each shard has a lock of its own, and a call holds at most
+//! one of them, for one key step.
 //!
 //! A request may be of no transaction: no lock is ever reserved for it. And it may have a bound: where a key has as
 //! many writers, or more, its scan answers `TooLong` and does not join them.
@@ -31,8 +35,44 @@
 //! all steps, once, and after all that its caller had seen; a request that is read as let through was let through there; no
 //! key ever has two holders; a reader passes another transaction's lock only below the lock's timestamp. The contracts of
 //! the calls say this of what their pass has then seen, and [`Table::close`] says that all that was ever seen is one history.
+//! No wake-up is lost: whoever has seen that the very wait that it is in was shown to it, is answered `Through` by its next
+//! poll, unless a later ticket of its pass was let through ([`laws`]).
 //! Premises: passes and guards are those of this table, each used by its owner; a call that takes a lock promises if it
 //! returns.
+//!
+//! **How the history is kept.** A table that [`prepare`] makes ready holds each step until it is closed, up to `max_steps` of
+//! a shard. [`prepare_with`] makes one ready that streams its steps, which [`Table::take_history`] and [`Table::take_next`]
+//! take out while it runs, or that records none. The promises are the same, and [`Table::close_rest`] gives what is left.
+//!
+//! **What can be asked.** [`Table::inspect`] tells how a key stands, and [`Table::locked_keys`] which keys of a shard are
+//! locked, reserved or waited for. Both are true after the steps of the shard that the pass has then seen, and stand in no
+//! history.
+//!
+//! **Passes and threads.** A [`Pass`](lt_words::Pass) and a [`Guard`] are not `Drop`: a path that forgets one does not compile,
+//! and `abandon` gives one up by name. The library's threads take only values that may be dropped. So a pass goes to a thread
+//! in a *seat*, a struct of the caller's own whose `Drop` gives the pass up:
+//!
+//! ```text
+//! pub struct Seat<N: Name> {
+//!     pass: Option<Pass>,
+//!     name: PhantomData<N>,
+//!     pub ghost of: { IfSome pass (λ p. p.of ≡ N.of) },                // it is a pass of this table
+//! }
+//!
+//! impl<N: Name> Drop for Seat<N> {
+//!     fn drop(self) {
+//!         let Seat { pass, name: _ } = self;
+//!         give_up(pass);                                               // if there is one, pass.abandon()
+//!     }
+//! }
+//!
+//! // Lent: a thread takes the pass out of its seat and puts it back. `one` and `other` are `&mut Seat<N>`.
+//! join(rt, move || work(rt, &table, one), move || work(rt, &table, other));
+//! // Moved: each thread is given a seat and gives one back.
+//! let seats = map_vec(rt, seats, &|seat: Seat<N>| -> Option<Seat<N>> { turn(rt, &table, seat) })?;
+//! ```
+//!
+//! The crate `lt_waiting_tests` has both, whole and proved: `lent.rt` and `queue.rt`.
 //!
 //! Look next at `specs/Machine.antt`, the state of a request and what each call makes of it, `specs/Reported.antt`, what a
 //! call tells of its steps, and `specs/Closed.antt`, what is left at the end. `docs/RULES.md`, "A request", has the rules in
@@ -43,6 +83,7 @@ mod closing;
 mod config;
 mod entering;
 mod guard;
+mod inspecting;
 mod keys;
 pub mod laws;
 mod leaving;
@@ -52,17 +93,21 @@ mod progress;
 mod scan;
 mod scanning;
 mod table;
+mod taking;
+mod waiting;
 mod walk;
 
-pub use closing::{CloseError, CloseRefused, Histories};
-pub use config::{Config, PrepareError, Ready, prepare};
+pub use closing::{CloseError, CloseRefused, Histories, Rests, abandon_guards};
+pub use config::{Config, PrepareError, Ready, prepare, prepare_with};
 pub use entering::EnterRefused;
 pub use guard::Guard;
 pub use keys::EnterError;
 pub use leaving::{LeaveStopped, Left};
 pub use lt_lock::LinkedTable;
-pub use lt_shard::{Answer, StepError};
-pub use opening::{open, open_with};
+pub use lt_shard::{Answer, KeyState, Rest, StepError};
+pub use lt_words::{Keeping, Waker};
+pub use opening::{open, open_waking, open_waking_with, open_with};
 pub use progress::{Mode, Progress};
 pub use scan::{Poll, Scan, ScanError};
 pub use table::Table;
+pub use taking::{Gone, Reader};

@@ -1,5 +1,5 @@
 //! The calls on the locks of a transaction, and looks.
-ghost use Rattle.std.specs.Prelude.{◌≡◌, ◌<◌, ℕ, IfOk, OnErr, List, Some, length, slice_get};
+ghost use Rattle.std.specs.Prelude.{◌≡◌, ◌≢◌, ◌<◌, ℕ, Err, IfOk, OnErr, List, Some, length, slice_get};
 ghost use Rattle.std.specs.Option.{option_map};
 ghost use Rattle.lt_history.specs.Histories.{NamesNumber};
 ghost use Rattle.lt_plain.specs.declared.call.Call.TheVariants.{Acquire, Update, Finish, Look};
@@ -10,12 +10,12 @@ use crate::table::Table;
 use lt_ids::{Key, Timestamp, TxnId};
 use lt_plain::{Call, KeyTable};
 use lt_shard::{Answer, StepError};
-use lt_words::{Name, Pass};
+use lt_words::{Keeping, Name, Pass, Waker};
 use std::sync::Wait;
 
-/// Each call makes one key step under the lock of the key's shard. It is refused where the shard has as many steps as it
-/// may have, or for want of memory; then nothing changed.
-impl<N: Name, T: KeyTable> Table<N, T> {
+/// Each call makes one key step under the lock of the key's shard. It is refused where the shard holds as many steps as it
+/// may, which one that records none never does, or for want of memory; then nothing changed.
+impl<N: Name, T: KeyTable, W: Waker> Table<N, T, W> {
     /// The transaction takes the lock of the key, or raises the timestamp of its lock.
     pub fn acquire<R: Wait>(
         &self,
@@ -28,6 +28,7 @@ impl<N: Name, T: KeyTable> Table<N, T> {
         requires pass { pass.old.of ≡ N.of }
         ensures ok { IfOk result (λ a. Reported pass.old pass.new (record { key = key.now; call = Acquire txn ts; answer = a })) }
         ensures err { OnErr result (pass.new ≡ pass.old) }
+        ensures never_full { N.of.keeping ≡ Keeping.Unrecorded → result ≢ Err StepError.HistoryFull }
     {
         self.step(rt, pass, key, &Call::Acquire { txn, ts })
     }
@@ -44,6 +45,7 @@ impl<N: Name, T: KeyTable> Table<N, T> {
         requires pass { pass.old.of ≡ N.of }
         ensures ok { IfOk result (λ a. Reported pass.old pass.new (record { key = key.now; call = Update txn ts; answer = a })) }
         ensures err { OnErr result (pass.new ≡ pass.old) }
+        ensures never_full { N.of.keeping ≡ Keeping.Unrecorded → result ≢ Err StepError.HistoryFull }
     {
         self.step(rt, pass, key, &Call::Update { txn, ts })
     }
@@ -59,6 +61,7 @@ impl<N: Name, T: KeyTable> Table<N, T> {
         requires pass { pass.old.of ≡ N.of }
         ensures ok { IfOk result (λ a. Reported pass.old pass.new (record { key = key.now; call = Finish txn; answer = a })) }
         ensures err { OnErr result (pass.new ≡ pass.old) }
+        ensures never_full { N.of.keeping ≡ Keeping.Unrecorded → result ≢ Err StepError.HistoryFull }
     {
         self.step(rt, pass, key, &Call::Finish { txn })
     }
@@ -75,6 +78,7 @@ impl<N: Name, T: KeyTable> Table<N, T> {
         requires number { NamesNumber call.now }
         ensures ok { IfOk result (λ a. Reported guard.old.pass guard.new.pass (record { key = key.now; call = call.now; answer = a })) }
         ensures err { OnErr result (guard.new ≡ guard.old) }
+        ensures never_full { N.of.keeping ≡ Keeping.Unrecorded → result ≢ Err StepError.HistoryFull }
         ensures walk { guard.new.walk ≡ guard.old.walk }
     {
         self.step(rt, &mut guard.pass, key, call)
@@ -92,6 +96,7 @@ impl<N: Name, T: KeyTable> Table<N, T> {
         requires pass { guard.old.pass.of ≡ N.of }
         ensures ok { IfOk result (λ a. Reported guard.old.pass guard.new.pass (record { key = key.now; call = Acquire txn ts; answer = a })) }
         ensures err { OnErr result (guard.new ≡ guard.old) }
+        ensures never_full { N.of.keeping ≡ Keeping.Unrecorded → result ≢ Err StepError.HistoryFull }
         ensures walk { guard.new.walk ≡ guard.old.walk }
     {
         self.step_in(rt, guard, key, &Call::Acquire { txn, ts })
@@ -109,6 +114,7 @@ impl<N: Name, T: KeyTable> Table<N, T> {
         requires pass { guard.old.pass.of ≡ N.of }
         ensures ok { IfOk result (λ a. Reported guard.old.pass guard.new.pass (record { key = key.now; call = Update txn ts; answer = a })) }
         ensures err { OnErr result (guard.new ≡ guard.old) }
+        ensures never_full { N.of.keeping ≡ Keeping.Unrecorded → result ≢ Err StepError.HistoryFull }
         ensures walk { guard.new.walk ≡ guard.old.walk }
     {
         self.step_in(rt, guard, key, &Call::Update { txn, ts })
@@ -125,6 +131,7 @@ impl<N: Name, T: KeyTable> Table<N, T> {
         requires pass { guard.old.pass.of ≡ N.of }
         ensures ok { IfOk result (λ a. Reported guard.old.pass guard.new.pass (record { key = key.now; call = Finish txn; answer = a })) }
         ensures err { OnErr result (guard.new ≡ guard.old) }
+        ensures never_full { N.of.keeping ≡ Keeping.Unrecorded → result ≢ Err StepError.HistoryFull }
         ensures walk { guard.new.walk ≡ guard.old.walk }
     {
         self.step_in(rt, guard, key, &Call::Finish { txn })
@@ -142,6 +149,7 @@ impl<N: Name, T: KeyTable> Table<N, T> {
         requires index { index < length guard.old.walk.asked.keys }
         ensures ok { IfOk result (λ a. (key : List ℕ) × (option_map (λ k. k.0) (slice_get guard.old.walk.asked.keys index) ≡ Some key) × Reported guard.old.pass guard.new.pass (record { key = key; call = Look guard.old.walk.asked.number; answer = a })) }
         ensures err { OnErr result (guard.new ≡ guard.old) }
+        ensures never_full { N.of.keeping ≡ Keeping.Unrecorded → result ≢ Err StepError.HistoryFull }
         ensures walk { guard.new.walk ≡ guard.old.walk }
     {
         let number = guard.walk.number();

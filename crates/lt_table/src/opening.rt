@@ -9,7 +9,7 @@ use crate::table::{Slot, Table};
 use lt_lock::LinkedTable;
 use lt_plain::KeyTable;
 use lt_shard::Shard;
-use lt_words::{Book, Name, Pass};
+use lt_words::{Book, Name, Pass, Waker, abandon_all};
 use std::alloc::{AllocError, Global};
 
 /// The shards over these tables, each behind a lock of its own.
@@ -35,7 +35,8 @@ fn shards_over<N: Name, T: KeyTable + Drop>(
 }
 
 /// Opens the table of a book over these tables, which are empty, one for each shard, in order. Its passes have seen
-/// nothing and made no step. `N` names the book that was prepared.
+/// nothing and made no step. `N` names the book that was prepared. Where memory is refused, the passes are given up with
+/// the book.
 pub fn open_with<N: Name, T: KeyTable + Drop>(
     alloc: Global,
     ready: Ready,
@@ -53,11 +54,15 @@ pub fn open_with<N: Name, T: KeyTable + Drop>(
         book,
         passes,
     } = ready;
-    let shards = shards_over(alloc, &book, tables, config.max_steps)?;
+    let Ok(shards) = shards_over(alloc, &book, tables, config.max_steps) else {
+        abandon_all(passes);
+        return Err(AllocError);
+    };
     let table = Table {
         config,
         book,
         shards,
+        waker: (),
     };
     Ok((table, passes))
 }
@@ -72,8 +77,80 @@ pub fn open<N: Name>(
     ensures passes { IfOk result (λ r. r.1.items ≡ fresh_passes N.of N.of.passes) }
     ensures of { IfOk result (λ r. All (λ p. p.of ≡ N.of) r.1.items) }
 {
-    let tables = linked_tables(alloc, ready.config.shards)?;
+    let Ok(tables) = linked_tables(alloc, ready.config.shards) else {
+        ready.abandon();
+        return Err(AllocError);
+    };
     open_with(alloc, ready, tables)
+}
+
+/// The passes note each let, for a waker. Where memory is refused, they are given up.
+fn noting_each(passes: Vec<Pass>) -> Result<Vec<Pass>, AllocError>
+    ensures { IfOk result (λ noting. noting.items ≡ passes.items) }
+{
+    let mut noting = passes;
+    let room = noting.len();
+    for place in 0..noting.len() {
+        if noting[place].note_each_let(room).is_err() {
+            abandon_all(noting);
+            return Err(AllocError);
+        }
+    }
+    Ok(noting)
+}
+
+/// [`open_with`], with a waker that is told of each let. Each pass takes room for a let of each pass.
+pub fn open_waking_with<N: Name, T: KeyTable + Drop, W: Waker + Drop>(
+    alloc: Global,
+    ready: Ready,
+    tables: Vec<T>,
+    waker: W,
+) -> Result<(Table<N, T, W>, Vec<Pass>), AllocError>
+    requires named { ready.of ≡ N.of }
+    requires many { length tables.items ≡ N.of.shards }
+    requires empty { All (λ t. T.records t ≡ finmap.empty) tables.items }
+    ensures config { IfOk result (λ r. r.0 ≡ ready.config) }
+    ensures passes { IfOk result (λ r. r.1.items ≡ fresh_passes N.of N.of.passes) }
+    ensures of { IfOk result (λ r. All (λ p. p.of ≡ N.of) r.1.items) }
+{
+    let (table, passes) = open_with::<N, T>(alloc, ready, tables)?;
+    let passes = noting_each(passes)?;
+    Ok((table.with_waker(waker), passes))
+}
+
+/// [`open`], with a waker that is told of each let. Each pass takes room for a let of each pass.
+pub fn open_waking<N: Name, W: Waker + Drop>(
+    alloc: Global,
+    ready: Ready,
+    waker: W,
+) -> Result<(Table<N, LinkedTable, W>, Vec<Pass>), AllocError>
+    requires { ready.of ≡ N.of }
+    ensures config { IfOk result (λ r. r.0 ≡ ready.config) }
+    ensures passes { IfOk result (λ r. r.1.items ≡ fresh_passes N.of N.of.passes) }
+    ensures of { IfOk result (λ r. All (λ p. p.of ≡ N.of) r.1.items) }
+{
+    let (table, passes) = open::<N>(alloc, ready)?;
+    let passes = noting_each(passes)?;
+    Ok((table.with_waker(waker), passes))
+}
+
+impl<N: Name, T: KeyTable> Table<N, T> {
+    fn with_waker<W: Waker>(self, waker: W) -> Table<N, T, W>
+        ensures { result ≡ self }
+    {
+        let Table {
+            config,
+            book,
+            shards,
+            waker: (),
+        } = self;
+        Table {
+            config,
+            book,
+            shards,
+            waker,
+        }
+    }
 }
 
 /// So many empty tables.

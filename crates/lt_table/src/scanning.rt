@@ -12,10 +12,10 @@ use crate::progress::Mode;
 use crate::scan::{Poll, Scan, ScanError};
 use crate::table::Table;
 use lt_plain::KeyTable;
-use lt_words::Name;
+use lt_words::{Keeping, Name, Waker};
 use std::sync::Wait;
 
-impl<N: Name, T: KeyTable> Table<N, T> {
+impl<N: Name, T: KeyTable, W: Waker> Table<N, T, W> {
     /// Whether the request was let through. It is one load of the pass's status word, compared with the whole ticket
     /// of the wait: it takes no lock and no memory, and waits for nobody.
     pub fn poll(&self, guard: &mut Guard) -> Poll
@@ -34,6 +34,7 @@ impl<N: Name, T: KeyTable> Table<N, T> {
         ensures scan { IsScan self.now.max_waits guard.old guard.new result }
         ensures number { IsNumber guard.old.walk.asked.number }
         ensures sound { IsSound (length guard.old.walk.asked.keys) guard.old.walk.progress (length guard.old.walk.answers) }
+        ensures never_full { N.of.keeping ≡ Keeping.Unrecorded → result ≢ Err ScanError.HistoryFull }
     {
         let max_waits = self.config.max_waits;
         guard.walk.sound();
@@ -61,6 +62,7 @@ impl<N: Name, T: KeyTable> Table<N, T> {
         ensures stopped { (place : ℕ) → result ≡ Ok (TooLong place) → place < length guard.new.walk.asked.keys }
         ensures too_long { (place : ℕ) → result ≡ Ok (TooLong place) → IsTooLong guard.old guard.new place }
         ensures stays { GuardStays guard.old guard.new }
+        ensures never_full { N.of.keeping ≡ Keeping.Unrecorded → result ≢ Err ScanError.HistoryFull }
     {
         let result = self.visit_on(rt, guard);
         guard.walk.sound();

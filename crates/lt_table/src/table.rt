@@ -1,4 +1,4 @@
-ghost use Rattle.std.specs.Prelude.{◌≡◌, ◌<◌, IfOk, OnErr};
+ghost use Rattle.std.specs.Prelude.{◌≡◌, ◌≢◌, ◌<◌, IfOk, OnErr, Err};
 ghost use Rattle.lt_history.specs.Histories.{NamesNumber};
 ghost use Rattle.lt_words.specs.History.{shard_of};
 ghost use Rattle.lt_table.specs.Reported.{Reported};
@@ -7,7 +7,7 @@ use crate::config::Config;
 use lt_ids::Key;
 use lt_plain::{Call, KeyTable};
 use lt_shard::{Answer, Shard, StepError};
-use lt_words::{Book, Name, Pass, shard_of};
+use lt_words::{Book, Keeping, Name, Pass, Waker, shard_of};
 use std::marker::Model;
 use std::sync::{Mutex, Wait};
 
@@ -32,15 +32,17 @@ impl<N: Name, T: KeyTable> Slot<N, T> {
     }
 }
 
-/// A lock table that threads share. `N` names the book that its words are of.
+/// A lock table that threads share. `N` names the book that its words are of, `T` keeps the keys of a shard, and `W` is told
+/// of each let.
 #[derive(Drop)]
-pub struct Table<N: Name, T: KeyTable> {
+pub struct Table<N: Name, T: KeyTable, W: Waker = ()> {
     pub(crate) config: Config,
     pub(crate) book: Book,
     pub(crate) shards: Vec<Slot<N, T>>,
+    pub(crate) waker: W,
 }
 
-impl<N: Name, T: KeyTable> Model for Table<N, T> {
+impl<N: Name, T: KeyTable, W: Waker> Model for Table<N, T, W> {
     ghost use Rattle.std.specs.Prelude.{◌≡◌, length};
     ghost use Rattle.lt_table.specs.declared.config.Config.{Config};
     ghost use Rattle.lt_table.specs.Configs.{IsOpened};
@@ -52,7 +54,7 @@ impl<N: Name, T: KeyTable> Model for Table<N, T> {
     ghost invariant = { λ t. IsOpened t.config N.of × (t.book ≡ N.of) × (length t.shards.items ≡ N.of.shards) };
 }
 
-impl<N: Name, T: KeyTable> Table<N, T> {
+impl<N: Name, T: KeyTable, W: Waker> Table<N, T, W> {
     /// The shard of a key, from 0: the sum of the key's bytes modulo the number of shards.
     pub fn shard_of(&self, key: &Key) -> usize
         ensures shard { result ≡ shard_of key.now N.of.shards }
@@ -74,6 +76,7 @@ impl<N: Name, T: KeyTable> Table<N, T> {
         requires number { NamesNumber call.now }
         ensures ok { IfOk result (λ a. Reported pass.old pass.new (record { key = key.now; call = call.now; answer = a })) }
         ensures err { OnErr result (pass.new ≡ pass.old) }
+        ensures never_full { N.of.keeping ≡ Keeping.Unrecorded → result ≢ Err StepError.HistoryFull }
     {
         let place = self.shard_of(key);
         let lock = &self.shards[place].lock;
@@ -81,7 +84,11 @@ impl<N: Name, T: KeyTable> Table<N, T> {
             let mut guard = lock.lock(rt);
             let inside = &mut *guard;
             if inside.index() == place {
-                return inside.step(rt, &self.book, pass, key, call);
+                let answered = inside.step(rt, &self.book, pass, key, call);
+                // Who is woken would else meet the lock.
+                drop(guard);
+                self.book.wake(pass, &self.waker);
+                return answered;
             }
         }
         unreachable!()

@@ -1,4 +1,4 @@
-ghost use Rattle.std.specs.Prelude.{◌≡◌, ◌≢◌, ◌+◌, ◌<◌, ◌≤◌, ◌^◌, ◌∷◌, ◌++◌, [], true, false, length, IfOk, IfErr, OnErr, Some, slice_get, nat_lt, vec_len, vec_capacity};
+ghost use Rattle.std.specs.Prelude.{◌≡◌, ◌≢◌, ◌+◌, ◌<◌, ◌≤◌, ◌^◌, ◌∷◌, ◌++◌, [], true, false, length, Err, IfOk, IfErr, OnErr, Some, slice_get, nat_lt, vec_len, vec_capacity};
 ghost use Rattle.std.specs.Option.{option_map};
 ghost use Rattle.lt_ids.specs.Ids.{IsNumber, IsWaitNumber};
 ghost use Rattle.lt_table.specs.Machine.{heard, scan_start, leave_start, may_visit, met, passed, scan_end, polled, visit_call, leave_answers};
@@ -107,6 +107,7 @@ impl Walk {
         ensures free { IfOk result (λ _. self.new.progress.mode ≡ Mode.Free) }
         ensures refused { IfErr result (λ e. scan_start (heard self.old.asked.number self.old.progress word) ≡ Err e) }
         ensures same { OnErr result (self.new ≡ self.old) }
+        ensures never_full { result ≢ Err ScanError.HistoryFull }
     {
         let progress = scan_start(heard(self.number, self.progress, word))?;
         self.progress = progress;
@@ -170,6 +171,7 @@ impl Walk {
     pub(crate) fn end_scan(&mut self) -> Result<Scan, ScanError>
         ensures result { result ≡ (scan_end (length self.old.asked.keys) self.old.progress).result }
         ensures after { self.new ≡ record self.old { progress = (scan_end (length self.old.asked.keys) self.old.progress).after } }
+        ensures never_full { result ≢ Err ScanError.HistoryFull }
     {
         let ended = scan_end(self.keys.len(), self.progress);
         self.progress = ended.after;

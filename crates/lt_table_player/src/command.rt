@@ -59,7 +59,11 @@ pub enum TableCall {
     UpdateIn,
     Finish,
     FinishIn,
+    Inspect,
+    InspectIn,
+    LockedKeys,
     Close,
+    CloseRest,
     /// No call: memory beside the calls, or a call that was made again and answered otherwise.
     Beside,
 }

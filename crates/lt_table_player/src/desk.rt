@@ -6,7 +6,7 @@ use crate::key::key_of;
 use crate::seat::Seat;
 use lt_ids::{Access, Key, Timestamp, TxnId};
 use lt_plain::{KeyTable, Reply};
-use lt_table::{Answer, Guard, StepError, Table};
+use lt_table::{Answer, EnterRefused, Guard, LeaveStopped, Left, StepError, Table};
 use lt_words::{Name, Pass};
 use std::alloc::Global;
 use std::sync::Wait;
@@ -111,7 +111,10 @@ fn enter<N: Name, T: KeyTable, R: Wait>(
 ) -> Option<(Seat<N>, Said)>
     requires { pass.of ≡ N.of }
 {
-    let txn = owner(entry.txn)?;
+    let Some(txn) = owner(entry.txn) else {
+        pass.abandon();
+        return None;
+    };
     let ts = Timestamp {
         wall: entry.wall,
         logical: 0,
@@ -121,10 +124,9 @@ fn enter<N: Name, T: KeyTable, R: Wait>(
             let number = guard.number();
             Some((Seat::open(guard), saying(Told::Entered(number))))
         }
-        Err(refused) => Some((
-            Seat::free(refused.pass),
-            saying(Told::NotEntered(refused.error)),
-        )),
+        Err(EnterRefused { pass, error }) => {
+            Some((Seat::free(pass), saying(Told::NotEntered(error))))
+        }
     }
 }
 
@@ -231,11 +233,16 @@ fn by_pass<N: Name, T: KeyTable, R: Wait>(
 ) -> Option<(Seat<N>, Said)>
     requires { pass.of ≡ N.of }
 {
-    match entry_of(alloc, command)? {
-        Some(entry) => enter(rt, alloc, table, pass, &entry),
+    match entry_of(alloc, command) {
+        Some(Some(entry)) => enter(rt, alloc, table, pass, &entry),
+        Some(None) => {
+            let said = lock_call(rt, alloc, table, &mut pass, command);
+            let seat = Seat::free(pass);
+            Some((seat, said?))
+        }
         None => {
-            let said = lock_call(rt, alloc, table, &mut pass, command)?;
-            Some((Seat::free(pass), said))
+            pass.abandon();
+            None
         }
     }
 }
@@ -366,15 +373,18 @@ fn leave<N: Name, T: KeyTable, R: Wait>(
 {
     let at = None;
     match table.leave(rt, guard) {
-        Ok(left) => {
-            let replies = replies_of(alloc, &left.answers)?;
+        Ok(Left { pass, answers }) => {
+            let seat = Seat::free(pass);
+            let replies = replies_of(alloc, &answers)?;
             let told = Told::Left;
-            Some((Seat::free(left.pass), Line { told, replies, at }))
+            Some((seat, Line { told, replies, at }))
         }
-        Err(stopped) => {
-            let replies = replies_of(alloc, stopped.guard.answers())?;
-            let told = Told::NotLeft(stopped.error);
-            Some((Seat::open(stopped.guard), Line { told, replies, at }))
+        Err(LeaveStopped { guard, error }) => {
+            let replies = replies_of(alloc, guard.answers());
+            let seat = Seat::open(guard);
+            let replies = replies?;
+            let told = Told::NotLeft(error);
+            Some((seat, Line { told, replies, at }))
         }
     }
 }
@@ -392,9 +402,12 @@ fn in_guard<N: Name, T: KeyTable, R: Wait>(
     if let Command::Leave = command {
         return leave(rt, alloc, table, guard);
     }
-    let Said { told, at } = by_guard(rt, alloc, table, &mut guard, command)?;
-    let replies = replies_of(alloc, guard.answers())?;
-    Some((Seat::open(guard), Line { told, replies, at }))
+    let said = by_guard(rt, alloc, table, &mut guard, command);
+    let replies = replies_of(alloc, guard.answers());
+    let seat = Seat::open(guard);
+    let Said { told, at } = said?;
+    let replies = replies?;
+    Some((seat, Line { told, replies, at }))
 }
 
 /// Plays a command on a seat. None where memory is refused beside the call.

@@ -2,8 +2,17 @@ use lt_table::Guard;
 use lt_words::Pass;
 
 /// A pass, alone or in a guard.
-#[derive(Drop)]
 pub enum Holds {
     Free(Pass),
     Open(Guard),
+}
+
+impl Holds {
+    /// Gives it up.
+    pub fn abandon(self) {
+        match self {
+            Holds::Free(pass) => pass.abandon(),
+            Holds::Open(guard) => guard.abandon(),
+        }
+    }
 }

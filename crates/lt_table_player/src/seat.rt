@@ -6,12 +6,18 @@ use lt_table::Guard;
 use lt_words::{Name, Pass};
 use std::marker::PhantomData;
 
-/// A pass, alone or in a guard, of the book that `N` names.
-#[derive(Drop)]
+/// A pass, alone or in a guard, of the book that `N` names. A seat may be let go: what it holds is then given up.
 pub struct Seat<N: Name> {
     pub holds: Holds,
     name: PhantomData<N>,
     pub ghost of: { of_holds holds ≡ N.of },
+}
+
+impl<N: Name> Drop for Seat<N> {
+    fn drop(self) {
+        let Seat { holds, name: _ } = self;
+        holds.abandon();
+    }
 }
 
 impl<N: Name> Seat<N> {
@@ -47,7 +53,7 @@ impl<N: Name> Seat<N> {
     pub fn into_holds(self) -> Holds
         ensures { of_holds result ≡ N.of }
     {
-        let Seat { holds, .. } = self;
+        let Seat { holds, name: _ } = self;
         holds
     }
 
@@ -57,7 +63,10 @@ impl<N: Name> Seat<N> {
     {
         match self.into_holds() {
             Holds::Free(pass) => Some(pass),
-            Holds::Open(_) => None,
+            Holds::Open(guard) => {
+                guard.abandon();
+                None
+            }
         }
     }
 
@@ -67,7 +76,10 @@ impl<N: Name> Seat<N> {
     {
         match self.into_holds() {
             Holds::Open(guard) => Some(guard),
-            Holds::Free(_) => None,
+            Holds::Free(pass) => {
+                pass.abandon();
+                None
+            }
         }
     }
 }

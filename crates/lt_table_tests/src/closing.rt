@@ -1,7 +1,7 @@
 //! A table is closed without its last pass, and then with all.
 ghost use Rattle.std.specs.Prelude.{◌≡◌};
 
-use lt_table::{CloseError, CloseRefused, Config, Histories, Ready, open, prepare};
+use lt_table::{CloseError, CloseRefused, Config, Histories, Ready, abandon_guards, open, prepare};
 use lt_table_player::run::{close_all, gather, seated};
 use lt_words::Name;
 use std::alloc::Global;
@@ -32,9 +32,10 @@ fn close_twice_named<N: Name, R: Wait>(rt: &R, alloc: Global, ready: Ready) -> O
     let CloseRefused {
         table,
         passes,
+        guards,
         error,
-        ..
     } = refused;
+    abandon_guards(guards);
     let back = passes.len();
     let mut seats = seated::<N>(alloc, passes)?;
     seats.push(last).ok()?;

@@ -72,7 +72,7 @@ pub fn plays<R: Abort + Wait>(
     config: Config,
     rows: &[Row],
 ) -> Result<Ran, Fail> {
-    let ran = run(rt, alloc, config, rows).ok().ok_or("the run")?;
+    let ran = run(rt, alloc, config, rows, &[]).ok().ok_or("the run")?;
     assert_eq!(rt; ran.lines.len(), rows.len());
     let mut number = 0u64;
     for (line, (_, _, told)) in ran.lines.iter().zip(rows) {

@@ -294,7 +294,7 @@ fn numbers_out_of_their_range_are_refused(rt: HostRuntime) -> Result<(), Fail> {
         max_requests: 1_099_511_627_775,
         max_waits: 16_777_215,
     };
-    for (config, error) in [
+    for (config, error) in &[
         (low, None),
         (high, None),
         (Config { shards: 0, ..low }, Some(PrepareError::Shards)),
@@ -358,7 +358,14 @@ fn numbers_out_of_their_range_are_refused(rt: HostRuntime) -> Result<(), Fail> {
             Some(PrepareError::Shards),
         ),
     ] {
-        assert_eq!(rt; prepare(rt.alloc(), config).err(), error);
+        let found = match prepare(rt.alloc(), *config) {
+            Ok(ready) => {
+                ready.abandon();
+                None
+            }
+            Err(found) => Some(found),
+        };
+        assert_eq!(rt; found, *error);
     }
     Ok(())
 }

@@ -5,11 +5,18 @@ use native.Mathlib.Decide.{ℕ_discrete}
 use Rattle.std.proofs.lemmas.List.{set-get_or}
 use Rattle.logbook.specs.Pages.{Cell, cell}
 use Rattle.lt_history.specs.declared.entry.Entry.{Entry}
+use Rattle.lt_ids.specs.Ids.{IsNumber, IsWaitNumber, value_of}
+use Rattle.lt_ids.specs.declared.ticket.Through.{Through}
 use Rattle.lt_words.specs.declared.event.Event.{Event}
 use Rattle.lt_words.specs.declared.event.Event.TheVariants.{Draw, Step}
-use Rattle.lt_words.specs.History.{part, draws_of, shard_of, MayFollow, IsStatus, ShowsLet}
-use Rattle.lt_words.specs.Rules.{IsKept}
-use Rattle.lt_words.proofs.Histories.{part-append, draws_of-append, let_more, legal_draw, legal_step}
+use Rattle.lt_words.specs.declared.event.Logged.{Logged}
+use Rattle.lt_words.specs.declared.event.Logged.TheVariants.{Happened, Shown}
+use Rattle.lt_words.specs.History.{part, draws_of, shard_of, IsLegalHistory, MayFollow, LetIn}
+use Rattle.lt_words.specs.Shown.{word_of, AreLet}
+use Rattle.lt_words.specs.Rules.{IsKept, IsOpenLog, history_of, shown_of, shards_in, passes_in}
+use Rattle.lt_words.proofs.Histories.{part-append, draws_of-append, legal_draw, legal_step}
+use Rattle.lt_words.proofs.Showing.{word_here, word_else, let_on, let_snoc}
+use Rattle.lt_words.proofs.Logs.{history_on, shown_of-append, passes_on, open_on}
 
 abbrev pub off : Cell
 off = (0, false)
@@ -24,37 +31,39 @@ by_place cs j k c P inside hit miss =
 home_after : (cs : List Cell) (k n : ℕ) → k < length cs → ((j : ℕ) → j < length cs → (cell cs j).1 ≡ true) → (j : ℕ) → j < length (set cs k (n, true)) → (cell (set cs k (n, true)) j).1 ≡ true
 home_after cs k n inside home j lt = by_place cs j k (n, true) (λ c. c.1 ≡ true) inside (λ e. refl) (λ ne. home j (omega (arith, length-set cs k (n, true))))
 
-shows_more : (h more : List Event) (p n : ℕ) → ShowsLet h p n → ShowsLet (h ++ more) p n
-shows_more h more p n l = record { ticket = l.ticket; number = l.number; wait = l.wait; value = l.value; through = let_more h more p l.ticket l.through }
-
--- a status word goes on to say what it says
-pub status_more : (h more : List Event) (p t : ℕ) → IsStatus h p t → IsStatus (h ++ more) p t
-status_more h more p t s = ⊎_elim (λ z. inl z) (λ l. inr (shows_more h more p t l)) s
-
 -- nothing changes
-pub kept_same : (cs : List Cell) (log : List Event) (k : ℕ) → IsKept cs log → k < length cs → IsKept (set cs k ((cell cs k).0, true)) (log ++ [])
+pub kept_same : (cs : List Cell) (log : List Logged) (k : ℕ) → IsKept cs log → k < length cs → IsKept (set cs k ((cell cs k).0, true)) (log ++ [])
 kept_same cs log k kept inside =
     let at : (cell cs k).1 ≡ true = kept.home k inside in
     let whole : ((cell cs k).0, true) ≡ cell cs k = λ i. ((cell cs k).0, sym at i) in
     let row : set cs k ((cell cs k).0, true) ≡ cs = ap (λ c. set cs k c) whole ∙ set-get_or cs k off in
-    subst (λ (t : List Cell × List Event). IsKept t.0 t.1) (λ i. (sym row i, sym (append-nil log) i)) kept
+    subst (λ (t : List Cell × List Logged). IsKept t.0 t.1) (λ i. (sym row i, sym (append-nil log) i)) kept
+
+-- a log with one more event
+happened : (log : List Logged) (e : Event) → IsOpenLog log → IsLegalHistory (shards_in log) (history_of log ++ e ∷ []) → IsOpenLog (log ++ Happened e ∷ [])
+happened log e is legal = open_on log (Happened e ∷ []) is legal
+    (subst (λ (ts : List Through). AreLet (history_of log ++ e ∷ []) ts) (sym (append-nil (shown_of log))) (let_on (history_of log) (e ∷ []) (shown_of log) is.let_through))
+
+-- it has shown what it had
+same_shown : (log : List Logged) (e : Event) → shown_of (log ++ Happened e ∷ []) ≡ shown_of log
+same_shown log e = shown_of-append log (Happened e ∷ []) ∙ append-nil (shown_of log)
 
 -- the number word counts one more draw
-pub kept_draw : (cs : List Cell) (log : List Event) (p : ℕ) (n : ℕ) → IsKept cs log → (cell cs 0).0 + 1 ≡ n → IsKept (set cs 0 (n, true)) (log ++ Draw p n ∷ [])
+pub kept_draw : (cs : List Cell) (log : List Logged) (p : ℕ) (n : ℕ) → IsKept cs log → (cell cs 0).0 + 1 ≡ n → IsKept (set cs 0 (n, true)) (log ++ Happened (Draw p n) ∷ [])
 kept_draw cs log p n kept e =
     let inside : 0 < length cs = omega (arith, kept.many) in
-    let h = kept.history in
-    let more = Draw p n ∷ [] in record {
-      shards = kept.shards;
-      passes = kept.passes;
-      history = h ++ more;
-      opened = ap (λ l. l ++ more) kept.opened;
-      many = length-set cs 0 (n, true) ∙ kept.many;
+    let h = history_of log in
+    let more = Draw p n ∷ [] in
+    let history : history_of (log ++ Happened (Draw p n) ∷ []) ≡ h ++ more = history_on log (Happened (Draw p n) ∷ []) kept.is_open in
+    let passes = passes_on log (Happened (Draw p n) ∷ []) kept.is_open in record {
+      is_open = happened log (Draw p n) kept.is_open (legal_draw (shards_in log) h p n kept.is_open.legal (omega (arith, kept.number)));
+      many = length-set cs 0 (n, true) ∙ (kept.many ∙ ap (λ k. k + 65) (sym passes));
       home = home_after cs 0 n inside kept.home;
-      number = by_place cs 0 0 (n, true) (λ c. c.0 ≡ draws_of (h ++ more)) inside (λ _. omega (arith, draws_of-append h more, kept.number)) (λ ne. absurd (ne refl));
-      steps = λ s lt. by_place cs (s + 1) 0 (n, true) (λ c. c.0 ≡ length (part s (h ++ more))) inside (λ z. absurd (omega arith)) (λ _. kept.steps s lt ∙ sym (ap length (part-append s h more ∙ append-nil (part s h))));
-      status = λ q low high. by_place cs (q + 64) 0 (n, true) (λ c. IsStatus (h ++ more) q c.0) inside (λ z. absurd (omega arith)) (λ _. status_more h more q (cell cs (q + 64)).0 (kept.status q low high));
-      legal = legal_draw kept.shards h p n kept.legal (omega (arith, kept.number));
+      number = by_place cs 0 0 (n, true) (λ c. c.0 ≡ draws_of (history_of (log ++ Happened (Draw p n) ∷ []))) inside (λ _. omega (arith, ap draws_of history, draws_of-append h more, kept.number)) (λ ne. absurd (ne refl));
+      steps = λ s lt. by_place cs (s + 1) 0 (n, true) (λ c. c.0 ≡ length (part s (history_of (log ++ Happened (Draw p n) ∷ [])))) inside (λ z. absurd (omega arith))
+          (λ _. kept.steps s lt ∙ sym (ap length (ap (part s) history ∙ (part-append s h more ∙ append-nil (part s h)))));
+      status = λ q low high. by_place cs (q + 64) 0 (n, true) (λ c. c.0 ≡ word_of q (shown_of (log ++ Happened (Draw p n) ∷ []))) inside (λ z. absurd (omega arith))
+          (λ _. kept.status q low (omega (arith, high, passes)) ∙ ap (word_of q) (sym (same_shown log (Draw p n))));
     }
 
 part_one : (s : ℕ) (e : Entry) → part s (Step s e ∷ []) ≡ e ∷ []
@@ -70,42 +79,47 @@ pub part_else : (s t : ℕ) (h : List Event) (e : Entry) → s ≢ t → part s 
 part_else s t h e ne = part-append s h (Step t e ∷ []) ∙ (ap (λ l. part s h ++ l) (part_none s t e ne) ∙ append-nil (part s h))
 
 -- a step word counts one more step of its shard
-pub kept_step : (cs : List Cell) (log : List Event) (t : ℕ) (e : Entry) (n : ℕ) → (kept : IsKept cs log) → t < 64 → (cell cs (t + 1)).0 + 1 ≡ n → t ≡ shard_of e.key kept.shards → MayFollow (part t kept.history) e
-    → IsKept (set cs (t + 1) (n, true)) (log ++ Step t e ∷ [])
+pub kept_step : (cs : List Cell) (log : List Logged) (t : ℕ) (e : Entry) (n : ℕ) → IsKept cs log → t < 64 → (cell cs (t + 1)).0 + 1 ≡ n → t ≡ shard_of e.key (shards_in log) → MayFollow (part t (history_of log)) e
+    → IsKept (set cs (t + 1) (n, true)) (log ++ Happened (Step t e) ∷ [])
 kept_step cs log t e n kept small is at may =
     let inside : t + 1 < length cs = omega (arith, kept.many) in
-    let h = kept.history in
-    let more = Step t e ∷ [] in record {
-      shards = kept.shards;
-      passes = kept.passes;
-      history = h ++ more;
-      opened = ap (λ l. l ++ more) kept.opened;
-      many = length-set cs (t + 1) (n, true) ∙ kept.many;
+    let h = history_of log in
+    let more = Step t e ∷ [] in
+    let new = log ++ Happened (Step t e) ∷ [] in
+    let history : history_of new ≡ h ++ more = history_on log (Happened (Step t e) ∷ []) kept.is_open in
+    let passes = passes_on log (Happened (Step t e) ∷ []) kept.is_open in record {
+      is_open = happened log (Step t e) kept.is_open (legal_step (shards_in log) h t e kept.is_open.legal at may);
+      many = length-set cs (t + 1) (n, true) ∙ (kept.many ∙ ap (λ k. k + 65) (sym passes));
       home = home_after cs (t + 1) n inside kept.home;
-      number = by_place cs 0 (t + 1) (n, true) (λ c. c.0 ≡ draws_of (h ++ more)) inside (λ z. absurd (omega arith)) (λ _. omega (arith, draws_of-append h more, kept.number));
-      steps = λ s lt. by_place cs (s + 1) (t + 1) (n, true) (λ c. c.0 ≡ length (part s (h ++ more))) inside
+      number = by_place cs 0 (t + 1) (n, true) (λ c. c.0 ≡ draws_of (history_of new)) inside (λ z. absurd (omega arith)) (λ _. omega (arith, ap draws_of history, draws_of-append h more, kept.number));
+      steps = λ s lt. by_place cs (s + 1) (t + 1) (n, true) (λ c. c.0 ≡ length (part s (history_of new))) inside
           (λ z. let same : s ≡ t = omega arith in
-          subst (λ (r : ℕ). n ≡ length (part r (h ++ more))) (sym same) (omega (arith, kept.steps t small, ap length (part_snoc t h e), length-append (part t h) (e ∷ []))))
-          (λ ne. kept.steps s lt ∙ sym (ap length (part_else s t h e (λ z. ne (ap (λ r. r + 1) z)))));
-      status = λ q low high. by_place cs (q + 64) (t + 1) (n, true) (λ c. IsStatus (h ++ more) q c.0) inside (λ z. absurd (omega arith)) (λ _. status_more h more q (cell cs (q + 64)).0 (kept.status q low high));
-      legal = legal_step kept.shards h t e kept.legal at may;
+          subst (λ (r : ℕ). n ≡ length (part r (history_of new))) (sym same) (omega (arith, kept.steps t small, ap (λ l. length (part t l)) history, ap length (part_snoc t h e), length-append (part t h) (e ∷ []))))
+          (λ ne. kept.steps s lt ∙ sym (ap length (ap (part s) history ∙ part_else s t h e (λ z. ne (ap (λ r. r + 1) z)))));
+      status = λ q low high. by_place cs (q + 64) (t + 1) (n, true) (λ c. c.0 ≡ word_of q (shown_of new)) inside (λ z. absurd (omega arith))
+          (λ _. kept.status q low (omega (arith, high, passes)) ∙ ap (word_of q) (sym (same_shown log (Step t e))));
     }
 
--- a status word shows a let
-pub kept_status : (cs : List Cell) (log : List Event) (p n : ℕ) → (kept : IsKept cs log) → 0 < p → p ≤ kept.passes → IsStatus kept.history p n → IsKept (set cs (p + 64) (n, true)) (log ++ [])
-kept_status cs log p n kept low high is =
+-- a status word shows a let, which is above all that it has shown
+pub kept_shown : (cs : List Cell) (log : List Logged) (t : Through) (n : ℕ) → IsKept cs log → 0 < t.pass → t.pass ≤ passes_in log → (cell cs (t.pass + 64)).0 < n → n ≡ value_of t.ticket → IsNumber t.ticket.number → IsWaitNumber t.ticket.wait → LetIn (history_of log) t.pass t.ticket
+    → IsKept (set cs (t.pass + 64) (n, true)) (log ++ Shown t ∷ [])
+kept_shown cs log t n kept low high below value number wait through =
+    let p = t.pass in
     let inside : p + 64 < length cs = omega (arith, kept.many) in
-    let h = kept.history in
-    subst (IsKept (set cs (p + 64) (n, true))) (sym (append-nil log)) (record {
-      shards = kept.shards;
-      passes = kept.passes;
-      history = h;
-      opened = kept.opened;
-      many = length-set cs (p + 64) (n, true) ∙ kept.many;
+    let h = history_of log in
+    let new = log ++ Shown t ∷ [] in
+    let history : history_of new ≡ h = history_on log (Shown t ∷ []) kept.is_open ∙ append-nil h in
+    let shown : shown_of new ≡ shown_of log ++ t ∷ [] = shown_of-append log (Shown t ∷ []) in
+    let passes = passes_on log (Shown t ∷ []) kept.is_open in record {
+      is_open = open_on log (Shown t ∷ []) kept.is_open (subst (IsLegalHistory (shards_in log)) (sym (append-nil h)) kept.is_open.legal)
+          (subst (λ (l : List Event). AreLet l (shown_of log ++ t ∷ [])) (sym (append-nil h)) (let_snoc h (shown_of log) t kept.is_open.let_through number wait through));
+      many = length-set cs (p + 64) (n, true) ∙ (kept.many ∙ ap (λ k. k + 65) (sym passes));
       home = home_after cs (p + 64) n inside kept.home;
-      number = by_place cs 0 (p + 64) (n, true) (λ c. c.0 ≡ draws_of h) inside (λ z. absurd (omega arith)) (λ _. kept.number);
-      steps = λ s lt. by_place cs (s + 1) (p + 64) (n, true) (λ c. c.0 ≡ length (part s h)) inside (λ z. absurd (omega arith)) (λ _. kept.steps s lt);
-      status = λ q q-low q-high. by_place cs (q + 64) (p + 64) (n, true) (λ c. IsStatus h q c.0) inside
-          (λ z. let same : q ≡ p = omega arith in subst (λ (r : ℕ). IsStatus h r n) (sym same) is) (λ _. kept.status q q-low q-high);
-      legal = kept.legal;
-    })
+      number = by_place cs 0 (p + 64) (n, true) (λ c. c.0 ≡ draws_of (history_of new)) inside (λ z. absurd (omega arith)) (λ _. kept.number ∙ ap draws_of (sym history));
+      steps = λ s lt. by_place cs (s + 1) (p + 64) (n, true) (λ c. c.0 ≡ length (part s (history_of new))) inside (λ z. absurd (omega arith)) (λ _. kept.steps s lt ∙ ap (λ l. length (part s l)) (sym history));
+      status = λ q q-low q-high. by_place cs (q + 64) (p + 64) (n, true) (λ c. c.0 ≡ word_of q (shown_of new)) inside
+          (λ z. let same : q ≡ p = omega arith in
+          let above : word_of q (shown_of log) < value_of t.ticket = omega (arith, below, value, ap (λ (r : ℕ). (cell cs (r + 64)).0) same, kept.status q q-low (omega (arith, q-high, passes))) in
+          value ∙ (sym (word_here q (shown_of log) t same above) ∙ ap (word_of q) (sym shown)))
+          (λ ne. kept.status q q-low (omega (arith, q-high, passes)) ∙ (sym (word_else q (shown_of log) t (λ z. ne (ap (λ r. r + 64) z))) ∙ ap (word_of q) (sym shown)));
+    }

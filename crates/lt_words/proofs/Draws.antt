@@ -11,7 +11,7 @@ use Rattle.lt_words.proofs.Histories.{draws_of-append}
 
 next_after : (n : ℕ) (past rest : List Event) (pass number : ℕ) → DrawsCount n (past ++ Draw pass number ∷ rest) → number ≡ n + draws_of past + 1
 next_after n [] rest pass number c = omega (arith, c.0)
-next_after n (Opened a b ∷ past) rest pass number c = absurd c
+next_after n (Opened a b way ∷ past) rest pass number c = absurd c
 next_after n (Draw p k ∷ past) rest pass number c = omega (arith, next_after (n + 1) past rest pass number c.1)
 next_after n (Step s e ∷ past) rest pass number c = next_after n past rest pass number c
 
@@ -20,7 +20,7 @@ draws_give_the_next shards past rest pass number legal = omega (arith, next_afte
 
 range : (n : ℕ) (h : List Event) (pass number : ℕ) → DrawsCount n h → DrewIn h pass number → (n < number) × (number ≤ n + draws_of h)
 range n [] pass number c d = absurd d
-range n (Opened a b ∷ h) pass number c d = absurd c
+range n (Opened a b way ∷ h) pass number c d = absurd c
 range n (Draw p k ∷ h) pass number c d = ⊎_elim
     (λ here. (omega (arith, here.1, c.0), omega (arith, here.1, c.0)))
     (λ there. let r = range (n + 1) h pass number c.1 there in (omega (arith, r.0), omega (arith, r.1)))
@@ -34,7 +34,7 @@ numbers_are_of_draws shards h pass number legal d = let r = range 0 h pass numbe
 
 rise : (n : ℕ) (past between rest : List Event) (p m q k : ℕ) → DrawsCount n (past ++ Draw p m ∷ (between ++ Draw q k ∷ rest)) → m < k
 rise n [] between rest p m q k c = omega (arith, c.0, next_after (n + 1) between rest q k c.1)
-rise n (Opened a b ∷ past) between rest p m q k c = absurd c
+rise n (Opened a b way ∷ past) between rest p m q k c = absurd c
 rise n (Draw r j ∷ past) between rest p m q k c = rise (n + 1) past between rest p m q k c.1
 rise n (Step s e ∷ past) between rest p m q k c = rise n past between rest p m q k c
 
@@ -44,10 +44,10 @@ numbers_rise shards past between rest p m q n legal = rise 0 past between rest p
 -- after as many draws stands one draw alone
 same_draw : (past past2 rest rest2 : List Event) (p q m n : ℕ) → past ++ Draw p m ∷ rest ≡ past2 ++ Draw q n ∷ rest2 → draws_of past ≡ draws_of past2 → (p ≡ q) × (past ≡ past2)
 same_draw [] [] rest rest2 p q m n e many = (cc (e), refl)
-same_draw [] (Opened a b ∷ xs) rest rest2 p q m n e many = absurd (cc (e))
+same_draw [] (Opened a b way ∷ xs) rest rest2 p q m n e many = absurd (cc (e))
 same_draw [] (Draw r j ∷ xs) rest rest2 p q m n e many = absurd (omega (arith, many))
 same_draw [] (Step s f ∷ xs) rest rest2 p q m n e many = absurd (cc (e))
-same_draw (Opened a b ∷ xs) [] rest rest2 p q m n e many = absurd (cc (e))
+same_draw (Opened a b way ∷ xs) [] rest rest2 p q m n e many = absurd (cc (e))
 same_draw (Draw r j ∷ xs) [] rest rest2 p q m n e many = absurd (omega (arith, many))
 same_draw (Step s f ∷ xs) [] rest rest2 p q m n e many = absurd (cc (e))
 same_draw (x ∷ xs) (y ∷ ys) rest rest2 p q m n e many =
@@ -64,7 +64,7 @@ numbers_are_drawn_once shards h past past2 rest rest2 p q number legal first sec
 
 one_pass : (n : ℕ) (h : List Event) (p q number : ℕ) → DrawsCount n h → DrewIn h p number → DrewIn h q number → p ≡ q
 one_pass n [] p q number c d f = absurd d
-one_pass n (Opened a b ∷ h) p q number c d f = absurd c
+one_pass n (Opened a b way ∷ h) p q number c d f = absurd c
 one_pass n (Draw r k ∷ h) p q number c d f = ⊎_elim
     (λ here. ⊎_elim
     (λ again. sym here.0 ∙ again.0)
@@ -84,7 +84,7 @@ numbers_are_of_one_pass shards h p q number legal d f = one_pass 0 h p q number 
 
 drew_more : (g more : List Event) (p n : ℕ) → DrewIn g p n → DrewIn (g ++ more) p n
 drew_more [] more p n d = absurd d
-drew_more (Opened a b ∷ g) more p n d = drew_more g more p n d
+drew_more (Opened a b way ∷ g) more p n d = drew_more g more p n d
 drew_more (Draw q k ∷ g) more p n d = ⊎_elim (λ here. inl here) (λ there. inr (drew_more g more p n there)) d
 drew_more (Step s e ∷ g) more p n d = drew_more g more p n d
 
@@ -94,7 +94,7 @@ draws_stay g h p n pre d = subst (λ (l : List Event). DrewIn l p n) pre.1 (drew
 -- a draw that ends a history stands in it
 drew_last : (g : List Event) (p n : ℕ) → DrewIn (g ++ Draw p n ∷ []) p n
 drew_last [] p n = inl (refl, refl)
-drew_last (Opened a b ∷ g) p n = drew_last g p n
+drew_last (Opened a b way ∷ g) p n = drew_last g p n
 drew_last (Draw q k ∷ g) p n = inr (drew_last g p n)
 drew_last (Step s e ∷ g) p n = drew_last g p n
 

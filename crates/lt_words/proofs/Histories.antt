@@ -17,7 +17,7 @@ use Rattle.lt_words.proofs.Prefixes.{prefix_whole}
 
 pub steps_of-append : (xs ys : List Event) → steps_of (xs ++ ys) ≡ steps_of xs ++ steps_of ys
 steps_of-append [] ys = refl
-steps_of-append (Opened a b ∷ xs) ys = steps_of-append xs ys
+steps_of-append (Opened a b way ∷ xs) ys = steps_of-append xs ys
 steps_of-append (Draw p n ∷ xs) ys = steps_of-append xs ys
 steps_of-append (Step s e ∷ xs) ys = ap (λ l. e ∷ l) (steps_of-append xs ys)
 
@@ -27,44 +27,44 @@ cond_append false e w xs ys h = h
 
 pub part-append : (s : ℕ) (xs ys : List Event) → part s (xs ++ ys) ≡ part s xs ++ part s ys
 part-append s [] ys = refl
-part-append s (Opened a b ∷ xs) ys = part-append s xs ys
+part-append s (Opened a b way ∷ xs) ys = part-append s xs ys
 part-append s (Draw p n ∷ xs) ys = part-append s xs ys
 part-append s (Step t e ∷ xs) ys = cond_append (s == t) e (part s (xs ++ ys)) (part s xs) (part s ys) (part-append s xs ys)
 
 pub draws_of-append : (xs ys : List Event) → draws_of (xs ++ ys) ≡ draws_of xs + draws_of ys
 draws_of-append [] ys = omega arith
-draws_of-append (Opened a b ∷ xs) ys = draws_of-append xs ys
+draws_of-append (Opened a b way ∷ xs) ys = draws_of-append xs ys
 draws_of-append (Draw p n ∷ xs) ys = omega (arith, draws_of-append xs ys)
 draws_of-append (Step s e ∷ xs) ys = draws_of-append xs ys
 
 pub let_more : (xs ys : List Event) (p : ℕ) (t : Wait) → LetIn xs p t → LetIn (xs ++ ys) p t
 let_more [] ys p t h = absurd h
-let_more (Opened a b ∷ xs) ys p t h = let_more xs ys p t h
+let_more (Opened a b way ∷ xs) ys p t h = let_more xs ys p t h
 let_more (Draw q n ∷ xs) ys p t h = let_more xs ys p t h
 let_more (Step s e ∷ xs) ys p t h = ⊎_elim (λ a. inl a) (λ l. inr (let_more xs ys p t l)) h
 
 -- a step lets its own through
 pub let_last : (xs : List Event) (s : ℕ) (e : Entry) (p : ℕ) (t : Wait) → Among e.lets p t → LetIn (xs ++ Step s e ∷ []) p t
 let_last [] s e p t h = inl h
-let_last (Opened a b ∷ xs) s e p t h = let_last xs s e p t h
+let_last (Opened a b way ∷ xs) s e p t h = let_last xs s e p t h
 let_last (Draw q n ∷ xs) s e p t h = let_last xs s e p t h
 let_last (Step r f ∷ xs) s e p t h = inr (let_last xs s e p t h)
 
 draws_then_draw : (n : ℕ) (h : List Event) (p k : ℕ) → DrawsCount n h → k ≡ n + draws_of h + 1 → DrawsCount n (h ++ Draw p k ∷ [])
 draws_then_draw n [] p k c e = (omega arith, tt)
-draws_then_draw n (Opened a b ∷ h) p k c e = absurd c
+draws_then_draw n (Opened a b way ∷ h) p k c e = absurd c
 draws_then_draw n (Draw q m ∷ h) p k c e = (c.0, draws_then_draw (n + 1) h p k c.1 (omega arith))
 draws_then_draw n (Step s f ∷ h) p k c e = draws_then_draw n h p k c e
 
 draws_then_step : (n : ℕ) (h : List Event) (s : ℕ) (e : Entry) → DrawsCount n h → DrawsCount n (h ++ Step s e ∷ [])
 draws_then_step n [] s e c = tt
-draws_then_step n (Opened a b ∷ h) s e c = absurd c
+draws_then_step n (Opened a b way ∷ h) s e c = absurd c
 draws_then_step n (Draw q m ∷ h) s e c = (c.0, draws_then_step (n + 1) h s e c.1)
 draws_then_step n (Step r f ∷ h) s e c = draws_then_step n h s e c
 
 home_more : (shards : ℕ) (xs ys : List Event) → StepsAtHome shards xs → StepsAtHome shards ys → StepsAtHome shards (xs ++ ys)
 home_more shards [] ys h k = k
-home_more shards (Opened a b ∷ xs) ys h k = absurd h
+home_more shards (Opened a b way ∷ xs) ys h k = absurd h
 home_more shards (Draw p n ∷ xs) ys h k = home_more shards xs ys h k
 home_more shards (Step s e ∷ xs) ys h k = (h.0, home_more shards xs ys h.1 k)
 
@@ -87,7 +87,7 @@ beside shards s t k e p w false is at home h =
 -- a key's steps all stand in the part of its shard
 pub key_in_part : (shards s : ℕ) (k : List ℕ) (h : List Event) → s ≡ shard_of k shards → StepsAtHome shards h → key_part k (part s h) ≡ key_part k (steps_of h)
 key_in_part shards s k [] at home = refl
-key_in_part shards s k (Opened a b ∷ h) at home = absurd home
+key_in_part shards s k (Opened a b way ∷ h) at home = absurd home
 key_in_part shards s k (Draw p n ∷ h) at home = key_in_part shards s k h at home
 key_in_part shards s k (Step t e ∷ h) at home = beside shards s t k e (part s h) (steps_of h) (bytes_eq e.key k) refl at home.0 (key_in_part shards s k h at home.1)
 

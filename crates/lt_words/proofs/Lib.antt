@@ -1,5 +1,7 @@
 pub mod Prefixes
 pub mod Histories
+pub mod Showing
+pub mod Logs
 pub mod Cells
 pub mod Moving
 pub mod Passes

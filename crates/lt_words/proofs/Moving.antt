@@ -1,62 +1,60 @@
 -- Steps on one word keep the rule, and tell what they tell.
-use Rattle.std.proofs.Common.{◌≡◌, ◌≢◌, ℕ, ◌+◌, ◌<◌, ◌≤◌, ◌==◌, Bool, true, false, List, [], ◌∷◌, ◌++◌, length, set, refl, ap, sym, subst, ◌∙◌, inl, inr, arith, append-nil, eq-eqb, ne_eqb, Option, None, MatchBool}
+use Rattle.std.proofs.Common.{◌≡◌, ◌≢◌, ℕ, ◌+◌, ◌-◌, ◌<◌, ◌≤◌, ◌==◌, Bool, true, false, List, [], ◌∷◌, ◌++◌, length, set, refl, ap, sym, subst, ◌∙◌, inl, arith, append-nil, eq-eqb, ne_eqb, Option, None, MatchBool}
 use mathlib.Core.List.{IsPrefix}
 use prog.Atomic.{either}
 use Rattle.logbook.specs.Pages.{Cell, cell, Act, keeps, cells_after, nib_after, Valid, Runs, View, no_nib, step, Moves}
 use Rattle.logbook.proofs.Lists.{exchanged}
 use Rattle.lt_history.specs.declared.entry.Entry.{Entry}
 use Rattle.lt_words.specs.declared.event.Event.{Event}
-use Rattle.lt_words.specs.declared.event.Event.TheVariants.{Opened, Draw, Step}
-use Rattle.lt_ids.specs.Ids.{Wait, value_of, IsNumber, IsWaitNumber}
-use Rattle.lt_words.specs.History.{part, draws_of, shard_of, IsLegalHistory, MayFollow, LetIn}
-use Rattle.lt_words.specs.Rules.{history_of, IsLog, IsKept, IsGood, AddsDraw, AddsStep, Sees}
-use Rattle.lt_words.specs.Row.{GoesTo}
-use Rattle.lt_words.proofs.Prefixes.{prefix_trans, prefix_head, prefix_tail}
-use Rattle.lt_words.proofs.Histories.{part_same, let_more}
-use Rattle.lt_words.proofs.Cells.{kept_same, kept_draw, kept_step, kept_status}
+use Rattle.lt_words.specs.declared.event.Event.TheVariants.{Draw, Step}
+use Rattle.lt_words.specs.declared.event.Logged.{Logged}
+use Rattle.lt_words.specs.declared.event.Logged.TheVariants.{Happened, Shown}
+use Rattle.lt_ids.specs.Ids.{value_of, IsNumber, IsWaitNumber}
+use Rattle.lt_ids.specs.declared.ticket.Through.{Through}
+use Rattle.lt_words.specs.History.{part, shard_of, MayFollow, LetIn, IsStatus}
+use Rattle.lt_words.specs.Shown.{word_of, IsShown}
+use Rattle.lt_words.specs.Rules.{history_of, shown_of, shards_in, passes_in, IsOpenLog, IsKept, Counts, Reads, AddsDraw, AddsStep, Meets, Shows}
+use Rattle.lt_words.proofs.Prefixes.{prefix_trans}
+use Rattle.lt_words.proofs.Histories.{part_same, let_later}
+use Rattle.lt_words.proofs.Showing.{word_here, status_is}
+use Rattle.lt_words.proofs.Logs.{history_prefix, history_on, shown_of-append, same_shards, same_passes}
+use Rattle.lt_words.proofs.Cells.{kept_same, kept_draw, kept_step, kept_shown}
 
-abbrev pub shown : List Event → List Event
-shown log = []
+-- what clients see of the log
+abbrev pub bare : List Logged → List Logged
+bare log = []
 
-abbrev pub moved : List Event → List Event → ℕ → Type 0
+abbrev pub moved : List Logged → List Logged → ℕ → Type 0
 moved xs ys n = Unit {0}
 
 -- a view with no pen and no answer
-abbrev pub at_rest : List Event → View Event ℕ
+abbrev pub at_rest : List Logged → View Logged ℕ
 at_rest v = (v, (no_nib, None))
 
 -- an exchange: the word was as expected, and something was added; or nothing changed
-pub exchanges : (k : ℕ) (v : List Event) (old new : ℕ) (T : ℕ → View Event ℕ → Type 0)
-    → ((cs : List Cell) (log : List Event) → IsKept cs log → IsPrefix v log → k < length cs)
-    → ((cs : List Cell) (log : List Event) → IsKept cs log → IsPrefix v log → (cell cs k).0 ≡ old → (more : List Event) × IsKept (set cs k (new, true)) (log ++ more) × T old (at_rest (log ++ more)))
-    → ((cs : List Cell) (log : List Event) → IsKept cs log → IsPrefix v log → (cell cs k).0 ≢ old → T (cell cs k).0 (at_rest log))
-    → Moves IsKept shown moved k (at_rest v) (λ n. either (n == old) new n) T
+pub exchanges : (k : ℕ) (v : List Logged) (old new : ℕ) (T : ℕ → View Logged ℕ → Type 0)
+    → ((cs : List Cell) (log : List Logged) → IsKept cs log → IsPrefix v log → k < length cs)
+    → ((cs : List Cell) (log : List Logged) → IsKept cs log → IsPrefix v log → (cell cs k).0 ≡ old → (more : List Logged) × IsKept (set cs k (new, true)) (log ++ more) × T old (at_rest (log ++ more)))
+    → ((cs : List Cell) (log : List Logged) → IsKept cs log → IsPrefix v log → (cell cs k).0 ≢ old → T (cell cs k).0 (at_rest log))
+    → Moves IsKept bare moved k (at_rest v) (λ n. either (n == old) new n) T
 exchanges k v old new T inside hit miss cs log kept pre away =
     let here = inside cs log kept pre in
     let found = (cell cs k).0 in
-    let F : ℕ → Type 0 = λ m. (a : Act) × (more : List Event) × (t : Option ℕ) × Valid a no_nib × IsKept (cells_after a no_nib (set cs k (m, true))) (log ++ more) × Runs moved None t (shown log) (shown (log ++ more)) × T found (log ++ more, (nib_after a no_nib cs, t)) in
+    let F : ℕ → Type 0 = λ m. (a : Act) × (more : List Logged) × (t : Option ℕ) × Valid a no_nib × IsKept (cells_after a no_nib (set cs k (m, true))) (log ++ more) × Runs moved None t (bare log) (bare (log ++ more)) × T found (log ++ more, (nib_after a no_nib cs, t)) in
     let went : F (either (found == old) new found) =
     exchanged found old new F
     (λ e. let h = hit cs log kept pre e in (keeps, h.0, None, tt, h.1, inl (refl, refl), subst (λ (n : ℕ). T n (at_rest (log ++ h.0))) (sym e) h.2))
-    (λ ne. (keeps, [], None, tt, kept_same cs log k kept here, inl (refl, refl), subst (λ (l : List Event). T found (at_rest l)) (sym (append-nil log)) (miss cs log kept pre ne))) in
+    (λ ne. (keeps, [], None, tt, kept_same cs log k kept here, inl (refl, refl), subst (λ (l : List Logged). T found (at_rest l)) (sym (append-nil log)) (miss cs log kept pre ne))) in
     (here, kept.home k here, went)
 
--- what the rule says of a log
-
-pub good : (cs : List Cell) (log : List Event) → IsKept cs log → IsGood log
-good cs log kept =
-    let rest : history_of log ≡ kept.history = ap history_of kept.opened in (
-      kept.shards,
-      kept.passes,
-      record { opened = kept.opened ∙ ap (λ h. Opened kept.shards kept.passes ∷ h) (sym rest); legal = subst (IsLegalHistory kept.shards) (sym rest) kept.legal },
-    )
-
--- the log goes on from one with these numbers
-pub same_sizes : (shards passes : ℕ) (v : List Event) (s p : ℕ) (h log : List Event) → IsLog shards passes v → log ≡ Opened s p ∷ h → IsPrefix v log → (s ≡ shards) × (p ≡ passes) × IsPrefix (history_of v) h
-same_sizes shards passes v s p h log is opened pre =
-    let both : IsPrefix (Opened shards passes ∷ history_of v) (Opened s p ∷ h) = subst (λ (t : List Event × List Event). IsPrefix t.0 t.1) (λ i. (is.opened i, opened i)) pre in
-    let heads : Opened shards passes ≡ Opened s p = prefix_head _ _ _ _ both in
-    (cc, cc, prefix_tail _ _ _ _ both)
+-- a load: nothing changes
+pub loads : (k : ℕ) (v : List Logged) (T : ℕ → View Logged ℕ → Type 0)
+    → ((cs : List Cell) (log : List Logged) → IsKept cs log → IsPrefix v log → k < length cs)
+    → ((cs : List Cell) (log : List Logged) → IsKept cs log → IsPrefix v log → T (cell cs k).0 (at_rest log))
+    → Moves IsKept bare moved k (at_rest v) (λ n. n) T
+loads k v T inside tells cs log kept pre away =
+    let here = inside cs log kept pre in
+    (here, kept.home k here, (keeps, [], None, tt, kept_same cs log k kept here, inl (refl, refl), subst (λ (l : List Logged). T (cell cs k).0 (at_rest l)) (sym (append-nil log)) (tells cs log kept pre)))
 
 match_true : (b : Bool) (P Q : Type 0) → b ≡ true → P → MatchBool b P Q
 match_true b P Q e p = subst (λ (c : Bool). MatchBool c P Q) (sym e) p
@@ -64,77 +62,80 @@ match_true b P Q e p = subst (λ (c : Bool). MatchBool c P Q) (sym e) p
 match_false : (b : Bool) (P Q : Type 0) → b ≡ false → Q → MatchBool b P Q
 match_false b P Q e q = subst (λ (c : Bool). MatchBool c P Q) (sym e) q
 
+-- the number word is read
+pub count_moves : (v : List Logged) (ask : Logged) → Moves IsKept bare moved 0 (at_rest v) (λ n. n) (Counts (step 0 0 0 ask) (at_rest v))
+count_moves v ask = loads 0 v (Counts (step 0 0 0 ask) (at_rest v))
+    (λ cs log kept pre. omega (arith, kept.many))
+    (λ cs log kept pre. (kept.is_open, kept.number))
+
+-- a status word is read
+pub read_moves : (v : List Logged) (pass : ℕ) (ask : Logged) → IsOpenLog v → 0 < pass → pass ≤ passes_in v → Moves IsKept bare moved (pass + 64) (at_rest v) (λ n. n) (Reads (step (pass + 64) 0 0 ask) (at_rest v))
+read_moves v pass ask is low high = loads (pass + 64) v (Reads (step (pass + 64) 0 0 ask) (at_rest v))
+    (λ cs log kept pre. omega (arith, kept.many, same_passes v log is pre))
+    (λ cs log kept pre.
+    let back : (pass + 64) - 64 ≡ pass = omega arith in
+    let word : (cell cs (pass + 64)).0 ≡ word_of pass (shown_of log) = kept.status pass low (omega (arith, high, same_passes v log is pre)) in
+    let status : IsStatus (history_of log) pass (cell cs (pass + 64)).0 = subst (IsStatus (history_of log) pass) (sym word) (status_is (history_of log) pass (shown_of log) kept.is_open.let_through) in
+    (kept.is_open, word ∙ ap (λ p. word_of p (shown_of log)) (sym back), subst (λ (p : ℕ). IsStatus (history_of log) p (cell cs (pass + 64)).0) (sym back) status))
+
 -- the number word goes from old to old + 1
-pub draw_moves : (v : List Event) (pass old new : ℕ) → new ≡ old + 1
-    → Moves IsKept shown moved 0 (at_rest v) (λ n. either (n == old) new n) (AddsDraw (step 0 old new (Draw pass new)) (at_rest v))
-draw_moves v pass old new is =
-    let T : ℕ → View Event ℕ → Type 0 = AddsDraw (step 0 old new (Draw pass new)) (at_rest v) in
+pub draw_moves : (v : List Logged) (pass old new : ℕ) → IsOpenLog v → new ≡ old + 1
+    → Moves IsKept bare moved 0 (at_rest v) (λ n. either (n == old) new n) (AddsDraw (step 0 old new (Happened (Draw pass new))) (at_rest v))
+draw_moves v pass old new begun is =
+    let T : ℕ → View Logged ℕ → Type 0 = AddsDraw (step 0 old new (Happened (Draw pass new))) (at_rest v) in
     exchanges 0 v old new T
     (λ cs log kept pre. omega (arith, kept.many))
     (λ cs log kept pre e.
     let next = kept_draw cs log pass new kept (omega (arith, e, is)) in (
-      Draw pass new ∷ [],
+      Happened (Draw pass new) ∷ [],
       next,
-      (good _ _ next, match_true (old == old) _ _ (eq-eqb old old refl) (log, pre, ap draws_of kept.opened ∙ (sym kept.number ∙ e), refl)),
+      (next.is_open, match_true (old == old) _ _ (eq-eqb old old refl) (history_of log, history_prefix v log begun pre, sym kept.number ∙ e, history_on log (Happened (Draw pass new) ∷ []) kept.is_open)),
     ))
-    (λ cs log kept pre ne. (good cs log kept, match_false ((cell cs 0).0 == old) _ _ (ne_eqb (cell cs 0).0 old ne) tt))
+    (λ cs log kept pre ne. (kept.is_open, match_false ((cell cs 0).0 == old) _ _ (ne_eqb (cell cs 0).0 old ne) (history_prefix v log begun pre)))
 
 -- a step word goes from old to old + 1, where the front's part of the shard has old steps and the entry goes on from there
-pub step_moves : (shards passes : ℕ) (v front : List Event) (shard old new : ℕ) (entry : Entry) → IsLog shards passes v → IsPrefix front (history_of v)
-    → shard < 64 → length (part shard front) ≡ old → new ≡ old + 1 → shard ≡ shard_of entry.key shards → MayFollow (part shard front) entry
-    → Moves IsKept shown moved (shard + 1) (at_rest v) (λ n. either (n == old) new n) (AddsStep (step (shard + 1) old new (Step shard entry)) (at_rest v))
-step_moves shards passes v front shard old new entry is begins small many one at may =
-    let T : ℕ → View Event ℕ → Type 0 = AddsStep (step (shard + 1) old new (Step shard entry)) (at_rest v) in
+pub step_moves : (v : List Logged) (front : List Event) (shard old new : ℕ) (entry : Entry) → IsOpenLog v → IsPrefix front (history_of v)
+    → shard < 64 → length (part shard front) ≡ old → new ≡ old + 1 → shard ≡ shard_of entry.key (shards_in v) → MayFollow (part shard front) entry
+    → Moves IsKept bare moved (shard + 1) (at_rest v) (λ n. either (n == old) new n) (AddsStep (step (shard + 1) old new (Happened (Step shard entry))) (at_rest v))
+step_moves v front shard old new entry is begins small many one at may =
+    let T : ℕ → View Logged ℕ → Type 0 = AddsStep (step (shard + 1) old new (Happened (Step shard entry))) (at_rest v) in
     exchanges (shard + 1) v old new T
     (λ cs log kept pre. omega (arith, kept.many))
     (λ cs log kept pre e.
-    let sizes = same_sizes shards passes v kept.shards kept.passes kept.history log is kept.opened pre in
-    let ahead : IsPrefix front kept.history = prefix_trans front (history_of v) kept.history begins sizes.2 in
-    let counted : length (part shard kept.history) ≡ old = sym (kept.steps shard small) ∙ e in
-    let same : part shard front ≡ part shard kept.history = part_same shard old front kept.history ahead many counted in
-    let next = kept_step cs log shard entry new kept small (omega (arith, e, one)) (at ∙ ap (shard_of entry.key) (sym sizes.0)) (subst (λ (es : List Entry). MayFollow es entry) same may) in (
-      Step shard entry ∷ [],
+    let ahead : IsPrefix front (history_of log) = prefix_trans front (history_of v) (history_of log) begins (history_prefix v log is pre) in
+    let counted : length (part shard (history_of log)) ≡ old = sym (kept.steps shard small) ∙ e in
+    let same : part shard front ≡ part shard (history_of log) = part_same shard old front (history_of log) ahead many counted in
+    let next = kept_step cs log shard entry new kept small (omega (arith, e, one)) (at ∙ ap (shard_of entry.key) (sym (same_shards v log is pre))) (subst (λ (es : List Entry). MayFollow es entry) same may) in (
+      Happened (Step shard entry) ∷ [],
       next,
-      (good _ _ next, match_true (old == old) _ _ (eq-eqb old old refl) (log, pre, ap (λ l. length (part shard l)) kept.opened ∙ counted, refl)),
+      (next.is_open, match_true (old == old) _ _ (eq-eqb old old refl) (history_of log, history_prefix v log is pre, counted, history_on log (Happened (Step shard entry) ∷ []) kept.is_open)),
     ))
-    (λ cs log kept pre ne. (good cs log kept, match_false ((cell cs (shard + 1)).0 == old) _ _ (ne_eqb (cell cs (shard + 1)).0 old ne) tt))
+    (λ cs log kept pre ne. (kept.is_open, match_false ((cell cs (shard + 1)).0 == old) _ _ (ne_eqb (cell cs (shard + 1)).0 old ne) (history_prefix v log is pre)))
 
--- a status word goes to a ticket that was let through
-pub signal_moves : (shards passes : ℕ) (v : List Event) (pass old new : ℕ) (t : Wait) (ask : Event) → IsLog shards passes v → 0 < pass → pass ≤ passes → IsNumber t.number → IsWaitNumber t.wait → new ≡ value_of t → LetIn (history_of v) pass t
-    → Moves IsKept shown moved (pass + 64) (at_rest v) (λ n. either (n == old) new n) (Sees (step (pass + 64) old new ask) (at_rest v))
-signal_moves shards passes v pass old new t ask is low high number wait value let_in =
-    exchanges (pass + 64) v old new (Sees (step (pass + 64) old new ask) (at_rest v))
-    (λ cs log kept pre.
-    let sizes = same_sizes shards passes v kept.shards kept.passes kept.history log is kept.opened pre in omega (arith, kept.many, sizes.1))
+-- a step word goes from n to n
+pub meet_moves : (v : List Logged) (shard old : ℕ) (ask : Logged) → shard < 64 → Moves IsKept bare moved (shard + 1) (at_rest v) (λ n. either (n == old) old n) (Meets (step (shard + 1) old old ask) (at_rest v))
+meet_moves v shard old ask small =
+    let back : (shard + 1) - 1 ≡ shard = omega arith in
+    exchanges (shard + 1) v old old (Meets (step (shard + 1) old old ask) (at_rest v))
+    (λ cs log kept pre. omega (arith, kept.many))
     (λ cs log kept pre e.
-    let sizes = same_sizes shards passes v kept.shards kept.passes kept.history log is kept.opened pre in
-    let now : LetIn kept.history pass t = subst (λ (l : List Event). LetIn l pass t) sizes.2.1 (let_more (history_of v) sizes.2.0 pass t let_in) in
-    let next = kept_status cs log pass new kept low (omega (arith, sizes.1)) (inr (record { ticket = t; number = number; wait = wait; value = value; through = now })) in
-    ([], next, good _ _ next))
-    (λ cs log kept pre ne. good cs log kept)
+    let here : IsKept (set cs (shard + 1) (old, true)) (log ++ []) = subst (λ (n : ℕ). IsKept (set cs (shard + 1) (n, true)) (log ++ [])) e (kept_same cs log (shard + 1) kept (omega (arith, kept.many))) in
+    let counted : length (part ((shard + 1) - 1) (history_of (log ++ []))) ≡ old = ap (λ s. length (part s (history_of (log ++ [])))) back ∙ (ap (λ l. length (part shard (history_of l))) (append-nil log) ∙ (sym (kept.steps shard small) ∙ e)) in
+    ([], here, (here.is_open, match_true (old == old) _ _ (eq-eqb old old refl) counted)))
+    (λ cs log kept pre ne. (kept.is_open, match_false ((cell cs (shard + 1)).0 == old) _ _ (ne_eqb (cell cs (shard + 1)).0 old ne) tt))
 
--- what steps tell, without the opening entry
-
-pub opened_on : (shards passes : ℕ) (v log : List Event) → IsLog shards passes v → IsPrefix v log → log ≡ Opened shards passes ∷ history_of log
-opened_on shards passes v log is pre =
-    let whole : log ≡ Opened shards passes ∷ (history_of v ++ pre.0) = sym pre.1 ∙ ap (λ l. l ++ pre.0) is.opened in
-    whole ∙ ap (λ h. Opened shards passes ∷ h) (sym (ap history_of whole))
-
-pub history_prefix : (shards passes : ℕ) (v w : List Event) → IsLog shards passes v → IsPrefix v w → IsPrefix (history_of v) (history_of w)
-history_prefix shards passes v w is pre = prefix_tail _ _ _ _ (subst (λ (t : List Event × List Event). IsPrefix t.0 t.1) (λ i. (is.opened i, opened_on shards passes v w is pre i)) pre)
-
-told : (shards passes : ℕ) (v w : List Event) (shard old : ℕ) (e : Event) (b : Bool) → IsLog shards passes v → IsPrefix v w
-    → MatchBool b ((log : List Event) × IsPrefix v log × (length (part shard log) ≡ old) × (w ≡ log ++ e ∷ [])) (Unit {0})
-    → MatchBool b (GoesTo (history_of v) (λ h. length (part shard h) ≡ old) e (history_of w)) (IsPrefix (history_of v) (history_of w))
-told shards passes v w shard old e true is pre m =
-    let log = m.0 in
-    let opened = opened_on shards passes v log is m.1 in
-    (history_of log, history_prefix shards passes v log is m.1, sym (ap (λ l. length (part shard l)) opened) ∙ m.2, ap history_of (m.3 ∙ ap (λ l. l ++ e ∷ []) opened))
-told shards passes v w shard old e false is pre m = history_prefix shards passes v w is pre
-
-pub told_step : (shards passes : ℕ) (v w : List Event) (ask : Event) (old found shard : ℕ) (entry : Entry) → ask ≡ Step shard entry → IsLog shards passes v → IsPrefix v w
-    → AddsStep (step 0 old 0 ask) (at_rest v) found (at_rest w)
-    → MatchBool (found == old) (GoesTo (history_of v) (λ h. length (part shard h) ≡ old) (Step shard entry) (history_of w)) (IsPrefix (history_of v) (history_of w))
-told_step shards passes v w ask old found shard entry e is pre t =
-    let t' : AddsStep (step 0 old 0 (Step shard entry)) (at_rest v) found (at_rest w) = subst (λ (a : Event). AddsStep (step 0 old 0 a) (at_rest v) found (at_rest w)) e t in
-    told shards passes v w shard old (Step shard entry) (found == old) is pre t'.1
+-- a status word goes to a ticket that was let through, which is above it
+pub signal_moves : (v : List Logged) (old new : ℕ) (t : Through) → IsOpenLog v → 0 < t.pass → t.pass ≤ passes_in v → old < new → IsNumber t.ticket.number → IsWaitNumber t.ticket.wait → new ≡ value_of t.ticket → LetIn (history_of v) t.pass t.ticket
+    → Moves IsKept bare moved (t.pass + 64) (at_rest v) (λ n. either (n == old) new n) (Shows (step (t.pass + 64) old new (Shown t)) (at_rest v))
+signal_moves v old new t is low high below number wait value let_in =
+    let T : ℕ → View Logged ℕ → Type 0 = Shows (step (t.pass + 64) old new (Shown t)) (at_rest v) in
+    exchanges (t.pass + 64) v old new T
+    (λ cs log kept pre. omega (arith, kept.many, same_passes v log is pre))
+    (λ cs log kept pre e.
+    let high2 : t.pass ≤ passes_in log = omega (arith, high, same_passes v log is pre) in
+    let now : LetIn (history_of log) t.pass t.ticket = let_later (history_of v) (history_of log) t.pass t.ticket (history_prefix v log is pre) let_in in
+    let next = kept_shown cs log t new kept low high2 (omega (arith, e, below)) value number wait now in
+    let above : word_of t.pass (shown_of log) < value_of t.ticket = omega (arith, e, below, value, kept.status t.pass low high2) in
+    let reached : IsShown (shown_of (log ++ Shown t ∷ [])) t.pass t.ticket = omega (arith, ap (word_of t.pass) (shown_of-append log (Shown t ∷ [])), word_here t.pass (shown_of log) t refl above) in
+    (Shown t ∷ [], next, (next.is_open, match_true (old == old) _ _ (eq-eqb old old refl) (reached, tt))))
+    (λ cs log kept pre ne. (kept.is_open, match_false ((cell cs (t.pass + 64)).0 == old) _ _ (ne_eqb (cell cs (t.pass + 64)).0 old ne) tt))

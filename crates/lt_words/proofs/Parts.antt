@@ -39,13 +39,13 @@ keys_first es fs legal = λ k. legal_first empty (key_history k es) (key_history
 
 home_first : (shards : ℕ) (g more : List Event) → StepsAtHome shards (g ++ more) → StepsAtHome shards g
 home_first shards [] more h = tt
-home_first shards (Opened a b ∷ g) more h = absurd h
+home_first shards (Opened a b way ∷ g) more h = absurd h
 home_first shards (Draw p n ∷ g) more h = home_first shards g more h
 home_first shards (Step s e ∷ g) more h = (h.0, home_first shards g more h.1)
 
 draws_first : (n : ℕ) (g more : List Event) → DrawsCount n (g ++ more) → DrawsCount n g
 draws_first n [] more h = tt
-draws_first n (Opened a b ∷ g) more h = absurd h
+draws_first n (Opened a b way ∷ g) more h = absurd h
 draws_first n (Draw p k ∷ g) more h = (h.0, draws_first (n + 1) g more h.1)
 draws_first n (Step s e ∷ g) more h = draws_first n g more h
 
@@ -74,7 +74,7 @@ at_home_one shards s t e es false is home rest = rest
 
 at_home : (shards s : ℕ) (h : List Event) → StepsAtHome shards h → AtHome shards s (part s h)
 at_home shards s [] home = tt
-at_home shards s (Opened a b ∷ h) home = absurd home
+at_home shards s (Opened a b way ∷ h) home = absurd home
 at_home shards s (Draw p n ∷ h) home = at_home shards s h home
 at_home shards s (Step t e ∷ h) home = at_home_one shards s t e (part s h) (s == t) refl home.0 (at_home shards s h home.1)
 

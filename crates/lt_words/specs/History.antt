@@ -23,35 +23,35 @@ shard_of key shards = sum key % shards
 -- the steps of all shards, in order
 abbrev pub steps_of : List Event → List Entry
 steps_of [] = []
-steps_of (Opened shards passes ∷ h) = steps_of h
+steps_of (Opened shards passes keeping ∷ h) = steps_of h
 steps_of (Draw pass number ∷ h) = steps_of h
 steps_of (Step shard entry ∷ h) = entry ∷ steps_of h
 
 -- the steps of one shard, in order
 abbrev pub part : ℕ → List Event → List Entry
 part s [] = []
-part s (Opened shards passes ∷ h) = part s h
+part s (Opened shards passes keeping ∷ h) = part s h
 part s (Draw pass number ∷ h) = part s h
 part s (Step shard entry ∷ h) = if s == shard then entry ∷ part s h else part s h
 
 -- how many draws there are
 abbrev pub draws_of : List Event → ℕ
 draws_of [] = 0
-draws_of (Opened shards passes ∷ h) = draws_of h
+draws_of (Opened shards passes keeping ∷ h) = draws_of h
 draws_of (Draw pass number ∷ h) = draws_of h + 1
 draws_of (Step shard entry ∷ h) = draws_of h
 
 -- Each draw gives the next number, after n draws. No entry is an opening.
 abbrev pub DrawsCount : ℕ → List Event → Type 0
 DrawsCount n [] = Unit {0}
-DrawsCount n (Opened shards passes ∷ h) = ⊥
+DrawsCount n (Opened shards passes keeping ∷ h) = ⊥
 DrawsCount n (Draw pass number ∷ h) = (number ≡ n + 1) × DrawsCount (n + 1) h
 DrawsCount n (Step shard entry ∷ h) = DrawsCount n h
 
 -- Each step is of its key's shard. No entry is an opening.
 abbrev pub StepsAtHome : ℕ → List Event → Type 0
 StepsAtHome shards [] = Unit {0}
-StepsAtHome shards (Opened s p ∷ h) = ⊥
+StepsAtHome shards (Opened s p way ∷ h) = ⊥
 StepsAtHome shards (Draw pass number ∷ h) = StepsAtHome shards h
 StepsAtHome shards (Step shard entry ∷ h) = (shard ≡ shard_of entry.key shards) × StepsAtHome shards h
 
@@ -79,14 +79,14 @@ Among (x ∷ xs) p t = ((x.pass ≡ p) × (x.ticket ≡ t)) ⊎ Among xs p t
 -- Some step lets this ticket of this pass through.
 abbrev pub LetIn : List Event → ℕ → Wait → Type 0
 LetIn [] p t = ⊥
-LetIn (Opened shards passes ∷ h) p t = LetIn h p t
+LetIn (Opened shards passes keeping ∷ h) p t = LetIn h p t
 LetIn (Draw pass number ∷ h) p t = LetIn h p t
 LetIn (Step shard entry ∷ h) p t = Among entry.lets p t ⊎ LetIn h p t
 
 -- This pass drew this number.
 abbrev pub DrewIn : List Event → ℕ → ℕ → Type 0
 DrewIn [] p n = ⊥
-DrewIn (Opened shards passes ∷ h) p n = DrewIn h p n
+DrewIn (Opened shards passes keeping ∷ h) p n = DrewIn h p n
 DrewIn (Draw pass number ∷ h) p n = ((pass ≡ p) × (number ≡ n)) ⊎ DrewIn h p n
 DrewIn (Step shard entry ∷ h) p n = DrewIn h p n
 

@@ -4,11 +4,13 @@ use Rattle.std.specs.Prelude.{ℕ, ◌≡◌, ◌+◌, ◌<◌, ◌≤◌, Some,
 use Rattle.std.specs.List.{AllByRecursion}
 use mathlib.Core.List.{IsPrefix}
 use Rattle.lt_ids.specs.Ids.{Wait}
+use Rattle.lt_ids.specs.declared.ticket.Through.{Through}
 use Rattle.lt_history.specs.declared.entry.Entry.{Entry}
 use Rattle.lt_history.specs.Histories.{AreLegalKeys}
 use Rattle.lt_words.specs.declared.event.Event.{Event}
 use Rattle.lt_words.specs.declared.event.Event.TheVariants.{Draw}
-use Rattle.lt_words.specs.History.{part, draws_of, shard_of, IsLegalHistory, DrewIn, LetIn}
+use Rattle.lt_words.specs.History.{part, draws_of, shard_of, IsLegalHistory, DrewIn, LetIn, IsStatus}
+use Rattle.lt_words.specs.Shown.{word_of, IsShown, AreLet}
 
 -- ---- draws
 
@@ -54,6 +56,20 @@ DrawsStay = (g h : List Event) (pass number : ℕ) → IsPrefix g h → DrewIn g
 -- A let stays.
 abbrev pub LetsStay : Type 0
 LetsStay = (g h : List Event) (pass : ℕ) (ticket : Wait) → IsPrefix g h → LetIn g pass ticket → LetIn h pass ticket
+
+-- ---- what was shown
+
+-- The status word of a pass never falls.
+abbrev pub WordsRise : Type 0
+WordsRise = (pass : ℕ) (past later : List Through) → IsPrefix past later → word_of pass past ≤ word_of pass later
+
+-- A ticket that was shown stays so.
+abbrev pub ShownStays : Type 0
+ShownStays = (pass : ℕ) (ticket : Wait) (past later : List Through) → IsPrefix past later → IsShown past pass ticket → IsShown later pass ticket
+
+-- A status word is 0, or a ticket of its pass that was let through.
+abbrev pub WordsAreLets : Type 0
+WordsAreLets = (h : List Event) (pass : ℕ) (shown : List Through) → AreLet h shown → IsStatus h pass (word_of pass shown)
 
 -- ---- parts
 

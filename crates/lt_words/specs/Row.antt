@@ -2,12 +2,21 @@
 use Rattle.std.specs.Prelude.{ℕ, ◌≡◌, ◌+◌, ◌<◌, ◌≤◌, List, [], ◌∷◌, ◌++◌, length, slice_index, slice_index_or, replicate, zero, suc, ◌≢◌, Some, slice_get}
 use mathlib.Core.List.{IsPrefix}
 use Rattle.logbook.specs.Pages.{Book}
+use Rattle.lt_ids.specs.declared.ticket.Through.{Through}
 use Rattle.lt_words.specs.declared.event.Event.{Event}
-use Rattle.lt_words.specs.declared.event.Event.TheVariants.{Opened, Draw, Step}
+use Rattle.lt_words.specs.declared.event.Logged.{Logged}
+use Rattle.lt_words.specs.declared.keeping.Keeping.{Keeping}
 use Rattle.lt_words.specs.declared.line.Line.{Line}
 use Rattle.lt_words.specs.History.{part}
-use Rattle.lt_words.specs.Rules.{word_at, history_of, IsLog}
+use Rattle.lt_words.specs.Shown.{AreShown}
+use Rattle.lt_words.specs.Rules.{word_at, shards_in, passes_in, keeping_in, history_of, shown_of}
 use Rattle.lt_history.specs.declared.entry.Entry.{Entry}
+use Rattle.lt_plain.specs.declared.call.Call.{Call}
+use Rattle.lt_plain.specs.declared.call.Reply.{Reply}
+
+-- the entry of these parts
+abbrev pub made : List ℕ → ℕ → Call → Reply → List Through → Entry
+made key pass call reply lets = record { key = key; pass = pass; call = call; reply = reply; lets = lets }
 
 -- how many shards and passes a book may have
 pub record AreSizes (shards passes : ℕ) : Type 0 where
@@ -16,11 +25,12 @@ pub record AreSizes (shards passes : ℕ) : Type 0 where
   pub some_passes : 0 < passes
   pub few_passes : passes ≤ 1024
 
--- which book it is, and its numbers of shards and passes
+-- which book it is, its numbers of shards and passes, and how its table keeps the steps that are made of it
 pub record Opening : Type 0 where
   pub book : Book
   pub shards : ℕ
   pub passes : ℕ
+  pub keeping : Keeping
 
 -- each word is the book's, at its place: the number word, 64 step words, and a status word for each pass
 pub record IsRow (of : Opening) (lines : List Line) : Type 0 where
@@ -28,42 +38,34 @@ pub record IsRow (of : Opening) (lines : List Line) : Type 0 where
   pub many : length lines ≡ of.passes + 65
   pub each : (k : ℕ) (d : Line) → k < length lines → (slice_index_or lines k d).word ≡ word_at of.book k
 
--- the numbers that a log opens with
-abbrev pub shards_in : List Event → ℕ
-shards_in [] = 0
-shards_in (Opened shards passes ∷ h) = shards
-shards_in (Draw pass number ∷ h) = 0
-shards_in (Step shard entry ∷ h) = 0
+abbrev pub opening_of : Book → List Logged → Opening
+opening_of book log = record { book = book; shards = shards_in log; passes = passes_in log; keeping = keeping_in log }
 
-abbrev pub passes_in : List Event → ℕ
-passes_in [] = 0
-passes_in (Opened shards passes ∷ h) = passes
-passes_in (Draw pass number ∷ h) = 0
-passes_in (Step shard entry ∷ h) = 0
-
-abbrev pub opening_of : Book → List Event → Opening
-opening_of book log = record { book = book; shards = shards_in log; passes = passes_in log }
-
--- what a front has seen: of which book, and which beginning of its table history
+-- what a front has seen: of which book, which beginning of its table history, and what was shown meanwhile
 pub record Sight : Type 0 where
   pub of : Opening
   pub seen : List Event
+  pub shown : List Through
 
-abbrev pub sight_of : Book → List Event → Sight
-sight_of book log = record { of = opening_of book log; seen = history_of log }
+abbrev pub sight_of : Book → List Logged → Sight
+sight_of book log = record { of = opening_of book log; seen = history_of log; shown = shown_of log }
 
-abbrev pub IsOpenLog : List Event → Type 0
-IsOpenLog log = IsLog (shards_in log) (passes_in log) log
+-- what it has seen only grew
+pub record SightGrows (old new : Sight) : Type 0 where
+  pub of : new.of ≡ old.of
+  pub seen : IsPrefix old.seen new.seen
+  pub shown : IsPrefix old.shown new.shown
 
--- what a pass carries: of which book it is, its number, what it has seen, and its steps at each shard
+-- what a pass carries: of which book it is, its number, what it has seen, what was shown meanwhile, and its steps at each shard
 pub record Seer : Type 0 where
   pub of : Opening
   pub number : ℕ
   pub seen : List Event
+  pub shown : List Through
   pub counts : List ℕ
 
 abbrev pub seer : ℕ → Sight → List ℕ → Seer
-seer number sight counts = record { of = sight.of; number = number; seen = sight.seen; counts = counts }
+seer number sight counts = record { of = sight.of; number = number; seen = sight.seen; shown = sight.shown; counts = counts }
 
 -- The pass is one of the book's, and no count is above that shard's steps that it has seen.
 pub record IsPass (p : Seer) : Type 0 where
@@ -83,10 +85,11 @@ pub record SeesMore (old new : Seer) : Type 0 where
   pub number : new.number ≡ old.number
   pub counts : new.counts ≡ old.counts
   pub seen : IsPrefix old.seen new.seen
+  pub shown : IsPrefix old.shown new.shown
 
 -- a pass that has seen nothing and made no step
 abbrev pub fresh : Opening → ℕ → Seer
-fresh of number = record { of = of; number = number; seen = []; counts = replicate of.shards 0 }
+fresh of number = record { of = of; number = number; seen = []; shown = []; counts = replicate of.shards 0 }
 
 -- the passes of a new book, from 1 on
 abbrev pub fresh_passes : Opening → ℕ → List Seer
@@ -95,13 +98,15 @@ fresh_passes of (suc n) = fresh_passes of n ++ fresh of (suc n) ∷ []
 
 -- What a step tells its caller, which a table's call that makes one step can hand on as it is.
 -- Between what the pass was and what it is, it made this step: the entry is the pass's own, and stands at this place of the
--- shard's part of what the pass has then seen, after all that it had seen; the pass counts one more step at the shard, and
--- none at any other.
+-- shard's part of what the pass has then seen, after all that it had seen; whom the step let through was shown it; the pass
+-- counts one more step at the shard, and none at any other.
 pub record Reports (old new : Seer) (shard at : ℕ) (entry : Entry) : Type 0 where
   pub own : entry.pass ≡ old.number
   pub stands : slice_get (part shard new.seen) at ≡ Some entry
   pub later : length (part shard old.seen) ≤ at
   pub seen : IsPrefix old.seen new.seen
+  pub shown : IsPrefix old.shown new.shown
+  pub lets_shown : AreShown new.shown entry.lets
   pub counted : slice_index new.counts shard ≡ slice_index old.counts shard + 1
   pub others : (s : ℕ) → s ≢ shard → slice_index new.counts s ≡ slice_index old.counts s
   pub of : new.of ≡ old.of

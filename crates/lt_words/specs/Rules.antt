@@ -1,20 +1,70 @@
--- The rule of the row of words, and what its steps tell.
+-- The log, the rule of the row of words, and what its steps tell.
 use Rattle.std.specs.Prelude.{ℕ, ◌≡◌, ◌+◌, ◌-◌, ◌==◌, ◌<◌, ◌≤◌, true, List, [], ◌∷◌, ◌++◌, length, MatchBool}
 use mathlib.Core.List.{IsPrefix}
 use Rattle.logbook.specs.Pages.{Cell, cell, Step as Turn, View, Book, Named}
+use Rattle.lt_ids.specs.declared.ticket.Through.{Through}
 use Rattle.lt_words.specs.declared.event.Event.{Event}
 use Rattle.lt_words.specs.declared.event.Event.TheVariants.{Opened, Draw, Step}
+use Rattle.lt_words.specs.declared.event.Logged.{Logged}
+use Rattle.lt_words.specs.declared.event.Logged.TheVariants.{Happened, Shown}
+use Rattle.lt_words.specs.declared.keeping.Keeping.{Keeping}
+use Rattle.lt_words.specs.declared.keeping.Keeping.TheVariants.{Whole}
 use Rattle.lt_words.specs.History.{part, draws_of, IsLegalHistory, IsStatus}
+use Rattle.lt_words.specs.Shown.{word_of, AreShown, AreLet}
 
--- what a log says after its first entry
-abbrev pub history_of : List Event → List Event
-history_of [] = []
-history_of (e ∷ h) = h
+-- the events of a log, in order
+abbrev pub events_of : List Logged → List Event
+events_of [] = []
+events_of (Happened e ∷ log) = e ∷ events_of log
+events_of (Shown t ∷ log) = events_of log
 
--- The log of a book with these numbers of shards and passes: its opening, and then a legal history.
-pub record IsLog (shards passes : ℕ) (log : List Event) : Type 0 where
-  pub opened : log ≡ Opened shards passes ∷ history_of log
-  pub legal : IsLegalHistory shards (history_of log)
+-- what a log has shown, in order
+abbrev pub shown_of : List Logged → List Through
+shown_of [] = []
+shown_of (Happened e ∷ log) = shown_of log
+shown_of (Shown t ∷ log) = t ∷ shown_of log
+
+abbrev pub after_first : List Event → List Event
+after_first [] = []
+after_first (e ∷ h) = h
+
+-- the table history of a log: its events after the opening
+abbrev pub history_of : List Logged → List Event
+history_of log = after_first (events_of log)
+
+-- what a log opens with
+abbrev pub shards_first : List Event → ℕ
+shards_first [] = 0
+shards_first (Opened shards passes keeping ∷ h) = shards
+shards_first (Draw pass number ∷ h) = 0
+shards_first (Step shard entry ∷ h) = 0
+
+abbrev pub passes_first : List Event → ℕ
+passes_first [] = 0
+passes_first (Opened shards passes keeping ∷ h) = passes
+passes_first (Draw pass number ∷ h) = 0
+passes_first (Step shard entry ∷ h) = 0
+
+abbrev pub keeping_first : List Event → Keeping
+keeping_first [] = Whole
+keeping_first (Opened shards passes keeping ∷ h) = keeping
+keeping_first (Draw pass number ∷ h) = Whole
+keeping_first (Step shard entry ∷ h) = Whole
+
+abbrev pub shards_in : List Logged → ℕ
+shards_in log = shards_first (events_of log)
+
+abbrev pub passes_in : List Logged → ℕ
+passes_in log = passes_first (events_of log)
+
+abbrev pub keeping_in : List Logged → Keeping
+keeping_in log = keeping_first (events_of log)
+
+-- A log of a book: its opening, then a legal history; and what it has shown was let through.
+pub record IsOpenLog (log : List Logged) : Type 0 where
+  pub opened : events_of log ≡ Opened (shards_in log) (passes_in log) (keeping_in log) ∷ history_of log
+  pub legal : IsLegalHistory (shards_in log) (history_of log)
+  pub let_through : AreLet (history_of log) (shown_of log)
 
 -- the places of the words in the row; passes are numbered from 1
 abbrev pub number_word : ℕ
@@ -27,61 +77,58 @@ abbrev pub status_word : ℕ → ℕ
 status_word pass = pass + 64
 
 -- The rule: between any two steps the words agree with the log.
-pub record IsKept (cells : List Cell) (log : List Event) : Type 0 where
-  pub shards : ℕ
-  pub passes : ℕ
-  pub history : List Event
-  pub opened : log ≡ Opened shards passes ∷ history
-  pub many : length cells ≡ passes + 65
+pub record IsKept (cells : List Cell) (log : List Logged) : Type 0 where
+  -- the log is a book's: its history is legal, and what it has shown was let through
+  pub is_open : IsOpenLog log
+  pub many : length cells ≡ passes_in log + 65
   pub home : (k : ℕ) → k < length cells → (cell cells k).1 ≡ true
   -- the number word is the number of draws
-  pub number : (cell cells number_word).0 ≡ draws_of history
+  pub number : (cell cells number_word).0 ≡ draws_of (history_of log)
   -- a shard's step word is the number of that shard's steps
-  pub steps : (s : ℕ) → s < 64 → (cell cells (step_word s)).0 ≡ length (part s history)
-  -- a pass's status word is 0, or a ticket of that pass that some step let through
-  pub status : (p : ℕ) → 0 < p → p ≤ passes → IsStatus history p (cell cells (status_word p)).0
-  -- the history is legal
-  pub legal : IsLegalHistory shards history
+  pub steps : (s : ℕ) → s < 64 → (cell cells (step_word s)).0 ≡ length (part s (history_of log))
+  -- a pass's status word is the highest ticket that was shown to it
+  pub status : (p : ℕ) → 0 < p → p ≤ passes_in log → (cell cells (status_word p)).0 ≡ word_of p (shown_of log)
 
 -- the word of the book at this place
 abbrev pub word_at : Book → ℕ → Named
 word_at b k = record { tracked = true; key = k; book = b }
 
-abbrev pub IsGood : List Event → Type 0
-IsGood log = (shards : ℕ) × (passes : ℕ) × IsLog shards passes log
+-- the number word was read: the draws of the history that was seen
+abbrev pub Counts : Turn Logged → View Logged ℕ → ℕ → View Logged ℕ → Type 0
+Counts s v found w = IsOpenLog w.0 × (found ≡ draws_of (history_of w.0))
 
--- the number word was read: the draws of the log that was seen
-abbrev pub Counts : Turn Event → View Event ℕ → ℕ → View Event ℕ → Type 0
-Counts s v found w = IsGood w.0 × (draws_of w.0 ≡ found)
+-- a status word was read: the highest ticket that was shown to its pass, which was let through
+abbrev pub Reads : Turn Logged → View Logged ℕ → ℕ → View Logged ℕ → Type 0
+Reads s v found w = IsOpenLog w.0 × (found ≡ word_of (s.key - 64) (shown_of w.0)) × IsStatus (history_of w.0) (s.key - 64) found
 
--- a status word was read
-abbrev pub Reads : Turn Event → View Event ℕ → ℕ → View Event ℕ → Type 0
-Reads s v found w = IsGood w.0 × IsStatus w.0 (s.key - 64) found
-
--- something was added to a log that goes on from what was seen, and in which the word was as expected; or the log was seen
-abbrev pub Adds : (List Event → ℕ) → Turn Event → View Event ℕ → ℕ → View Event ℕ → Type 0
+-- an event was added to a history that goes on from what was seen, and in which the word was as expected; or the log was seen
+abbrev pub Adds : (List Event → ℕ) → Turn Logged → View Logged ℕ → ℕ → View Logged ℕ → Type 0
 Adds counted s v found w =
-    IsGood w.0
+    IsOpenLog w.0
     × MatchBool (found == s.old)
-    ((log : List Event) × IsPrefix v.0 log × (counted log ≡ s.old) × (w.0 ≡ log ++ s.ask ∷ []))
-    (Unit {0})
+    ((h : List Event) × IsPrefix (history_of v.0) h × (counted h ≡ s.old) × (history_of w.0 ≡ h ++ events_of (s.ask ∷ [])))
+    (IsPrefix (history_of v.0) (history_of w.0))
 
-abbrev pub AddsDraw : Turn Event → View Event ℕ → ℕ → View Event ℕ → Type 0
+abbrev pub AddsDraw : Turn Logged → View Logged ℕ → ℕ → View Logged ℕ → Type 0
 AddsDraw s v found w = Adds draws_of s v found w
 
 -- the shard of a step that is asked for
-abbrev pub asked_shard : Event → ℕ
-asked_shard (Opened shards passes) = 0
-asked_shard (Draw pass number) = 0
-asked_shard (Step shard entry) = shard
+abbrev pub shard_first : List Event → ℕ
+shard_first [] = 0
+shard_first (Opened shards passes keeping ∷ h) = 0
+shard_first (Draw pass number ∷ h) = 0
+shard_first (Step shard entry ∷ h) = shard
 
-abbrev pub AddsStep : Turn Event → View Event ℕ → ℕ → View Event ℕ → Type 0
-AddsStep s v found w = Adds (λ log. length (part (asked_shard s.ask) log)) s v found w
+abbrev pub asked_shard : Logged → ℕ
+asked_shard ask = shard_first (events_of (ask ∷ []))
+
+abbrev pub AddsStep : Turn Logged → View Logged ℕ → ℕ → View Logged ℕ → Type 0
+AddsStep s v found w = Adds (λ h. length (part (asked_shard s.ask) h)) s v found w
 
 -- the step word was as expected, at the log that was seen; or the log was seen
-abbrev pub Meets : Turn Event → View Event ℕ → ℕ → View Event ℕ → Type 0
-Meets s v found w = IsGood w.0 × MatchBool (found == s.old) (length (part (s.key - 1) w.0) ≡ s.old) (Unit {0})
+abbrev pub Meets : Turn Logged → View Logged ℕ → ℕ → View Logged ℕ → Type 0
+Meets s v found w = IsOpenLog w.0 × MatchBool (found == s.old) (length (part (s.key - 1) (history_of w.0)) ≡ s.old) (Unit {0})
 
--- the log was seen
-abbrev pub Sees : Turn Event → View Event ℕ → ℕ → View Event ℕ → Type 0
-Sees s v found w = IsGood w.0
+-- what was asked for was shown; or the log was seen
+abbrev pub Shows : Turn Logged → View Logged ℕ → ℕ → View Logged ℕ → Type 0
+Shows s v found w = IsOpenLog w.0 × MatchBool (found == s.old) (AreShown (shown_of w.0) (shown_of (s.ask ∷ []))) (Unit {0})

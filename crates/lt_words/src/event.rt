@@ -1,9 +1,28 @@
+use crate::keeping::Keeping;
 use lt_history::Entry;
+use lt_ids::Through;
 
-/// An event of the log: first the opening, which names the numbers of shards and passes, and then draws of numbers
-/// and key steps. No value of it is made; it exists in the proofs alone.
+/// An event of the table history: first the opening, which names the numbers of shards and passes and how steps are kept,
+/// and then draws of numbers and key steps. No value of it is made; it exists in the proofs alone.
 pub enum Event {
-    Opened { shards: usize, passes: usize },
-    Draw { pass: u32, number: u64 },
-    Step { shard: usize, entry: Entry },
+    Opened {
+        shards: usize,
+        passes: usize,
+        keeping: Keeping,
+    },
+    Draw {
+        pass: u32,
+        number: u64,
+    },
+    Step {
+        shard: usize,
+        entry: Entry,
+    },
+}
+
+/// An entry of the log: an event of the table history, or that a let was shown to the pass that waits. No value of it
+/// is made; it exists in the proofs alone.
+pub enum Logged {
+    Happened(Event),
+    Shown(Through),
 }

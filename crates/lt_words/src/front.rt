@@ -1,32 +1,34 @@
-ghost use Rattle.std.specs.Prelude.{◌≡◌, ◌+◌, ◌<◌, ◌≤◌, ◌^◌, ◌∷◌, ◌++◌, List, [], length, MatchBool, IfSome, IfNone};
+ghost use Rattle.std.specs.Prelude.{◌≡◌, ◌+◌, ◌<◌, ◌≤◌, ◌^◌, ◌∷◌, ◌++◌, List, [], length, MatchBool, IfSome, IfNone, IsTrue};
 ghost use mathlib.Core.List.{IsPrefix};
 ghost use Rattle.lt_ids.specs.Ids.{Wait, value_of};
 ghost use Rattle.lt_words.specs.declared.event.Event.{Event};
 ghost use Rattle.lt_words.specs.declared.event.Event.TheVariants.{Opened, Draw, Step};
 ghost use Rattle.lt_words.specs.History.{part, draws_of, shard_of, IsLegalHistory, LetIn, MayFollow, IsStatus};
-ghost use Rattle.lt_words.specs.Rules.{IsLog, history_of};
-ghost use Rattle.lt_words.specs.Row.{GoesTo, IsOpenLog, sight_of};
+ghost use Rattle.lt_words.specs.Shown.{word_of, IsShown, AreLet};
+ghost use Rattle.lt_words.specs.Rules.{IsOpenLog, history_of};
+ghost use Rattle.lt_words.specs.Row.{GoesTo, SightGrows, sight_of};
 
 use crate::book::Book;
-use crate::event::Event;
+use crate::entry_parts::EntryParts;
+use crate::event::Logged;
 use crate::law::{
     AddDraw, AddStep, Asks, Count, Drawing, Law, Meet, Nothing, Read, Signal, Stepping,
 };
 use logbook::{Offer, Seen};
-use lt_history::Entry;
-use lt_ids::Ticket;
+use lt_ids::{Through, Ticket};
 use std::marker::Model;
 use std::snapshot::Snapshot;
 use std::sync::Wait;
 
-/// A beginning of a book's table history that was seen. Contracts see the book and the events.
+/// A beginning of a book's log that was seen. Contracts see the book, the events, and what was shown.
 #[derive(Drop)]
 pub struct Front {
-    seen: Seen<Event, u64, Law>,
+    seen: Seen<Logged, u64, Law>,
 }
 
 impl Model for Front {
-    ghost use Rattle.lt_words.specs.Row.{Sight, sight_of, IsOpenLog};
+    ghost use Rattle.lt_words.specs.Rules.{IsOpenLog};
+    ghost use Rattle.lt_words.specs.Row.{Sight, sight_of};
 
     ghost Value = { Sight };
 
@@ -37,7 +39,7 @@ impl Model for Front {
 
 impl Front {
     /// The front of a book that was just opened.
-    pub(crate) fn begins(seen: Seen<Event, u64, Law>) -> Front
+    pub(crate) fn begins(seen: Seen<Logged, u64, Law>) -> Front
         requires { IsOpenLog seen.log }
         ensures { result ≡ sight_of seen.book seen.log }
     {
@@ -53,9 +55,10 @@ impl Front {
         }
     }
 
-    /// What was seen is legal.
+    /// What was seen is legal, and what was shown was let through.
     pub fn legal(&self)
-        ensures { IsLegalHistory self.now.of.shards self.now.seen }
+        ensures legal { IsLegalHistory self.now.of.shards self.now.seen }
+        ensures let_through { AreLet self.now.seen self.now.shown }
     {
         let _ = &self.seen;
     }
@@ -66,6 +69,8 @@ impl Front {
         ensures of { self.new.of ≡ self.old.of }
         ensures this { IsPrefix self.old.seen self.new.seen }
         ensures that { IsPrefix other.now.seen self.new.seen }
+        ensures shown_this { IsPrefix self.old.shown self.new.shown }
+        ensures shown_that { IsPrefix other.now.shown self.new.shown }
     {
         self.seen.learn(&other.seen);
     }
@@ -73,11 +78,10 @@ impl Front {
     /// The number of draws in the history that is then seen.
     pub(crate) fn count(&mut self, book: &Book) -> u64
         requires { book.now ≡ self.old.of }
-        ensures of { self.new.of ≡ self.old.of }
-        ensures seen { IsPrefix self.old.seen self.new.seen }
+        ensures more { SightGrows self.old self.new }
         ensures count { result ≡ draws_of self.new.seen }
     {
-        let mut offer: Offer<Event, u64, Law, Nothing> = self
+        let mut offer: Offer<Logged, u64, Law, Nothing> = self
             .seen
             .plain::<Nothing, Drawing, Asks>(&Drawing { pass: 0, number: 0 });
         let word = &book.lines[0].word;
@@ -88,11 +92,11 @@ impl Front {
     pub(crate) fn try_draw(&mut self, book: &Book, pass: u32, old: u64) -> bool
         requires of { book.now ≡ self.old.of }
         requires room { old + 1 < 2 ^ 64 }
-        ensures of { self.new.of ≡ self.old.of }
+        ensures more { SightGrows self.old self.new }
         ensures went { MatchBool result (GoesTo self.old.seen (λ h. draws_of h ≡ old) (Draw pass (old + 1)) self.new.seen) (IsPrefix self.old.seen self.new.seen) }
     {
         let number = old + 1;
-        let mut offer: Offer<Event, u64, Law, Nothing> = self
+        let mut offer: Offer<Logged, u64, Law, Nothing> = self
             .seen
             .plain::<Nothing, Drawing, Asks>(&Drawing { pass, number });
         let mut pen = self.seen.no_pen();
@@ -108,30 +112,33 @@ impl Front {
     }
 
     /// Tries to make a step, where `from` has `count` steps of the shard.
+    #[tactic(auto, using(crate::proofs::Passes::grows_self))]
     pub(crate) fn try_step(
         &mut self,
         book: &Book,
         from: &Front,
         shard: usize,
         count: u64,
-        entry: &Entry,
+        entry: &EntryParts,
     ) -> bool
         requires of { book.now ≡ self.old.of }
-        requires room { count < 2 ^ 63 }
         requires begins { IsPrefix from.now.seen self.old.seen }
         requires count { length (part shard from.now.seen) ≡ count }
         requires home { shard ≡ shard_of entry.now.key self.old.of.shards }
         requires next { MayFollow (part shard from.now.seen) entry.now }
-        ensures of { self.new.of ≡ self.old.of }
+        ensures more { SightGrows self.old self.new }
         ensures went { MatchBool result (GoesTo self.old.seen (λ h. length (part shard h) ≡ count) (Step shard entry.now) self.new.seen) (IsPrefix self.old.seen self.new.seen) }
+        ensures room { IsTrue result → count + 1 < 2 ^ 64 }
     {
-        let next = count + 1;
-        let mut offer: Offer<Event, u64, Law, Nothing> = self.seen.plain::<Nothing, Stepping, Asks>(
-            &Stepping {
+        let Some(next) = count.checked_add(1) else {
+            return false;
+        };
+        let mut offer: Offer<Logged, u64, Law, Nothing> = self
+            .seen
+            .plain::<Nothing, Stepping, Asks>(&Stepping {
                 shard,
                 entry: Snapshot::of(entry),
-            },
-        );
+            });
         let mut pen = self.seen.no_pen();
         let word = &book.lines[shard + 1].word;
         let found = word.compare_exchange::<AddStep, Nothing>(
@@ -148,11 +155,10 @@ impl Front {
     pub(crate) fn try_meet(&mut self, book: &Book, shard: usize, count: u64) -> bool
         requires of { book.now ≡ self.old.of }
         requires shard { shard < 64 }
-        ensures of { self.new.of ≡ self.old.of }
-        ensures seen { IsPrefix self.old.seen self.new.seen }
+        ensures more { SightGrows self.old self.new }
         ensures met { MatchBool result (length (part shard self.new.seen) ≡ count) (Unit {0}) }
     {
-        let mut offer: Offer<Event, u64, Law, Nothing> = self
+        let mut offer: Offer<Logged, u64, Law, Nothing> = self
             .seen
             .plain::<Nothing, Drawing, Asks>(&Drawing { pass: 0, number: 0 });
         let mut pen = self.seen.no_pen();
@@ -172,29 +178,30 @@ impl Front {
         requires of { book.now ≡ self.old.of }
         requires low { 0 < pass }
         requires high { pass ≤ self.old.of.passes }
-        ensures of { self.new.of ≡ self.old.of }
-        ensures seen { IsPrefix self.old.seen self.new.seen }
+        ensures more { SightGrows self.old self.new }
+        ensures word { result ≡ word_of pass self.new.shown }
         ensures status { IsStatus self.new.seen pass result }
     {
-        let mut offer: Offer<Event, u64, Law, Nothing> = self
+        let mut offer: Offer<Logged, u64, Law, Nothing> = self
             .seen
             .plain::<Nothing, Drawing, Asks>(&Drawing { pass: 0, number: 0 });
         let word = &book.lines[pass as usize + 64].word;
         word.load::<Read, Nothing>(&mut self.seen, &mut offer)
     }
 
-    /// Tries to write a ticket that was let through into the status word of its pass.
+    /// Tries to write a ticket that was let through into the status word of its pass, which is below it.
     pub(crate) fn try_signal(&mut self, book: &Book, pass: u32, old: u64, ticket: Ticket) -> bool
         requires of { book.now ≡ self.old.of }
         requires low { 0 < pass }
         requires high { pass ≤ self.old.of.passes }
+        requires below { old < value_of ticket }
         requires through { LetIn self.old.seen pass ticket }
-        ensures of { self.new.of ≡ self.old.of }
-        ensures seen { IsPrefix self.old.seen self.new.seen }
+        ensures more { SightGrows self.old self.new }
+        ensures shown { MatchBool result (IsShown self.new.shown pass ticket) (Unit {0}) }
     {
-        let mut offer: Offer<Event, u64, Law, Nothing> = self
+        let mut offer: Offer<Logged, u64, Law, Nothing> = self
             .seen
-            .plain::<Nothing, Drawing, Asks>(&Drawing { pass: 0, number: 0 });
+            .plain::<Nothing, Through, Asks>(&Through { pass, ticket });
         let mut pen = self.seen.no_pen();
         let word = &book.lines[pass as usize + 64].word;
         // Brings the ranges of a ticket's parts into the proof.
@@ -210,12 +217,12 @@ impl Front {
     }
 
     /// Draws the next number, up to `max`.
+    #[tactic(auto, using(crate::proofs::Passes::grows_on, crate::proofs::Passes::grows_self))]
     pub(crate) fn draw<R: Wait>(&mut self, rt: &R, book: &Book, pass: u32, max: u64) -> Option<u64>
         requires of { book.now ≡ self.old.of }
-        ensures of { self.new.of ≡ self.old.of }
+        ensures more { SightGrows self.old self.new }
         ensures some { IfSome result (λ n. (0 < n) × (n ≤ max) × GoesTo self.old.seen (λ h. draws_of h + 1 ≡ n) (Draw pass n) self.new.seen) }
         ensures none { IfNone result (max ≤ draws_of self.new.seen) }
-        ensures seen { IsPrefix self.old.seen self.new.seen }
     {
         for _ in rt.forever() {
             let old = self.count(book);
@@ -230,6 +237,7 @@ impl Front {
     }
 
     /// Makes a step, where `from` has `count` steps of the shard.
+    #[tactic(auto, using(crate::proofs::Passes::grows_on, crate::proofs::Passes::grows_self))]
     pub(crate) fn step<R: Wait>(
         &mut self,
         rt: &R,
@@ -237,16 +245,16 @@ impl Front {
         from: &Front,
         shard: usize,
         count: u64,
-        entry: &Entry,
+        entry: &EntryParts,
     )
         requires of { book.now ≡ self.old.of }
-        requires room { count < 2 ^ 63 }
         requires begins { IsPrefix from.now.seen self.old.seen }
         requires count { length (part shard from.now.seen) ≡ count }
         requires home { shard ≡ shard_of entry.now.key self.old.of.shards }
         requires next { MayFollow (part shard from.now.seen) entry.now }
-        ensures of { self.new.of ≡ self.old.of }
+        ensures more { SightGrows self.old self.new }
         ensures step { GoesTo self.old.seen (λ h. length (part shard h) ≡ count) (Step shard entry.now) self.new.seen }
+        ensures room { count + 1 < 2 ^ 64 }
     {
         for _ in rt.forever() {
             if self.try_step(book, from, shard, count, entry) {
@@ -256,11 +264,11 @@ impl Front {
     }
 
     /// Sees the history where it has just `count` steps of the shard.
+    #[tactic(auto, using(crate::proofs::Passes::grows_on, crate::proofs::Passes::grows_self))]
     pub(crate) fn meet<R: Wait>(&mut self, rt: &R, book: &Book, shard: usize, count: u64)
         requires of { book.now ≡ self.old.of }
         requires shard { shard < 64 }
-        ensures of { self.new.of ≡ self.old.of }
-        ensures seen { IsPrefix self.old.seen self.new.seen }
+        ensures more { SightGrows self.old self.new }
         ensures met { length (part shard self.new.seen) ≡ count }
     {
         for _ in rt.forever() {
@@ -270,17 +278,21 @@ impl Front {
         }
     }
 
-    /// Writes a ticket that was let through into the status word of its pass.
+    /// Writes a ticket that was let through into the status word of its pass, unless that is at or above it.
+    #[tactic(auto, using(crate::proofs::Passes::grows_on, crate::proofs::Passes::grows_self))]
     pub(crate) fn signal<R: Wait>(&mut self, rt: &R, book: &Book, pass: u32, ticket: Ticket)
         requires of { book.now ≡ self.old.of }
         requires low { 0 < pass }
         requires high { pass ≤ self.old.of.passes }
         requires through { LetIn self.old.seen pass ticket }
-        ensures of { self.new.of ≡ self.old.of }
-        ensures seen { IsPrefix self.old.seen self.new.seen }
+        ensures more { SightGrows self.old self.new }
+        ensures shown { IsShown self.new.shown pass ticket }
     {
         for _ in rt.forever() {
             let old = self.status(book, pass);
+            if old >= ticket.value() {
+                break;
+            }
             if self.try_signal(book, pass, old, ticket) {
                 break;
             }

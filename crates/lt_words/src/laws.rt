@@ -3,7 +3,7 @@
 //! Each law is the contract of a function without work. What a pass or a front has seen is a legal history
 //! (`Pass::legal`, `Front::legal`), and a later sight goes on from an earlier one; so the laws tell what the caller may
 //! conclude from what it was told at different times, and from what others were told.
-ghost use Rattle.lt_words.specs.Laws.{DrawsGiveTheNext, NumbersRise, NumbersAreOfDraws, NumbersAreDrawnOnce, NumbersAreOfOnePass, BeginningsAreLegal, PartsBegin, StepsStay, DrawsStay, LetsStay, PartsAreAtHome, PartsAreLegal};
+ghost use Rattle.lt_words.specs.Laws.{DrawsGiveTheNext, NumbersRise, NumbersAreOfDraws, NumbersAreDrawnOnce, NumbersAreOfOnePass, BeginningsAreLegal, PartsBegin, StepsStay, DrawsStay, LetsStay, WordsRise, ShownStays, WordsAreLets, PartsAreAtHome, PartsAreLegal};
 ghost use Rattle.lt_words.specs.History.{OneHolderAtEachKey, ReadsPassAtEachKey};
 
 use lt_plain::laws::{one_holder, reads_pass};
@@ -56,6 +56,21 @@ pub fn draws_stay()
 /// A let stays.
 pub fn lets_stay()
     ensures { LetsStay }
+{}
+
+/// The status word of a pass never falls.
+pub fn words_rise()
+    ensures { WordsRise }
+{}
+
+/// A ticket that was shown stays so.
+pub fn shown_stays()
+    ensures { ShownStays }
+{}
+
+/// A status word is 0, or a ticket of its pass that was let through.
+pub fn words_are_lets()
+    ensures { WordsAreLets }
 {}
 
 /// The steps of a shard's part are of keys of that shard.

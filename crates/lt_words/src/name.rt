@@ -8,5 +8,7 @@ pub trait Name {
 }
 
 impl Name for std::marker::Brand {
-    ghost of = { record { book = record { number = 0; log_name = 0; cells_name = 0 }; shards = 1; passes = 1 } };
+    ghost use Rattle.lt_words.specs.declared.keeping.Keeping.TheVariants.{Whole};
+
+    ghost of = { record { book = record { number = 0; log_name = 0; cells_name = 0 }; shards = 1; passes = 1; keeping = Whole } };
 }

@@ -6,6 +6,8 @@ mod named;
 #[cfg(test)]
 mod race;
 #[cfg(test)]
+mod seat;
+#[cfg(test)]
 mod sharding;
 #[cfg(test)]
 mod shown;

@@ -1,7 +1,7 @@
 //! How a function over a name is called for the book that was just opened.
 ghost use Rattle.std.specs.Prelude.{◌≡◌, IfOk, []};
 
-use lt_words::{Book, Front, Name};
+use lt_words::{Book, Front, Name, abandon_all};
 use std::alloc::{AllocError, Global};
 use std::marker::Brand;
 
@@ -19,7 +19,8 @@ fn front_of<N: Name>(book: &Book) -> Front
 pub fn open_by_name(alloc: Global) -> Result<(Book, Front), AllocError>
     ensures { IfOk result (λ r. r.1.of ≡ r.0) }
 {
-    let (book, _passes) = Book::open(alloc, 2, 2)?;
+    let (book, passes) = Book::open(alloc, 2, 2)?;
+    abandon_all(passes);
     let front = front_of::<Brand>(&book);
     Ok((book, front))
 }

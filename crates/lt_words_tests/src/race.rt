@@ -1,10 +1,11 @@
 ghost use Rattle.std.specs.Prelude.{◌≡◌, ◌<◌, ◌≤◌, ◌^◌, IfOk, IfSome, []};
 ghost use Rattle.lt_words.specs.Row.{Opening};
 
+use crate::seat::Seat;
 use lt_history::Entry;
 use lt_ids::{IdError, Key, TxnId};
 use lt_plain::{Call, Reply};
-use lt_words::{Book, Pass, shard_of};
+use lt_words::{Book, Pass, abandon_all, shard_of};
 use std::alloc::{AllocError, Global};
 use std::sync::Wait;
 use std::thread::{Threads, join};
@@ -12,7 +13,7 @@ use std::thread::{Threads, join};
 /// What a worker hands back: its pass, and the numbers that it drew.
 #[derive(Drop)]
 struct Worked {
-    pass: Pass,
+    seat: Seat,
     numbers: Vec<u64>,
 }
 
@@ -58,26 +59,26 @@ fn work<R: Wait>(
     rt: &R,
     alloc: Global,
     book: &Book,
-    mut pass: Pass,
+    mut seat: Seat,
     first: u8,
     draws: u64,
 ) -> Option<Worked>
-    requires of { book.now ≡ pass.of }
+    requires of { book.now ≡ seat.pass.of }
     requires shards { book.now.shards ≡ 64 }
     requires keys { first ≤ 100 }
-    ensures { IfSome result (λ w. w.pass.of ≡ pass.of) }
+    ensures { IfSome result (λ w. w.seat.pass.of ≡ seat.pass.of) }
 {
     let txn = TxnId::new(8)?;
     let mut numbers = Vec::new(alloc);
     for _ in 0..draws {
-        let number = book.draw(rt, &mut pass, 1 << 40)?;
+        let number = book.draw(rt, &mut seat.pass, 1 << 40)?;
         numbers.push(number).ok()?;
     }
     for k in 0..16 {
-        let entry = idle_finish(alloc, first + k, pass.number(), txn).ok()?;
-        first_step(rt, book, &mut pass, 64, &entry, txn);
+        let entry = idle_finish(alloc, first + k, seat.pass.number(), txn).ok()?;
+        first_step(rt, book, &mut seat.pass, 64, &entry, txn);
     }
-    Some(Worked { pass, numbers })
+    Some(Worked { seat, numbers })
 }
 
 /// Two workers at once.
@@ -85,27 +86,27 @@ fn two_workers<R: Threads + Wait + Sync>(
     rt: &R,
     alloc: Global,
     book: &Book,
-    one: Pass,
-    two: Pass,
+    one: Seat,
+    two: Seat,
     first: u8,
     draws: u64,
 ) -> (Option<Worked>, Option<Worked>)
-    requires one { book.now ≡ one.of }
-    requires two { book.now ≡ two.of }
+    requires one { book.now ≡ one.pass.of }
+    requires two { book.now ≡ two.pass.of }
     requires shards { book.now.shards ≡ 64 }
     requires keys { first ≤ 84 }
-    ensures one { IfSome result.0 (λ w. w.pass.of ≡ book.now) }
-    ensures two { IfSome result.1 (λ w. w.pass.of ≡ book.now) }
+    ensures one { IfSome result.0 (λ w. w.seat.pass.of ≡ book.now) }
+    ensures two { IfSome result.1 (λ w. w.seat.pass.of ≡ book.now) }
 {
     join(
         rt,
         || -> Option<Worked>
-            requires { (book.now ≡ one.of) × (book.now.shards ≡ 64) × (first ≤ 84) }
-            ensures { IfSome result (λ w. w.pass.of ≡ book.entry.now) }
+            requires { (book.now ≡ one.pass.of) × (book.now.shards ≡ 64) × (first ≤ 84) }
+            ensures { IfSome result (λ w. w.seat.pass.of ≡ book.entry.now) }
         { work(rt, alloc, book, one, first, draws) },
         || -> Option<Worked>
-            requires { (book.now ≡ two.of) × (book.now.shards ≡ 64) × (first ≤ 84) }
-            ensures { IfSome result (λ w. w.pass.of ≡ book.entry.now) }
+            requires { (book.now ≡ two.pass.of) × (book.now.shards ≡ 64) × (first ≤ 84) }
+            ensures { IfSome result (λ w. w.seat.pass.of ≡ book.entry.now) }
         { work(rt, alloc, book, two, first + 16, draws) },
     )
 }
@@ -115,25 +116,25 @@ fn four_workers<R: Threads + Wait + Sync>(
     rt: &R,
     alloc: Global,
     book: &Book,
-    passes: (Pass, Pass, Pass, Pass),
+    seats: (Seat, Seat, Seat, Seat),
     draws: u64,
 ) -> Option<(Worked, Worked, Worked, Worked)>
-    requires one { book.now ≡ passes.0.of }
-    requires two { book.now ≡ passes.1.of }
-    requires three { book.now ≡ passes.2.of }
-    requires four { book.now ≡ passes.3.of }
+    requires one { book.now ≡ seats.0.pass.of }
+    requires two { book.now ≡ seats.1.pass.of }
+    requires three { book.now ≡ seats.2.pass.of }
+    requires four { book.now ≡ seats.3.pass.of }
     requires shards { book.now.shards ≡ 64 }
-    ensures { IfSome result (λ w. w.3.pass.of ≡ book.now) }
+    ensures { IfSome result (λ w. w.3.seat.pass.of ≡ book.now) }
 {
-    let (one, two, three, four) = passes;
+    let (one, two, three, four) = seats;
     let (front, back) = join(
         rt,
         || -> (Option<Worked>, Option<Worked>)
-            requires { (book.now ≡ one.of) × (book.now ≡ two.of) × (book.now.shards ≡ 64) }
+            requires { (book.now ≡ one.pass.of) × (book.now ≡ two.pass.of) × (book.now.shards ≡ 64) }
         { two_workers(rt, alloc, book, one, two, 33, draws) },
         || -> (Option<Worked>, Option<Worked>)
-            requires { (book.now ≡ three.of) × (book.now ≡ four.of) × (book.now.shards ≡ 64) }
-            ensures { IfSome result.1 (λ w. w.pass.of ≡ book.entry.now) }
+            requires { (book.now ≡ three.pass.of) × (book.now ≡ four.pass.of) × (book.now.shards ≡ 64) }
+            ensures { IfSome result.1 (λ w. w.seat.pass.of ≡ book.entry.now) }
         { two_workers(rt, alloc, book, three, four, 65, draws) },
     );
     let (a, b) = front;
@@ -154,30 +155,56 @@ fn one_step_each<R: Wait>(rt: &R, book: &Book, pass: &mut Pass)
 }
 
 /// A new book of 64 shards, and its two passes.
-fn open_for_two(alloc: Global) -> Option<(Book, Pass, Pass)>
+pub fn open_for_two(alloc: Global) -> Option<(Book, Seat, Seat)>
     ensures shards { IfSome result (λ r. r.0.shards ≡ 64) }
-    ensures one { IfSome result (λ r. r.1.of ≡ r.0) }
-    ensures two { IfSome result (λ r. r.2.of ≡ r.0) }
+    ensures one { IfSome result (λ r. r.1.pass.of ≡ r.0) }
+    ensures two { IfSome result (λ r. r.2.pass.of ≡ r.0) }
 {
     let (book, mut passes) = Book::open(alloc, 64, 2).ok()?;
-    let two = passes.pop()?;
-    let one = passes.pop()?;
+    let Some(two) = passes.pop() else {
+        abandon_all(passes);
+        return None;
+    };
+    let two = Seat { pass: two };
+    let Some(one) = passes.pop() else {
+        abandon_all(passes);
+        return None;
+    };
+    let one = Seat { pass: one };
+    abandon_all(passes);
     Some((book, one, two))
 }
 
 /// A new book of 64 shards, and its four passes.
-fn open_for_four(alloc: Global) -> Option<(Book, (Pass, Pass, Pass, Pass))>
+fn open_for_four(alloc: Global) -> Option<(Book, (Seat, Seat, Seat, Seat))>
     ensures shards { IfSome result (λ r. r.0.shards ≡ 64) }
-    ensures one { IfSome result (λ r. r.1.0.of ≡ r.0) }
-    ensures two { IfSome result (λ r. r.1.1.of ≡ r.0) }
-    ensures three { IfSome result (λ r. r.1.2.of ≡ r.0) }
-    ensures four { IfSome result (λ r. r.1.3.of ≡ r.0) }
+    ensures one { IfSome result (λ r. r.1.0.pass.of ≡ r.0) }
+    ensures two { IfSome result (λ r. r.1.1.pass.of ≡ r.0) }
+    ensures three { IfSome result (λ r. r.1.2.pass.of ≡ r.0) }
+    ensures four { IfSome result (λ r. r.1.3.pass.of ≡ r.0) }
 {
     let (book, mut passes) = Book::open(alloc, 64, 4).ok()?;
-    let four = passes.pop()?;
-    let three = passes.pop()?;
-    let two = passes.pop()?;
-    let one = passes.pop()?;
+    let Some(four) = passes.pop() else {
+        abandon_all(passes);
+        return None;
+    };
+    let four = Seat { pass: four };
+    let Some(three) = passes.pop() else {
+        abandon_all(passes);
+        return None;
+    };
+    let three = Seat { pass: three };
+    let Some(two) = passes.pop() else {
+        abandon_all(passes);
+        return None;
+    };
+    let two = Seat { pass: two };
+    let Some(one) = passes.pop() else {
+        abandon_all(passes);
+        return None;
+    };
+    let one = Seat { pass: one };
+    abandon_all(passes);
     Some((book, (one, two, three, four)))
 }
 
@@ -201,15 +228,15 @@ pub fn drawn_by_four<R: Threads + Wait + Sync>(
     alloc: Global,
     draws: u64,
 ) -> Option<(Vec<u64>, u64)> {
-    let (book, passes) = open_for_four(alloc)?;
-    let (a, b, c, d) = four_workers(rt, alloc, &book, passes, draws)?;
+    let (book, seats) = open_for_four(alloc)?;
+    let (a, b, c, d) = four_workers(rt, alloc, &book, seats, draws)?;
     let mut numbers = a.numbers;
     for more in [b.numbers, c.numbers, d.numbers] {
         numbers.extend_from_slice(&more).ok()?;
     }
-    let mut last = d.pass;
-    one_step_each(rt, &book, &mut last);
-    Some((numbers, book.drawn(&mut last)))
+    let mut last = d.seat;
+    one_step_each(rt, &book, &mut last.pass);
+    Some((numbers, book.drawn(&mut last.pass)))
 }
 
 /// The least and the greatest of these numbers, and how many different ones they are.

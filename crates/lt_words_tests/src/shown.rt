@@ -88,14 +88,14 @@ fn step<R: Wait>(rt: &R, book: &Book, pass: &mut Pass, front: &mut Front, count:
 }
 
 /// Takes the lock and frees it while another pass waits with two requests, and shows that pass its lets, one after the
-/// other: what it reads after each.
+/// other, and the earlier one once more: what it reads after each.
 pub fn show_two_lets<R: Wait>(
     rt: &R,
     alloc: Global,
     book: &Book,
     waiter: &mut Pass,
     holder: &mut Pass,
-) -> Option<(u64, u64)>
+) -> Option<(u64, u64, u64)>
     requires waiter_of { book.now ≡ waiter.old.of }
     requires holder_of { book.now ≡ holder.old.of }
     requires shards { book.now.shards ≡ 64 }
@@ -114,9 +114,11 @@ pub fn show_two_lets<R: Wait>(
     step(rt, book, waiter, &mut front, 1, &first);
     step(rt, book, waiter, &mut front, 2, &second);
     step(rt, book, holder, &mut front, 3, &freed);
-    book.signal(rt, holder, waits, two);
-    let old = book.read(waiter);
     book.signal(rt, holder, waits, one);
+    let old = book.read(waiter);
+    book.signal(rt, holder, waits, two);
     let new = book.read(waiter);
-    Some((old, new))
+    book.signal(rt, holder, waits, one);
+    let last = book.read(waiter);
+    Some((old, new, last))
 }

@@ -1,8 +1,9 @@
 use crate::named::open_by_name;
-use crate::race::{drawn_by_four, drawn_by_two, spread};
+use crate::race::{drawn_by_four, drawn_by_two, open_for_two, spread};
+use crate::seat::Seat;
 use crate::sharding::shards_of;
 use crate::shown::show_two_lets;
-use lt_words::Book;
+use lt_words::{Book, Keeping, abandon_all};
 use std::test::Fail;
 
 #[test]
@@ -23,15 +24,16 @@ fn two_threads_draw_each_number_once(rt: HostRuntime) -> Result<(), Fail> {
 }
 
 #[test]
-fn a_poll_sees_the_latest_let(rt: HostRuntime) -> Result<(), Fail> {
-    let (book, mut passes) = Book::open(rt.alloc(), 64, 2)?;
-    let mut holder = passes.pop().ok_or("pass 2")?;
-    let mut waiter = passes.pop().ok_or("pass 1")?;
-    assert_eq!(rt; book.read(&mut waiter), 0);
-    let shown = show_two_lets(&rt, rt.alloc(), &book, &mut waiter, &mut holder).ok_or("the steps")?;
-    // The tickets 2.1 and 1.1: a number times 2^24, and the wait.
-    assert_eq!(rt; shown, (33_554_433, 16_777_217));
-    assert_eq!(rt; book.read(&mut holder), 0);
+fn a_poll_sees_the_highest_let(rt: HostRuntime) -> Result<(), Fail> {
+    let (book, one, two) = open_for_two(rt.alloc()).ok_or("the book")?;
+    let (mut waiter, mut holder) = (one, two);
+    assert_eq!(rt; book.read(&mut waiter.pass), 0);
+    let shown = show_two_lets(&rt, rt.alloc(), &book, &mut waiter.pass, &mut holder.pass).ok_or(
+        "the steps",
+    )?;
+    // The tickets 1.1 and 2.1, a number times 2^24, and the wait; and no word falls.
+    assert_eq!(rt; shown, (16_777_217, 33_554_433, 33_554_433));
+    assert_eq!(rt; book.read(&mut holder.pass), 0);
     Ok(())
 }
 
@@ -42,10 +44,13 @@ fn a_refused_open_can_be_made_again(rt: HostRuntime) -> Result<(), Fail> {
         Err(_) => Book::open(rt.alloc(), 2, 3)?,
     };
     let (book, mut passes) = opened;
-    assert_eq!(rt; passes.len(), 3);
-    let mut last = passes.pop().ok_or("pass 3")?;
-    assert_eq!(rt; last.number(), 3);
-    assert_eq!(rt; book.drawn(&mut last), 0);
+    let count = passes.len();
+    let last = passes.pop();
+    abandon_all(passes);
+    assert_eq!(rt; count, 3);
+    let mut last = Seat::of(last).ok_or("pass 3")?;
+    assert_eq!(rt; last.pass.number(), 3);
+    assert_eq!(rt; book.drawn(&mut last.pass), 0);
     Ok(())
 }
 
@@ -63,10 +68,12 @@ fn a_book_is_used_by_its_name(rt: HostRuntime) -> Result<(), Fail> {
 #[test]
 fn no_number_past_the_limit_is_drawn(rt: HostRuntime) -> Result<(), Fail> {
     let (book, mut passes) = Book::open(rt.alloc(), 1, 1)?;
-    let mut pass = passes.pop().ok_or("pass 1")?;
-    assert_eq!(rt; book.draw(&rt, &mut pass, 1), Some(1));
-    assert_eq!(rt; book.draw(&rt, &mut pass, 1), None);
-    assert_eq!(rt; book.draw(&rt, &mut pass, 1), None);
+    let pass = passes.pop();
+    abandon_all(passes);
+    let mut seat = Seat::of(pass).ok_or("pass 1")?;
+    assert_eq!(rt; book.draw(&rt, &mut seat.pass, 1), Some(1));
+    assert_eq!(rt; book.draw(&rt, &mut seat.pass, 1), None);
+    assert_eq!(rt; book.draw(&rt, &mut seat.pass, 1), None);
     Ok(())
 }
 
@@ -76,5 +83,18 @@ fn a_shard_is_the_sum_of_the_bytes_among_so_many(rt: HostRuntime) -> Result<(), 
     assert_eq!(rt; shards_of(rt.alloc(), b"ab"), Some((0, 1, 8, 3)));
     // The sum is 64 * 126 = 8064, which is 733 * 11 + 1.
     assert_eq!(rt; shards_of(rt.alloc(), &[b'~'; 64]), Some((0, 0, 1, 0)));
+    Ok(())
+}
+
+#[test]
+fn a_book_says_how_its_table_keeps_steps(rt: HostRuntime) -> Result<(), Fail> {
+    for keeping in [Keeping::Whole, Keeping::Streamed, Keeping::Unrecorded] {
+        let (book, passes) = Book::open_keeping(rt.alloc(), 1, 1, keeping)?;
+        abandon_all(passes);
+        assert_eq!(rt; book.keeping(), keeping);
+    }
+    let (book, passes) = Book::open(rt.alloc(), 1, 1)?;
+    abandon_all(passes);
+    assert_eq!(rt; book.keeping(), Keeping::Whole);
     Ok(())
 }

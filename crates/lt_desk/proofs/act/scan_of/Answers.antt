@@ -7,12 +7,12 @@ use Rattle.lt_desk.specs.Told.{Tells}
 use Rattle.lt_desk.proofs.Scans.{tells_scan, scans_draw_none}
 use Rattle.lt_desk.proofs.act.scan_of.Goals as goal
 
-pub returns : goal.returns
-returns g c =
+pub returns-in-Ok : goal.returns-in-Ok
+returns-in-Ok g c =
     let old : GuardState = c.args.guard in
     let new : GuardState = c.scan-ended.new.guard in
     let s : IsScan c.args.table.now.max_waits old new c.scan-ended.result = c.scan-ended.ensures.scan in
-    let told : IsScanAnswer old.walk.asked.keys c.scan-ended.result c.in_ok-answer.answer = subst (λ (ks : List (List ℕ × Access)). IsScanAnswer ks c.scan-ended.result c.in_ok-answer.answer) (c.keys.ensures ∙ ap (λ (a : Asked). a.keys) c.scan-ended.ensures.stays.asked) c.in_ok-answer.ensures in
+    let told : IsScanAnswer old.walk.asked.keys c.scan-ended.result c.in-Ok.answer = subst (λ (ks : List (List ℕ × Access)). IsScanAnswer ks c.scan-ended.result c.in-Ok.answer) (c.keys.ensures ∙ ap (λ (a : Asked). a.keys) c.scan-ended.ensures.stays.asked) c.in-Ok.ensures in
     record {
       word = s.word;
       steps = s.steps;
@@ -23,12 +23,12 @@ returns g c =
         told = told;
         goes_on = refl;
       };
-      tells = subst (λ (ns : List ℕ). Tells old.pass new.pass s.steps ns (let_gone_on (Some old.walk) s.word)) (sym (scans_draw_none old.walk.asked.keys c.scan-ended.result c.in_ok-answer.answer told))
+      tells = subst (λ (ns : List ℕ). Tells old.pass new.pass s.steps ns (let_gone_on (Some old.walk) s.word)) (sym (scans_draw_none old.walk.asked.keys c.scan-ended.result c.in-Ok.answer told))
           (tells_scan c.args.table.now.max_waits old new c.scan-ended.result s c.scan-ended.ensures.stays.pass.number c.scan-ended.ensures.went_on);
     }
 
-pub scan_answer-requires-clause-waiting : goal.scan_answer-requires-clause-waiting
-scan_answer-requires-clause-waiting g c = λ place e. subst (λ (ks : List (List ℕ × Access)). place < length ks) (sym c.keys.ensures) (c.scan-ended.ensures.waiting place e)
+pub scan_answer-answered-requires-clause-waiting : goal.scan_answer-answered-requires-clause-waiting
+scan_answer-answered-requires-clause-waiting g c = λ place e. subst (λ (ks : List (List ℕ × Access)). place < length ks) (sym c.keys.ensures) (c.scan-ended.ensures.waiting place e)
 
-pub scan_answer-requires-clause-stopped : goal.scan_answer-requires-clause-stopped
-scan_answer-requires-clause-stopped g c = λ place e. subst (λ (ks : List (List ℕ × Access)). place < length ks) (sym c.keys.ensures) (c.scan-ended.ensures.stopped place e)
+pub scan_answer-answered-requires-clause-stopped : goal.scan_answer-answered-requires-clause-stopped
+scan_answer-answered-requires-clause-stopped g c = λ place e. subst (λ (ks : List (List ℕ × Access)). place < length ks) (sym c.keys.ensures) (c.scan-ended.ensures.stopped place e)

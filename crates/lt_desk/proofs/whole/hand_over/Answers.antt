@@ -1,9 +1,10 @@
-use Rattle.std.proofs.Common.{◌≡◌, ◌∷◌, ◌++◌, [], List, length, map, rules, sym, ap, refl, ◌∙◌}
+use Rattle.std.proofs.Common.{◌≡◌, ◌∷◌, ◌++◌, [], List, length, map, rules, sym, ap, refl, ◌∙◌, subst, arith}
 use Rattle.std.specs.Global.{Vec}
-use Rattle.std.proofs.lemmas.List.{map-append}
+use Rattle.std.proofs.lemmas.List.{map-append, length-append}
 use Rattle.std.proofs.lemmas.Iterator.Adapters.{YieldsList-from_vec}
 use Rattle.std.proofs.lemmas.Iterator.Consumers.{YieldsList-turn}
 use Rattle.lt_desk.specs.Desks.{pass_of}
+use Rattle.lt_desk.specs.declared.desk.Desk.{Desk}
 use Rattle.lt_desk.specs.declared.answer.AnswerLine.{AnswerLine}
 use Rattle.lt_desk.specs.declared.outcome.Finish.{Finish}
 use Rattle.lt_desk.specs.declared.outcome.Work.{Work}
@@ -16,12 +17,15 @@ loop-work-preserved g c =
     let turn = YieldsList-turn (YieldsList-from_vec {s = c.into_iter-work-iterator.result} c.args.works.items (search rules) (search rules)) c.loop-work.yielded c.loop-work.work-iterator c.loop-work.yielded_by c.next.result c.next.new.self c.in-Some.work c.in-Some.is c.next.ensures.steps in
     let w : Work = c.in-Some.work in
     let of : (pass_of w.desk).of ≡ g.N.Name.of = ap (λ (x : Work). (pass_of x.desk).of) turn.1 ∙ c.requires (length c.loop-work.yielded) w turn.0 in
-    let put : IsPut w.desk c.loop-work.passes.items c.loop-work.guards.items c.put.new.passes.items c.put.new.guards.items = c.in_ok-put.ensures in
+    let put : IsPut w.desk c.loop-work.passes.items c.loop-work.guards.items c.put.new.passes.items c.put.new.guards.items = subst (λ (d : Desk). IsPut d c.loop-work.passes.items c.loop-work.guards.items c.put.new.passes.items c.put.new.guards.items) c.into_parts-desk.ensures.desk c.put.ensures.put in
     let inv = c.loop-work.invariant in
     record {
       passes = put_passes g.N.Name.of w.desk c.loop-work.passes.items c.put.new.passes.items c.loop-work.guards.items c.put.new.guards.items put of inv.passes;
       guards = put_guards g.N.Name.of w.desk c.loop-work.passes.items c.put.new.passes.items c.loop-work.guards.items c.put.new.guards.items put of inv.guards;
       handed = put_handed w.desk c.loop-work.passes.items c.put.new.passes.items c.loop-work.guards.items c.put.new.guards.items c.loop-work.yielded w refl put inv.handed;
-      answers = c.in-Ok.ensures.items ∙ (ap (λ (vs : List (Vec AnswerLine)). vs ++ w.answers ∷ []) inv.answers ∙ sym (map-append (λ (x : Work). x.answers) c.loop-work.yielded (w ∷ [])));
-      finish = c.join-finish.ensures ∙ (ap (λ (f : Finish). join f w.finish) inv.finish ∙ (sym (finish_more (map (λ (x : Work). x.finish) c.loop-work.yielded) w.finish) ∙ ap finish_all (sym (map-append (λ (x : Work). x.finish) c.loop-work.yielded (w ∷ [])))));
+      answers = c.push_reserved.ensures.items ∙ (ap (λ v. c.loop-work.answers.items ++ v ∷ []) c.into_parts-desk.ensures.answers ∙ ap (λ (vs : List (Vec AnswerLine)). vs ++ w.answers ∷ []) inv.answers ∙ sym (map-append (λ (x : Work). x.answers) c.loop-work.yielded (w ∷ [])));
+      finish = c.join-finish.ensures ∙ (ap (λ (f : Finish). join c.loop-work.finish f) c.into_parts-desk.ensures.finish ∙ ap (λ (f : Finish). join f w.finish) inv.finish ∙ (sym (finish_more (map (λ (x : Work). x.finish) c.loop-work.yielded) w.finish) ∙ ap finish_all (sym (map-append (λ (x : Work). x.finish) c.loop-work.yielded (w ∷ [])))));
+      room_for_passes = (omega (arith, c.put.ensures.passes.1, inv.room_for_passes.0, length-append c.loop-work.yielded (w ∷ [])), c.put.ensures.passes.0 ∙ inv.room_for_passes.1);
+      room_for_guards = (omega (arith, c.put.ensures.guards.1, inv.room_for_guards.0, length-append c.loop-work.yielded (w ∷ [])), c.put.ensures.guards.0 ∙ inv.room_for_guards.1);
+      room_for_answers = c.push_reserved.ensures.capacity ∙ inv.room_for_answers;
     }

@@ -1,4 +1,4 @@
-use Rattle.std.proofs.Common.{◌≡◌, map}
+use Rattle.std.proofs.Common.{◌≡◌, ◌≤◌, length, map, vec_capacity}
 use Rattle.std.specs.List.{AllByRecursion}
 use Rattle.lt_table.specs.Closed.{passes_of}
 use Rattle.lt_desk.specs.Closing.{AreHanded, finish_all}
@@ -11,4 +11,7 @@ invariant-loop-work g l = record {
   handed : AreHanded (passes_of l.passes.items l.guards.items) l.yielded;
   answers : l.answers.items ≡ map (λ w. w.answers) l.yielded;
   finish : l.finish ≡ finish_all (map (λ w. w.finish) l.yielded);
+  room_for_passes : (length l.passes.items ≤ length l.yielded) × (vec_capacity l.passes ≡ vec_capacity l.initial.passes);
+  room_for_guards : (length l.guards.items ≤ length l.yielded) × (vec_capacity l.guards ≡ vec_capacity l.initial.guards);
+  room_for_answers : vec_capacity l.answers ≡ vec_capacity l.initial.answers;
 }

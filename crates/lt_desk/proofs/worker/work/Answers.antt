@@ -1,6 +1,6 @@
-use Rattle.std.proofs.Common.{Bool, arith}
+use Rattle.std.proofs.Common.{Bool, sym, ◌∙◌}
 use Rattle.lt_desk.specs.Machine.{Rules}
-use Rattle.lt_desk.proofs.Lines.{worked_none, worked_mine, worked_other}
+use Rattle.lt_desk.proofs.Lines.{worked_none, worked_mine, worked_other, is_same, is_other}
 use Rattle.lt_desk.proofs.worker.work.Goals.{then-number+in_ok-work, else-number}
 use Rattle.lt_desk.proofs.worker.work.Goals as goal
 
@@ -14,8 +14,8 @@ loop-command-preserved g c =
     elim c.if-number.branch [
       | then-number+in_ok-work w ↦
           rw w.work-is (worked_mine rules always c.args.pass c.args.commands.now c.loop-command.command-index c.command-item.result c.loop-command.work w.in_ok-work.work
-          c.loop-command-test.true c.command-item.is (grind (arith, c.number.ensures.value, c.number-number.ensures.number, w.if-number.true)) c.loop-command.invariant w.in_ok-work.ensures)
+          c.loop-command-test.true c.command-item.is (is_same c.command-item.result.pass c.args.pass.number (sym c.number.ensures.value ∙ w.if-number.true ∙ c.number-number.ensures.number)) c.loop-command.invariant w.in_ok-work.ensures)
       | else-number w ↦
           rw w.work-is (worked_other rules always c.args.pass c.args.commands.now c.loop-command.command-index c.command-item.result c.loop-command.work
-          c.loop-command-test.true c.command-item.is (grind (arith, c.number.ensures.value, c.number-number.ensures.number, w.if-number.false)) c.loop-command.invariant)
+          c.loop-command-test.true c.command-item.is (is_other c.command-item.result.pass c.args.pass.number (λ e. w.if-number.false (c.number.ensures.value ∙ e ∙ sym c.number-number.ensures.number))) c.loop-command.invariant)
     ]

@@ -4,4 +4,4 @@ use Rattle.lt_table.specs.Closed.{passes_of, IsCounted}
 use Rattle.lt_table.proofs.closing.first_miscounted.Given as goal
 
 abbrev pub invariant-loop-place : goal.invariant-loop-place
-invariant-loop-place g l = (s : ℕ) (v : View) → s < l.place → IsCounted (passes_of l.passes l.guards) s (slice_index_or l.shards s v)
+invariant-loop-place g l = (s : ℕ) (v : View) → s < l.place → IsCounted l.only_whole (passes_of l.passes l.guards) s (slice_index_or l.shards s v)

@@ -2,9 +2,9 @@ use Rattle.std.proofs.Common.{◌≡◌}
 use Rattle.lt_words_tests.proofs.race.work.Given as goal
 
 abbrev pub invariant-loop : goal.invariant-loop
-invariant-loop g l = l.pass.of ≡ l.initial.pass.of
+invariant-loop g l = l.seat.pass.of ≡ l.initial.seat.pass.of
 
 abbrev pub invariant-loop-k : goal.invariant-loop-k
 invariant-loop-k g l = record {
-  of : l.pass.of ≡ l.fn.pass.of;
+  of : l.seat.pass.of ≡ l.fn.seat.pass.of;
 }

@@ -1,11 +1,9 @@
-use Rattle.std.proofs.Common.{◌≡◌, map}
-use Rattle.lt_table.proofs.Ends.{all_of_both, all_mapped}
+use Rattle.std.proofs.Common.{refl}
+use Rattle.lt_table.specs.Closed.{passes_of}
+use Rattle.lt_table.proofs.Ends.{whole_closed}
 use Rattle.lt_table.proofs.table.Table.close.Goals as goal
 
-pub end-requires-clause-passes : goal.end-requires-clause-passes
-end-requires-clause-passes g c =
-    rw (c.all_passes-passes.ensures, c.take_room.ensures.passes)
-    (all_of_both (λ p. p.of ≡ g.N.Name.of) c.args.passes.items (map (λ g. g.pass) c.args.guards.items) c.requires.passes (all_mapped (λ p. p.of ≡ g.N.Name.of) (λ g. g.pass) c.args.guards.items c.requires.guards))
-
-pub end-requires-clause-counted : goal.end-requires-clause-counted
-end-requires-clause-counted g c = rw (c.all_passes-passes.ensures, ← c.deref.ensures.value, ← c.deref-2.ensures.value, ← c.deref-3.ensures.value) c.in_default-first_miscounted.ensures
+pub returns-clause-closed : goal.returns-clause-closed
+returns-clause-closed g c =
+    let e = c.in_ok-ended.ended in
+    whole_closed g.N.Name.of (passes_of c.args.passes.items c.args.guards.items) e.rests.shards.items c.into_histories.result.shards.items e.rests.draws c.into_histories.result.draws c.in_ok-ended.ensures.closed (c.in_ok-ended.ensures.whole refl) c.into_histories.ensures.shards c.into_histories.ensures.draws

@@ -3,6 +3,7 @@ use Rattle.lt_words.specs.Rules.{word_at}
 use Rattle.lt_words.specs.Row.{opening_of}
 use Rattle.lt_words.proofs.Lines.{word_of}
 use Rattle.lt_words.proofs.Moving.{draw_moves}
+use Rattle.lt_words.proofs.Logs.{sight_grows}
 use Rattle.lt_words.proofs.front.Front.try_draw.Goals as goal
 
 pub compare_exchange-found-requires : goal.compare_exchange-found-requires
@@ -16,5 +17,12 @@ compare_exchange-found-requires c =
       sym (ap (λ w. w.book) h),
       pen.0 ∙ sym (ap (λ w. w.book) h),
       offer.0,
-      rw (ap (λ w. w.key) h, pen.1, offer.1, offer.3) (draw_moves c.self.inside.seen.log c.args.pass c.args.old (c.args.old + 1) refl),
+      rw (ap (λ w. w.key) h, pen.1, offer.1, offer.3) (draw_moves c.self.inside.seen.log c.args.pass c.args.old (c.args.old + 1) c.self.invariant refl),
     )
+
+pub returns-clause-more : goal.returns-clause-more
+returns-clause-more c =
+    let seen = c.self.inside.seen in
+    let after = c.compare_exchange-found.new.seen in
+    let told = c.compare_exchange-found.ensures in
+    rw (← c.self.view_is) (sight_grows seen.book after.book seen.log after.log told.0 c.self.invariant told.6)

@@ -1,9 +1,10 @@
 use Rattle.std.proofs.Common.{◌≡◌, ◌+◌, ◌≤◌, sym, ◌∙◌, ap, arith}
 use Rattle.lt_words.specs.History.{LetIn}
-use Rattle.lt_words.specs.Rules.{word_at, history_of}
-use Rattle.lt_words.specs.Row.{opening_of, shards_in, passes_in}
+use Rattle.lt_words.specs.Rules.{word_at, history_of, passes_in}
+use Rattle.lt_words.specs.Row.{opening_of}
 use Rattle.lt_words.proofs.Lines.{word_of}
 use Rattle.lt_words.proofs.Moving.{signal_moves}
+use Rattle.lt_words.proofs.Logs.{sight_grows}
 use Rattle.lt_words.proofs.front.Front.try_signal.Goals as goal
 
 pub compare_exchange-found-requires : goal.compare_exchange-found-requires
@@ -21,5 +22,12 @@ compare_exchange-found-requires c =
       sym (ap (λ w. w.book) h),
       pen.0 ∙ sym (ap (λ w. w.book) h),
       offer.0,
-      rw (ap (λ w. w.key) h, pen.1, offer.3) (signal_moves (shards_in log) (passes_in log) log c.args.pass c.args.old c.value.result c.args.ticket c.plain-offer.result.ask c.self.invariant c.requires.low high (rw (← c.number.ensures.value) c.number.ensures.range) (rw (← c.wait.ensures.value) c.wait.ensures.range) c.value.ensures.value through),
+      rw (ap (λ w. w.key) h, pen.1, offer.1, offer.3) (signal_moves log c.args.old c.value.result (record { pass = c.args.pass; ticket = c.args.ticket }) c.self.invariant c.requires.low high (omega (arith, c.requires.below, c.value.ensures.value)) (rw (← c.number.ensures.value) c.number.ensures.range) (rw (← c.wait.ensures.value) c.wait.ensures.range) c.value.ensures.value through),
     )
+
+pub returns-clause-more : goal.returns-clause-more
+returns-clause-more c =
+    let seen = c.self.inside.seen in
+    let after = c.compare_exchange-found.new.seen in
+    let told = c.compare_exchange-found.ensures in
+    rw (← c.self.view_is) (sight_grows seen.book after.book seen.log after.log told.0 c.self.invariant told.6)

@@ -1,11 +1,15 @@
-use Rattle.std.proofs.Common.{◌≡◌, ◌+◌, ◌<◌, sym, ◌∙◌, ap, refl, arith}
+use Rattle.std.proofs.Common.{◌≡◌, ◌+◌, ◌<◌, sym, subst, ◌∙◌, ap, arith, rules}
 use mathlib.Core.List.{IsPrefix}
+use Rattle.logbook.specs.Pages.{step}
 use Rattle.lt_words.specs.declared.event.Event.TheVariants.{Step}
 use Rattle.lt_words.specs.History.{shard_of}
-use Rattle.lt_words.specs.Rules.{word_at, history_of}
-use Rattle.lt_words.specs.Row.{opening_of, shards_in, passes_in}
+use Rattle.lt_words.specs.declared.event.Logged.TheVariants.{Happened}
+use Rattle.lt_words.specs.declared.event.Logged.{Logged}
+use Rattle.lt_words.specs.Rules.{word_at, history_of, shards_in, AddsStep}
+use Rattle.lt_words.specs.Row.{opening_of}
 use Rattle.lt_words.proofs.Lines.{word_of}
-use Rattle.lt_words.proofs.Moving.{step_moves, told_step}
+use Rattle.lt_words.proofs.Moving.{step_moves, at_rest}
+use Rattle.lt_words.proofs.Logs.{sight_grows}
 use Rattle.lt_words.proofs.front.Front.try_step.Goals as goal
 
 pub compare_exchange-found-requires : goal.compare_exchange-found-requires
@@ -19,18 +23,28 @@ compare_exchange-found-requires c =
     let h : c.index.result.now.word ≡ word_at c.self.inside.seen.book (c.args.shard + 1) = word_of c.book.inside.start.of c.book.inside.lines.items c.self.inside.seen.book (c.args.shard + 1) c.index.result.now row (ap (λ o. o.book) same) (omega (arith, row.many)) c.index.ensures in
     let offer = c.plain-offer.ensures in
     let pen = c.no_pen-pen.ensures in
-    let ask : c.plain-offer.result.ask ≡ Step c.args.shard c.args.entry.now = offer.1 ∙ ap (λ e. Step c.args.shard e) c.of.ensures in
+    let ask : c.plain-offer.result.ask ≡ Happened (Step c.args.shard c.args.entry.now) = offer.1 ∙ (λ i. Happened (Step c.args.shard (c.of.ensures i))) in
+    let next : c.in-Some.next ≡ c.args.count + 1 = search rules in
     let begins : IsPrefix c.args.from.now.seen (history_of log) = rw (ap (λ s. s.seen) c.self.view_is) c.requires.begins in (
       ap (λ w. w.tracked) h,
       sym (ap (λ w. w.book) h),
       pen.0 ∙ sym (ap (λ w. w.book) h),
       offer.0,
-      rw (ap (λ w. w.key) h, pen.1, ask, offer.3) (step_moves (shards_in log) (passes_in log) log c.args.from.now.seen c.args.shard c.args.count (c.args.count + 1) c.args.entry.now c.self.invariant begins low c.requires.count refl home c.requires.next),
+      rw (ap (λ w. w.key) h, pen.1, ask, offer.3) (step_moves log c.args.from.now.seen c.args.shard c.args.count c.in-Some.next c.args.entry.now c.self.invariant begins low c.requires.count next home c.requires.next),
     )
 
 pub returns-clause-went : goal.returns-clause-went
 returns-clause-went c =
     let found = c.compare_exchange-found in
     let log = c.self.inside.seen.log in
-    let ask : c.plain-offer.result.ask ≡ Step c.args.shard c.args.entry.now = c.plain-offer.ensures.1 ∙ ap (λ e. Step c.args.shard e) c.of.ensures in
-    rw (← ap (λ s. s.seen) c.self.view_is) (told_step (shards_in log) (passes_in log) log found.new.seen.log c.plain-offer.result.ask c.args.count found.result c.args.shard c.args.entry.now ask c.self.invariant found.ensures.6 found.ensures.7)
+    let ask : c.plain-offer.result.ask ≡ Happened (Step c.args.shard c.args.entry.now) = c.plain-offer.ensures.1 ∙ (λ i. Happened (Step c.args.shard (c.of.ensures i))) in
+    let told : AddsStep (step 0 c.args.count 0 (Happened (Step c.args.shard c.args.entry.now))) (at_rest log) found.result (at_rest found.new.seen.log) =
+    subst (λ (a : Logged). AddsStep (step 0 c.args.count 0 a) (at_rest log) found.result (at_rest found.new.seen.log)) ask found.ensures.7 in
+    rw (← c.self.view_is) told.1
+
+pub returns-clause-more : goal.returns-clause-more
+returns-clause-more c =
+    let seen = c.self.inside.seen in
+    let after = c.compare_exchange-found.new.seen in
+    let told = c.compare_exchange-found.ensures in
+    rw (← c.self.view_is) (sight_grows seen.book after.book seen.log after.log told.0 c.self.invariant told.6)

@@ -1,0 +1,534 @@
+//! The rounds that a load's passes make on a table: enter, scan, acquire, finish and leave.
+//!
+//! Each pass goes round and round. It enters a request of two different keys (of one key twice, if there is only one), one
+//! to write and one to read, and scans. Keys are `k0`, `k1` and so on, and are drawn evenly by a xorshift generator that is
+//! seeded by the pass's number. A round's time is its number within the pass, its transaction the pass's number. If the scan
+//! waits, the pass polls a bounded number of times, or it sleeps until it is let through. It scans on once it is let through;
+//! if it is not, it leaves. Once the request proceeds, the pass acquires the key that it writes, finishes there, and leaves. It
+//! stops at the first end of a round at which it has made at least the given number of key steps.
+//!
+//! With threads each pass has a thread of its own. Without them the passes take turns on one thread, in an order that is
+//! drawn by a further generator; a turn is one stage of a round: enter and scan (and, if that waits, leave at once), acquire,
+//! finish, or leave.
+//!
+//! A pass that meets a full shard yields its time slice and tries again, since the taker of a streamed table empties the shard.
+//!
+//! A pass that sleeps is always let through. A request holds a lock only after it proceeds, and then it waits for nothing. So
+//! each held lock comes free, and that lets the waiting readers through. A waiting writer may also stand behind the
+//! reservation of a smaller number. The request with that reservation writes no other key, so it can only wait to read, and
+//! a read passes every reservation: it proceeds, and its turn ends. Numbers rise, so only finitely many requests go first.
+ghost use Rattle.std.specs.Prelude.{◌≡◌, ◌<◌};
+
+use crate::load::Load;
+use lt_ids::{Access, Key, Timestamp, TxnId};
+use lt_plain::KeyTable;
+use lt_table::{
+    Answer, EnterRefused, Guard, LeaveStopped, Left, Poll, Scan, ScanError, StepError, Table,
+};
+use lt_table_player::holds::Holds;
+use lt_table_player::seat::Seat;
+use lt_words::Name;
+use std::alloc::Global;
+use std::sync::Wait;
+use std::{hint, thread};
+
+/// How often a thread polls before it gives up waiting.
+const POLLS: u32 = 1_000;
+
+/// After how many polls each further one gives the time slice away.
+const SPINS: u32 = 100;
+
+/// What was counted.
+#[derive(Clone, Copy, Debug)]
+pub struct Tally {
+    pub steps: u64,
+    pub proceeds: u64,
+    pub waits: u64,
+    pub lets: u64,
+    pub gave_up: u64,
+}
+
+impl Tally {
+    fn none() -> Tally {
+        Tally {
+            steps: 0,
+            proceeds: 0,
+            waits: 0,
+            lets: 0,
+            gave_up: 0,
+        }
+    }
+
+    fn and(&self, other: &Tally) -> Tally {
+        Tally {
+            steps: self.steps.saturating_add(other.steps),
+            proceeds: self.proceeds.saturating_add(other.proceeds),
+            waits: self.waits.saturating_add(other.waits),
+            lets: self.lets.saturating_add(other.lets),
+            gave_up: self.gave_up.saturating_add(other.gave_up),
+        }
+    }
+}
+
+/// Marsaglia's xorshift, of 64 bits.
+#[derive(Clone, Copy, Debug)]
+struct XorShift {
+    state: u64,
+}
+
+impl XorShift {
+    fn new(seed: u64) -> XorShift {
+        XorShift {
+            state: seed.wrapping_mul(0x9e37_79b9_7f4a_7c15) | 1,
+        }
+    }
+
+    /// A number below `limit`.
+    fn below(&mut self, limit: usize) -> usize
+        requires { 0 < limit }
+        ensures { result < limit }
+    {
+        let mut x = self.state;
+        x ^= x << 13;
+        x ^= x >> 7;
+        x ^= x << 17;
+        self.state = x;
+        ((x >> 16) % limit as u64) as usize
+    }
+}
+
+/// What a pass does next.
+#[derive(Clone, Copy, Debug, PartialEq, Eq)]
+enum Stage {
+    Enter,
+    Acquire,
+    Finish,
+    Leave,
+}
+
+/// How a pass waits for its request to be let through.
+#[derive(Clone, Copy, Debug, PartialEq, Eq)]
+enum Waiting {
+    /// It sleeps.
+    Sleep,
+    /// It polls so many times, and then gives up.
+    Poll(u32),
+}
+
+/// What is the same for all turns of a pass.
+#[derive(Clone, Copy, Debug)]
+struct Plan {
+    txn: TxnId,
+    steps: u64,
+    waiting: Waiting,
+}
+
+/// Where a pass is in its rounds.
+#[derive(Clone, Copy, Debug)]
+struct Course {
+    random: XorShift,
+    round: u64,
+    write: usize,
+    stage: Stage,
+    tally: Tally,
+}
+
+/// A pass at work. Only in the middle of a turn, or after a call that was refused, has it no seat.
+#[derive(Drop)]
+pub struct Driver<N: Name> {
+    seat: Option<Seat<N>>,
+    plan: Plan,
+    course: Course,
+}
+
+fn at(wall: u64) -> Timestamp {
+    Timestamp { wall, logical: 0 }
+}
+
+/// The places of the key to write and of the key to read: two different ones, if there are two.
+fn two_of(random: &mut XorShift, len: usize) -> (usize, usize)
+    requires { 0 < len }
+    ensures write { result.0 < len }
+    ensures read { result.1 < len }
+{
+    let write = random.below(len);
+    if len == 1 {
+        return (write, random.below(1));
+    }
+    let read = random.below(len - 1);
+    if read >= write {
+        (write, read + 1)
+    } else {
+        (write, read)
+    }
+}
+
+/// The accesses of the next round. None if there is no key, or memory is refused.
+fn next_accesses(keys: &[Key], course: &mut Course) -> Option<[(Key, Access); 2]> {
+    if keys.is_empty() {
+        return None;
+    }
+    course.round = course.round.saturating_add(1);
+    let (write, read) = two_of(&mut course.random, keys.len());
+    course.write = write;
+    Some([
+        (keys[write].copy().ok()?, Access::Write),
+        (keys[read].copy().ok()?, Access::Read),
+    ])
+}
+
+/// Whether the request is let through within so many polls.
+fn is_let_in<N: Name, T: KeyTable>(table: &Table<N, T>, guard: &mut Guard, polls: u32) -> bool
+    requires { guard.old.pass.of ≡ N.of }
+    ensures { guard.new.pass.of ≡ N.of }
+{
+    for turn in 0..polls {
+        if table.poll(guard) == Poll::Through {
+            return true;
+        }
+        if turn < SPINS {
+            hint::spin_loop();
+        } else {
+            thread::yield_now();
+        }
+    }
+    false
+}
+
+/// Waits until the request is let through. Whether it was.
+fn wait<N: Name, T: KeyTable, R: Wait>(
+    rt: &R,
+    table: &Table<N, T>,
+    guard: &mut Guard,
+    waiting: Waiting,
+) -> bool
+    requires { guard.old.pass.of ≡ N.of }
+    ensures { guard.new.pass.of ≡ N.of }
+{
+    match waiting {
+        Waiting::Sleep => table.wait(rt, guard) == Poll::Through,
+        Waiting::Poll(polls) => is_let_in(table, guard, polls),
+    }
+}
+
+/// Waits until the request is let through, and counts that. Whether it was.
+fn wait_on<N: Name, T: KeyTable, R: Wait>(
+    rt: &R,
+    table: &Table<N, T>,
+    waiting: Waiting,
+    tally: &mut Tally,
+    guard: &mut Guard,
+) -> bool
+    requires { guard.old.pass.of ≡ N.of }
+    ensures { guard.new.pass.of ≡ N.of }
+{
+    tally.waits = tally.waits.saturating_add(1);
+    let is_let = wait(rt, table, guard, waiting);
+    if is_let {
+        tally.lets = tally.lets.saturating_add(1);
+    } else {
+        tally.gave_up = tally.gave_up.saturating_add(1);
+    }
+    is_let
+}
+
+/// Scans until the request proceeds, or gives up. None if a scan is refused for another reason than a full shard.
+fn scan_on<N: Name, T: KeyTable, R: Wait>(
+    rt: &R,
+    table: &Table<N, T>,
+    plan: &Plan,
+    tally: &mut Tally,
+    guard: &mut Guard,
+) -> Option<bool>
+    requires { guard.old.pass.of ≡ N.of }
+    ensures { guard.new.pass.of ≡ N.of }
+{
+    for _ in 0..u64::MAX {
+        let scanned = table.scan(rt, guard);
+        tally.steps = tally.steps.saturating_add(guard.answers().len() as u64);
+        match scanned {
+            Ok(Scan::Proceed) => {
+                tally.proceeds = tally.proceeds.saturating_add(1);
+                return Some(true);
+            }
+            Ok(Scan::Rescan) => {}
+            Ok(Scan::Waiting(_)) => {
+                if !wait_on(rt, table, plan.waiting, tally, guard) {
+                    return Some(false);
+                }
+            }
+            Err(ScanError::HistoryFull) => thread::yield_now(),
+            _ => return None,
+        }
+    }
+    None
+}
+
+/// A request enters through the pass, which is seated alone. None if that is refused.
+fn enter<N: Name, T: KeyTable, R: Wait>(
+    rt: &R,
+    alloc: Global,
+    table: &Table<N, T>,
+    keys: &[Key],
+    driver: &mut Driver<N>,
+) -> Option<()> {
+    let Driver { seat, plan, course } = driver;
+    let accesses = next_accesses(keys, course)?;
+    let pass = seat.take()?.into_pass()?;
+    let txn = Some(plan.txn);
+    match table.enter(rt, alloc, pass, txn, at(course.round), &accesses, 0) {
+        Ok(guard) => {
+            *seat = Some(Seat::open(guard));
+            Some(())
+        }
+        Err(EnterRefused { pass, error: _ }) => {
+            pass.abandon();
+            None
+        }
+    }
+}
+
+/// Scans for the seated request: whether it proceeds. None if no request is seated, or a scan is refused.
+fn scan<N: Name, T: KeyTable, R: Wait>(
+    rt: &R,
+    table: &Table<N, T>,
+    plan: &Plan,
+    course: &mut Course,
+    seat: &mut Seat<N>,
+) -> Option<bool> {
+    match &mut seat.holds {
+        Holds::Open(guard) => scan_on(rt, table, plan, &mut course.tally, guard),
+        Holds::Free(_) => None,
+    }
+}
+
+/// Ends the round. If a shard is full, the next turn goes on. None if the leave is refused for another reason.
+fn leave<N: Name, T: KeyTable, R: Wait>(
+    rt: &R,
+    table: &Table<N, T>,
+    course: &mut Course,
+    seat: &mut Option<Seat<N>>,
+) -> Option<()> {
+    let guard = seat.take()?.into_guard()?;
+    let steps = guard.keys().len() as u64;
+    match table.leave(rt, guard) {
+        Ok(Left { pass, answers: _ }) => {
+            course.tally.steps = course.tally.steps.saturating_add(steps);
+            course.stage = Stage::Enter;
+            *seat = Some(Seat::free(pass));
+            Some(())
+        }
+        Err(LeaveStopped { guard, error }) => {
+            *seat = Some(Seat::open(guard));
+            is_made(Err(error))?;
+            Some(())
+        }
+    }
+}
+
+/// Whether a step was made. If a full shard refused it, the time slice is given away. None if memory was refused.
+fn is_made(answered: Result<Answer, StepError>) -> Option<bool> {
+    match answered {
+        Ok(_) => Some(true),
+        Err(StepError::HistoryFull) => {
+            thread::yield_now();
+            Some(false)
+        }
+        Err(StepError::Memory) => None,
+    }
+}
+
+/// Whether the request's transaction acquires the key: not if a shard is full. None if memory is refused.
+fn acquire<N: Name, T: KeyTable, R: Wait>(
+    rt: &R,
+    table: &Table<N, T>,
+    guard: &mut Guard,
+    key: &Key,
+    txn: TxnId,
+    ts: Timestamp,
+) -> Option<bool>
+    requires { guard.old.pass.of ≡ N.of }
+    ensures { guard.new.pass.of ≡ N.of }
+{
+    is_made(table.acquire_in(rt, guard, key, txn, ts))
+}
+
+/// Whether the request's transaction finishes at the key: not if a shard is full. None if memory is refused.
+fn finish<N: Name, T: KeyTable, R: Wait>(
+    rt: &R,
+    table: &Table<N, T>,
+    guard: &mut Guard,
+    key: &Key,
+    txn: TxnId,
+) -> Option<bool>
+    requires { guard.old.pass.of ≡ N.of }
+    ensures { guard.new.pass.of ≡ N.of }
+{
+    is_made(table.finish_in(rt, guard, key, txn))
+}
+
+/// Makes a step of the seated request's transaction at the key that it writes: acquires it, or finishes there. If the shard is
+/// full, the next turn tries again. None if no request is seated, or memory is refused.
+fn make_step<N: Name, T: KeyTable, R: Wait>(
+    rt: &R,
+    table: &Table<N, T>,
+    key: &Key,
+    plan: &Plan,
+    course: &mut Course,
+    seat: &mut Seat<N>,
+) -> Option<()> {
+    let Holds::Open(guard) = &mut seat.holds else {
+        return None;
+    };
+    let (is_made, next) = if course.stage == Stage::Acquire {
+        let ts = at(course.round);
+        let is_made = acquire(rt, table, guard, key, plan.txn, ts)?;
+        (is_made, Stage::Finish)
+    } else {
+        let is_made = finish(rt, table, guard, key, plan.txn)?;
+        (is_made, Stage::Leave)
+    };
+    if is_made {
+        course.stage = next;
+        course.tally.steps = course.tally.steps.saturating_add(1);
+    }
+    Some(())
+}
+
+/// Makes one stage of a round: enters and scans, and leaves at once if the scan's waits come to nothing; or acquires,
+/// finishes or leaves. None if a call is refused.
+fn turn<N: Name, T: KeyTable, R: Wait>(
+    rt: &R,
+    alloc: Global,
+    table: &Table<N, T>,
+    keys: &[Key],
+    driver: &mut Driver<N>,
+) -> Option<()> {
+    match driver.course.stage {
+        Stage::Enter => {
+            enter(rt, alloc, table, keys, driver)?;
+            let Driver { seat, plan, course } = driver;
+            if scan(rt, table, plan, course, seat.as_mut()?)? {
+                course.stage = Stage::Acquire;
+                return Some(());
+            }
+            course.stage = Stage::Leave;
+        }
+        Stage::Acquire | Stage::Finish => {
+            let Driver { seat, plan, course } = driver;
+            let key = keys.get(course.write)?;
+            return make_step(rt, table, key, plan, course, seat.as_mut()?);
+        }
+        Stage::Leave => {}
+    }
+    leave(rt, table, &mut driver.course, &mut driver.seat)
+}
+
+/// Whether the pass has made its steps, and stands between two rounds.
+fn is_done<N: Name>(driver: &Driver<N>) -> bool {
+    driver.course.stage == Stage::Enter && driver.course.tally.steps >= driver.plan.steps
+}
+
+/// Makes the rounds of one pass.
+pub fn drive<N: Name, T: KeyTable, R: Wait>(
+    rt: &R,
+    alloc: Global,
+    table: &Table<N, T>,
+    keys: &[Key],
+    driver: Driver<N>,
+) -> Option<Driver<N>> {
+    let mut driver = driver;
+    for _ in 0..u64::MAX {
+        if is_done(&driver) {
+            break;
+        }
+        turn(rt, alloc, table, keys, &mut driver)?;
+    }
+    Some(driver)
+}
+
+/// Makes the rounds of all passes in turn. None if a call is refused.
+pub fn drive_in_turn<N: Name, T: KeyTable, R: Wait>(
+    rt: &R,
+    alloc: Global,
+    table: &Table<N, T>,
+    keys: &[Key],
+    drivers: Vec<Driver<N>>,
+) -> Option<Vec<Driver<N>>> {
+    let mut random = XorShift::new(0);
+    let mut busy = drivers;
+    let mut done = Vec::new(alloc);
+    for _ in 0..u64::MAX {
+        if busy.is_empty() {
+            break;
+        }
+        let next = random.below(busy.len());
+        if is_done(&busy[next]) {
+            done.push(busy.swap_remove(next)).ok()?;
+        } else {
+            turn(rt, alloc, table, keys, &mut busy[next])?;
+        }
+    }
+    Some(done)
+}
+
+/// How the passes of the load wait. Passes that take turns on one thread give up at once, since none could let another through
+/// meanwhile.
+fn waiting_of(load: &Load) -> Waiting {
+    if load.waits {
+        Waiting::Sleep
+    } else if load.threads {
+        Waiting::Poll(POLLS)
+    } else {
+        Waiting::Poll(0)
+    }
+}
+
+/// A driver for each seat.
+pub fn drivers_of<N: Name>(
+    alloc: Global,
+    seats: Vec<Seat<N>>,
+    load: &Load,
+) -> Option<Vec<Driver<N>>> {
+    let mut drivers = Vec::new(alloc);
+    let mut number = 0u64;
+    for seat in seats {
+        number = number.saturating_add(1);
+        let plan = Plan {
+            txn: TxnId::new(number)?,
+            steps: load.steps,
+            waiting: waiting_of(load),
+        };
+        let course = Course {
+            random: XorShift::new(number),
+            round: 0,
+            write: 0,
+            stage: Stage::Enter,
+            tally: Tally::none(),
+        };
+        let seat = Some(seat);
+        drivers.push(Driver { seat, plan, course }).ok()?;
+    }
+    Some(drivers)
+}
+
+/// The seats of the drivers, and what all of them counted.
+pub fn gathered<N: Name>(alloc: Global, drivers: Vec<Driver<N>>) -> Option<(Vec<Seat<N>>, Tally)> {
+    let mut seats = Vec::new(alloc);
+    let mut tally = Tally::none();
+    for driver in drivers {
+        let Driver { seat, course, .. } = driver;
+        tally = tally.and(&course.tally);
+        seats.push(seat?).ok()?;
+    }
+    Some((seats, tally))
+}
+
+/// All drivers, if all came back.
+pub fn all_of<N: Name>(alloc: Global, drivers: Vec<Option<Driver<N>>>) -> Option<Vec<Driver<N>>> {
+    let mut list = Vec::new(alloc);
+    for driver in drivers {
+        list.push(driver?).ok()?;
+    }
+    Some(list)
+}

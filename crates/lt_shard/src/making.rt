@@ -1,0 +1,61 @@
+//! A step that the table has made.
+ghost use Rattle.std.specs.Prelude.{◌≡◌, ◌≤◌, IfOk, IsOk, OnErr};
+ghost use Rattle.lt_plain.specs.Rules.{TakesNoMemory};
+ghost use Rattle.lt_plain.specs.Step.{step};
+ghost use Rattle.lt_plain.specs.Table.{AreSound, record_at};
+ghost use Rattle.lt_history.specs.Histories.{IsInRange, NamesNumber};
+ghost use Rattle.lt_words.specs.Row.{made};
+ghost use Rattle.lt_shard.specs.Shards.{IsMade};
+
+use lt_history::Entry;
+use lt_ids::{Key, Through};
+use lt_plain::step::make;
+use lt_plain::{Call, KeyTable, Reply};
+use lt_words::EntryParts;
+use std::alloc::{AllocError, Global};
+
+/// A step that the table has made, on its way into the history: of which shard it is, its entry, and what the entry has
+/// besides its key and its pass.
+#[derive(Drop)]
+pub(crate) struct MadeStep {
+    pub shard: usize,
+    pub entry: EntryParts,
+    pub call: Call,
+    pub reply: Reply,
+    pub lets: Vec<Through>,
+    ghost parts: { entry ≡ made entry.key entry.pass call reply lets.items },
+}
+
+/// Makes the call at the table. All memory is taken before the table changes.
+pub(crate) fn make_step<T: KeyTable>(
+    alloc: Global,
+    table: &mut T,
+    shard: usize,
+    key: &Key,
+    pass: u32,
+    call: &Call,
+) -> Result<MadeStep, AllocError>
+    requires low { 1 ≤ pass }
+    requires high { pass ≤ 1024 }
+    requires number { NamesNumber call.now }
+    ensures made { IfOk result (λ s. IsMade (T.records table.old) key.now pass call.now s.entry (T.records table.new)) }
+    ensures shard { IfOk result (λ s. s.shard ≡ shard) }
+    ensures reply { IfOk result (λ s. s.reply ≡ s.entry.reply) }
+    ensures sound { AreSound (T.records table.new) }
+    ensures in_range { IfOk result (λ s. IsInRange s.entry) }
+    ensures err { OnErr result (T.records table.new ≡ T.records table.old) }
+    // No memory is taken for what an entry would have.
+    ensures no_memory { TakesNoMemory (step (record_at (T.records table.old) key.now) pass call.now).reply → IsOk result }
+{
+    let mut lets = Vec::new(alloc);
+    let reply = make(table, key, pass, call, &mut lets)?;
+    // Brings into the proof that the types keep each number in its range.
+    Entry::parts_in_range(key, pass, call, &reply, &lets);
+    Ok(MadeStep {
+        shard,
+        entry: EntryParts::new(key, pass, call, &reply, &lets),
+        call: *call,
+        reply,
+        lets,
+    })
+}

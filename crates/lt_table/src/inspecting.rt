@@ -1,0 +1,86 @@
+//! What can be asked of a running table.
+ghost use Rattle.std.specs.Prelude.{◌≡◌, ◌<◌, IfOk, OnErr};
+ghost use Rattle.lt_words.specs.History.{part, record_of, shard_of};
+ghost use Rattle.lt_words.specs.Row.{SeesMore};
+ghost use Rattle.lt_shard.specs.Shards.{AreLockedKeys};
+
+use crate::guard::Guard;
+use crate::table::Table;
+use lt_ids::Key;
+use lt_plain::KeyTable;
+use lt_shard::KeyState;
+use lt_words::{Name, Pass, Waker};
+use std::alloc::AllocError;
+use std::sync::Wait;
+
+impl<N: Name, T: KeyTable, W: Waker> Table<N, T, W> {
+    /// How the key stands: who holds its lock and for whom it is reserved, who waits there, in order, and who is the
+    /// distinguished waiter. It is the key's record after the steps of its shard that the pass has then seen. It waits
+    /// for the lock of the shard, under which it copies the record, and changes nothing. It fails where memory is refused.
+    pub fn inspect<R: Wait>(
+        &self,
+        rt: &R,
+        pass: &mut Pass,
+        key: &Key,
+    ) -> Result<KeyState, AllocError>
+        requires pass { pass.old.of ≡ N.of }
+        ensures state { IfOk result (λ state. state ≡ record_of key.now (part (shard_of key.now N.of.shards) pass.new.seen)) }
+        ensures more { SeesMore pass.old pass.new }
+        ensures err { OnErr result (pass.new ≡ pass.old) }
+    {
+        let place = self.shard_of(key);
+        let lock = &self.shards[place].lock;
+        for _ in rt.forever() {
+            let mut guard = lock.lock(rt);
+            let inside = &mut *guard;
+            if inside.index() == place {
+                return inside.inspect(rt, &self.book, pass, key);
+            }
+        }
+        unreachable!()
+    }
+
+    /// [`Table::inspect`] through the pass of a guard; the request stays as it is.
+    pub fn inspect_in<R: Wait>(
+        &self,
+        rt: &R,
+        guard: &mut Guard,
+        key: &Key,
+    ) -> Result<KeyState, AllocError>
+        requires pass { guard.old.pass.of ≡ N.of }
+        ensures state { IfOk result (λ state. state ≡ record_of key.now (part (shard_of key.now N.of.shards) guard.new.pass.seen)) }
+        ensures more { SeesMore guard.old.pass guard.new.pass }
+        ensures walk { guard.new.walk ≡ guard.old.walk }
+        ensures err { OnErr result (guard.new ≡ guard.old) }
+    {
+        self.inspect(rt, &mut guard.pass, key)
+    }
+
+    /// The keys of the shard that are locked, reserved or waited for, each once, in byte order, after the steps of the shard
+    /// that the pass has then seen. It waits for the lock of the shard, under which it copies the keys, and changes nothing.
+    /// It fails where memory is refused.
+    ///
+    /// Each shard has a lock of its own, so keys of different shards are told as of different moments.
+    pub fn locked_keys<R: Wait>(
+        &self,
+        rt: &R,
+        pass: &mut Pass,
+        shard: usize,
+    ) -> Result<Vec<Key>, AllocError>
+        requires pass { pass.old.of ≡ N.of }
+        requires shard { shard < N.of.shards }
+        ensures keys { IfOk result (λ all. AreLockedKeys (part shard pass.new.seen) all.items) }
+        ensures more { SeesMore pass.old pass.new }
+        ensures err { OnErr result (pass.new ≡ pass.old) }
+    {
+        let lock = &self.shards[shard].lock;
+        for _ in rt.forever() {
+            let mut guard = lock.lock(rt);
+            let inside = &mut *guard;
+            if inside.index() == shard {
+                return inside.locked_keys(rt, &self.book, pass);
+            }
+        }
+        unreachable!()
+    }
+}

@@ -1,0 +1,395 @@
+//! Four threads make steps of a streamed table, and a fifth takes them out all the time.
+ghost use Rattle.std.specs.Prelude.{◌≡◌, ◌≢◌, ◌<◌, [], IfSome};
+ghost use Rattle.lt_words.specs.declared.keeping.Keeping.TheVariants.{Whole};
+
+use crate::playing::config;
+use lt_history::Entry;
+use lt_ids::Access;
+use lt_plain::KeyTable;
+use lt_table::{
+    Config, Keeping, Reader, Ready, Rest, ScanError, StepError, Table, open, prepare_with,
+};
+use lt_table_player::command::{Command, Told};
+use lt_table_player::desk::{Line, play};
+use lt_table_player::key::key_of;
+use lt_table_player::run::{rests_through, seated};
+use lt_table_player::seat::Seat;
+use lt_words::Name;
+use std::alloc::{AllocError, Global};
+use std::hint::spin_loop;
+use std::marker::Brand;
+use std::sync::Wait;
+use std::sync::atomic::{AtomicBool, Ordering};
+use std::thread::{Threads, join, map_vec};
+
+/// How many rounds each thread makes.
+pub const ROUNDS: usize = 300;
+
+/// How many steps a shard may hold. So the threads can go on only because they are taken out.
+const HELD: u64 = 64;
+
+/// How often a thread tries again at most, where the shard is full.
+const TURNS: u32 = 100_000_000;
+
+/// A thread's seat, its round of commands, and what they were told so far.
+#[derive(Drop)]
+struct Worker<N: Name> {
+    seat: Seat<N>,
+    round: Vec<Command>,
+    lines: Vec<Line>,
+}
+
+/// The reader of a shard, and what it was given.
+#[derive(Drop)]
+struct Stream {
+    reader: Reader,
+    taken: Vec<Entry>,
+    pieces: u64,
+}
+
+/// Who takes steps out of both shards.
+#[derive(Drop)]
+struct Taker<N: Name> {
+    seat: Seat<N>,
+    room: Vec<Entry>,
+    first: Stream,
+    second: Stream,
+    ghost keeping: { N.of.keeping ≢ Whole },
+    ghost empty: { room.items ≡ [] },
+    ghost first_shard: { first.reader.shard < N.of.shards },
+    ghost second_shard: { second.reader.shard < N.of.shards },
+}
+
+/// What came of it: what each thread was told, the history of each shard, how many pieces were taken, and the draws.
+#[derive(Drop)]
+pub struct Streamed {
+    pub lines: Vec<Vec<Line>>,
+    pub shards: Vec<Vec<Entry>>,
+    pub pieces: u64,
+    pub draws: u64,
+}
+
+/// Whether a shard was full.
+fn is_full(told: Told) -> bool {
+    match told {
+        Told::NotScanned(error) => error == ScanError::HistoryFull,
+        Told::NotStepped(error) | Told::NotLeft(error) => error == StepError::HistoryFull,
+        _ => false,
+    }
+}
+
+/// Plays the command, again and again where a shard is full.
+fn play_through<N: Name, T: KeyTable, R: Wait>(
+    rt: &R,
+    alloc: Global,
+    table: &Table<N, T>,
+    seat: Seat<N>,
+    command: &Command,
+) -> Option<(Seat<N>, Line)> {
+    let mut seat = seat;
+    for _ in 0..TURNS {
+        let (next, line) = play(rt, alloc, table, seat, command)?;
+        if !is_full(line.told) {
+            return Some((next, line));
+        }
+        seat = next;
+        spin_loop();
+    }
+    None
+}
+
+/// Plays each command of the round.
+fn play_round<N: Name, T: KeyTable, R: Wait>(
+    rt: &R,
+    alloc: Global,
+    table: &Table<N, T>,
+    worker: Worker<N>,
+) -> Option<Worker<N>> {
+    let Worker {
+        mut seat,
+        round,
+        mut lines,
+    } = worker;
+    for command in &round {
+        let (next, line) = play_through(rt, alloc, table, seat, command)?;
+        seat = next;
+        lines.push(line).ok()?;
+    }
+    Some(Worker { seat, round, lines })
+}
+
+/// A thread's work.
+fn work<N: Name, T: KeyTable, R: Wait>(
+    rt: &R,
+    alloc: Global,
+    table: &Table<N, T>,
+    mut worker: Worker<N>,
+) -> Option<Worker<N>> {
+    for _ in 0..ROUNDS {
+        worker = play_round(rt, alloc, table, worker)?;
+    }
+    Some(worker)
+}
+
+/// A request comes to write a key of its own and passes; then it takes the lock of the key a, which all want, frees it, and
+/// leaves.
+fn round_of(alloc: Global, number: u8) -> Result<Vec<Command>, AllocError> {
+    let txn = u64::from(number);
+    let mut accesses = Vec::new(alloc);
+    accesses.push((b'a'.wrapping_add(number), Access::Write))?;
+    let enter = Command::Enter {
+        txn: Some(txn),
+        wall: 1,
+        accesses,
+        longest: 0,
+    };
+    let take = Command::Acquire {
+        txn,
+        wall: 1,
+        key: b'a',
+    };
+    let free = Command::Finish { txn, key: b'a' };
+    let round = vec![in alloc; enter, Command::Scan, take, free, Command::Leave]?;
+    Ok(round)
+}
+
+/// A worker for each seat: transactions 1, 2 and so on.
+fn workers_of<N: Name>(alloc: Global, seats: Vec<Seat<N>>) -> Option<Vec<Worker<N>>> {
+    let mut workers = Vec::new(alloc);
+    let mut number = 0u8;
+    for seat in seats {
+        number = number.wrapping_add(1);
+        let round = round_of(alloc, number).ok()?;
+        let lines = Vec::new(alloc);
+        workers.push(Worker { seat, round, lines }).ok()?;
+    }
+    Some(workers)
+}
+
+/// Takes out what the shard of the stream holds. The room is empty before and afterwards.
+fn take<N: Name, T: KeyTable, R: Wait>(
+    rt: &R,
+    table: &Table<N, T>,
+    seat: Seat<N>,
+    stream: Stream,
+    mut room: Vec<Entry>,
+) -> Option<(Seat<N>, Stream, Vec<Entry>)>
+    requires keeping { N.of.keeping ≢ Keeping.Whole }
+    requires shard { stream.reader.shard < N.of.shards }
+    requires empty { room.items ≡ [] }
+    ensures shard { IfSome result (λ r. r.1.reader.shard ≡ stream.reader.shard) }
+    ensures empty { IfSome result (λ r. r.2.items ≡ []) }
+{
+    let Stream {
+        mut reader,
+        mut taken,
+        pieces,
+    } = stream;
+    let mut pass = seat.into_pass()?;
+    let given = table.take_next(rt, &mut pass, &mut reader, &mut room);
+    let seat = Seat::free(pass);
+    let Ok(()) = given else {
+        return None;
+    };
+    let pieces = if room.is_empty() {
+        pieces
+    } else {
+        pieces.wrapping_add(1)
+    };
+    taken.append(&mut room).ok()?;
+    let stream = Stream {
+        reader,
+        taken,
+        pieces,
+    };
+    Some((seat, stream, room))
+}
+
+/// Takes out what both shards hold.
+fn take_both<N: Name, T: KeyTable, R: Wait>(
+    rt: &R,
+    table: &Table<N, T>,
+    taker: Taker<N>,
+) -> Option<Taker<N>> {
+    let Taker {
+        seat,
+        room,
+        first,
+        second,
+    } = taker;
+    let (seat, first, room) = take(rt, table, seat, first, room)?;
+    let (seat, second, room) = take(rt, table, seat, second, room)?;
+    Some(Taker {
+        seat,
+        room,
+        first,
+        second,
+    })
+}
+
+/// Takes steps out until all work is done.
+fn take_until<N: Name, T: KeyTable, R: Wait>(
+    rt: &R,
+    table: &Table<N, T>,
+    mut taker: Taker<N>,
+    is_done: &AtomicBool,
+) -> Option<Taker<N>> {
+    for _ in 0..TURNS {
+        if is_done.load(Ordering::SeqCst) {
+            return Some(taker);
+        }
+        taker = take_both(rt, table, taker)?;
+    }
+    None
+}
+
+/// All workers at once, and beside them the taker.
+fn work_all<N: Name + Send + Sync, T: KeyTable + Send, R: Threads + Wait + Sync>(
+    rt: &R,
+    alloc: Global,
+    table: &Table<N, T>,
+    workers: Vec<Worker<N>>,
+    taker: Taker<N>,
+) -> Option<(Vec<Option<Worker<N>>>, Taker<N>)> {
+    let is_done = AtomicBool::new(false);
+    let done = &is_done;
+    let (worked, taken) = join(
+        rt,
+        move || {
+            let worked = map_vec(
+                rt,
+                workers,
+                &|worker: Worker<N>| -> Option<Worker<N>> { work(rt, alloc, table, worker) },
+            );
+            done.store(true, Ordering::SeqCst);
+            worked
+        },
+        move || take_until(rt, table, taker, done),
+    );
+    Some((worked.ok()?, taken?))
+}
+
+fn stream_of<N: Name, T: KeyTable>(alloc: Global, table: &Table<N, T>, byte: u8) -> Option<Stream>
+    ensures { IfSome result (λ s. s.reader.shard < N.of.shards) }
+{
+    let shard = table.shard_of(&key_of(alloc, byte)?);
+    Some(Stream {
+        reader: Reader { shard, next: 0 },
+        taken: Vec::new(alloc),
+        pieces: 0,
+    })
+}
+
+/// The last seat takes steps out of the shards of the keys b and a, which are 0 and 1 of two.
+fn taker_of<N: Name, T: KeyTable>(
+    alloc: Global,
+    table: &Table<N, T>,
+    seat: Seat<N>,
+) -> Option<Taker<N>>
+    requires { N.of.keeping ≢ Keeping.Whole }
+{
+    Some(Taker {
+        seat,
+        room: Vec::new(alloc),
+        first: stream_of(alloc, table, b'b')?,
+        second: stream_of(alloc, table, b'a')?,
+    })
+}
+
+/// What the threads were told; their seats go to the others.
+fn lines_of<N: Name>(
+    alloc: Global,
+    worked: Vec<Option<Worker<N>>>,
+    seats: &mut Vec<Seat<N>>,
+) -> Option<Vec<Vec<Line>>> {
+    let mut lines = Vec::new(alloc);
+    for worker in worked {
+        let Worker {
+            seat,
+            lines: told,
+            ..
+        } = worker?;
+        seats.push(seat).ok()?;
+        lines.push(told).ok()?;
+    }
+    Some(lines)
+}
+
+/// What was taken of a shard and what is left of it, which follows.
+fn joined(mut taken: Vec<Entry>, rest: Rest) -> Option<Vec<Entry>> {
+    if rest.from != taken.len() as u64 {
+        return None;
+    }
+    let mut entries = rest.entries;
+    taken.append(&mut entries).ok()?;
+    Some(taken)
+}
+
+/// The histories of both shards.
+fn histories_of(
+    alloc: Global,
+    first: Vec<Entry>,
+    second: Vec<Entry>,
+    mut rests: Vec<Rest>,
+) -> Option<Vec<Vec<Entry>>> {
+    let second_rest = rests.pop()?;
+    let first_rest = rests.pop()?;
+    let mut shards = Vec::new(alloc);
+    shards.push(joined(first, first_rest)?).ok()?;
+    shards.push(joined(second, second_rest)?).ok()?;
+    Some(shards)
+}
+
+/// Closes the table and puts all together.
+fn close<N: Name, T: KeyTable + Drop, R: Wait>(
+    rt: &R,
+    alloc: Global,
+    table: Table<N, T>,
+    worked: Vec<Option<Worker<N>>>,
+    taker: Taker<N>,
+) -> Option<Streamed> {
+    let Taker {
+        seat,
+        first,
+        second,
+        ..
+    } = taker;
+    let mut seats = Vec::new(alloc);
+    seats.push(seat).ok()?;
+    let lines = lines_of(alloc, worked, &mut seats)?;
+    let rests = rests_through(rt, alloc, table, seats, &mut Vec::new(alloc))?;
+    let pieces = first.pieces.wrapping_add(second.pieces);
+    Some(Streamed {
+        lines,
+        shards: histories_of(alloc, first.taken, second.taken, rests.shards)?,
+        pieces,
+        draws: rests.draws,
+    })
+}
+
+fn stream_named<N: Name + Send + Sync, R: Threads + Wait + Sync>(
+    rt: &R,
+    alloc: Global,
+    ready: Ready,
+) -> Option<Streamed>
+    requires of { ready.of ≡ N.of }
+    requires keeping { N.of.keeping ≢ Keeping.Whole }
+{
+    let (table, passes) = open::<N>(alloc, ready).ok()?;
+    let mut seats = seated::<N>(alloc, passes)?;
+    let taker = taker_of(alloc, &table, seats.pop()?)?;
+    let workers = workers_of(alloc, seats)?;
+    let (worked, taker) = work_all(rt, alloc, &table, workers, taker)?;
+    close(rt, alloc, table, worked, taker)
+}
+
+/// A table of two shards and five passes.
+pub fn stream_work<R: Threads + Wait + Sync>(rt: &R, alloc: Global) -> Option<Streamed> {
+    let small = Config {
+        max_steps: HELD,
+        max_requests: 10_000,
+        ..config(2, 5)
+    };
+    let ready = prepare_with(alloc, small, Keeping::Streamed).ok()?;
+    stream_named::<Brand, R>(rt, alloc, ready)
+}

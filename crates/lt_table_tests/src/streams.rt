@@ -1,0 +1,124 @@
+//! What four threads were told beside a fifth that takes their steps out.
+ghost use Rattle.std.specs.Prelude.{◌≡◌, length};
+
+use crate::stream::{ROUNDS, Streamed, stream_work};
+use lt_history::{Entry, Report, check, compose};
+use lt_plain::{Call, Reply};
+use lt_table::Scan;
+use lt_table_player::command::Told;
+use lt_table_player::desk::Line;
+use std::process::Abort;
+use std::test::Fail;
+
+/// At least so many pieces are taken. Of 1,200 steps at the keys b and d, and of 3,600 at a, c and e, all but the last 64 are
+/// taken out, and no piece has more than 64: 18 and 56 pieces.
+const PIECES: u64 = 74;
+
+/// The call of transaction `number` that takes the lock, or frees it.
+fn is_call(call: &Call, number: u64, is_taking: bool) -> bool {
+    match call {
+        Call::Acquire { txn, .. } => is_taking && txn.number() == number,
+        Call::Finish { txn } => !is_taking && txn.number() == number,
+        _ => false,
+    }
+}
+
+/// The line tells the reply of this call, and its place in the history of the shard of the key a holds that step.
+fn is_stored<R: Abort>(
+    rt: &R,
+    streamed: &Streamed,
+    line: &Line,
+    pass: u32,
+    is_taking: bool,
+) -> Result<(), Fail> {
+    let history = streamed.shards.get(1).ok_or("the shard")?;
+    let at = line.at.ok_or("the place")?;
+    let entry = history.get(at as usize).ok_or("the step")?;
+    assert_eq!(rt; entry.key().as_bytes(), b"a".as_slice());
+    assert_eq!(rt; entry.pass(), pass);
+    assert_eq!(rt; line.told, Told::Stepped(entry.reply()));
+    assert!(rt; is_call(&entry.call(), u64::from(pass), is_taking));
+    Ok(())
+}
+
+/// The request came, passed, and left its key, where it stood no more.
+fn compare_request<R: Abort>(rt: &R, round: &[Line]) -> Result<(), Fail>
+    requires { length round.now ≡ 5 }
+{
+    assert!(rt; matches!(round[0].told, Told::Entered(_)));
+    assert_eq!(rt; round[1].told, Told::Scanned(Scan::Proceed));
+    assert_eq!(rt; round[1].replies.as_slice(), [Reply::Passed].as_slice());
+    assert_eq!(rt; round[4].told, Told::Left);
+    assert_eq!(rt; round[4].replies.as_slice(), [Reply::Absent].as_slice());
+    Ok(())
+}
+
+/// It took the lock of the key a and freed it, or another transaction had it.
+fn compare_lock<R: Abort>(
+    rt: &R,
+    streamed: &Streamed,
+    round: &[Line],
+    pass: u32,
+) -> Result<(), Fail>
+    requires { length round.now ≡ 5 }
+{
+    let wanted = match round[2].told {
+        Told::Stepped(Reply::Taken) => Told::Stepped(Reply::Freed),
+        told => told,
+    };
+    assert_eq!(rt; round[3].told, wanted);
+    is_stored(rt, streamed, &round[2], pass, true)?;
+    is_stored(rt, streamed, &round[3], pass, false)
+}
+
+/// All rounds of each thread.
+fn compare<R: Abort>(rt: &R, streamed: &Streamed) -> Result<(), Fail> {
+    let mut pass = 0u32;
+    for lines in &streamed.lines {
+        pass = pass.wrapping_add(1);
+        assert_eq!(rt; lines.len(), 5 * ROUNDS);
+        for round in lines.chunks_exact(5) {
+            compare_request(rt, round)?;
+            compare_lock(rt, streamed, round, pass)?;
+        }
+    }
+    assert_eq!(rt; pass, 4);
+    Ok(())
+}
+
+/// How many steps both shards have.
+fn steps_of(shards: &[Vec<Entry>]) -> usize {
+    let mut steps = 0usize;
+    for shard in shards {
+        steps = steps.wrapping_add(shard.len());
+    }
+    steps
+}
+
+/// Each round makes four steps: the visit, both calls at the key a, and the leave. Put together, the pieces and what is left
+/// are the legal history of all of them, at five keys.
+#[test]
+fn what_is_taken_while_threads_work_is_their_whole_history(rt: HostRuntime) -> Result<(), Fail> {
+    let alloc = rt.alloc();
+    let streamed = stream_work(&rt, alloc).ok_or("the stream")?;
+    let steps = 4 * 4 * ROUNDS;
+    compare(&rt, &streamed)?;
+    assert_eq!(rt; steps_of(&streamed.shards), steps);
+    assert_eq!(rt; streamed.draws, 4 * ROUNDS as u64);
+    let report = check(alloc, &compose(alloc, &streamed.shards)?)
+        .ok()
+        .ok_or("a legal text")?;
+    let wanted = Report {
+        version: 2,
+        keys: 5,
+        steps,
+    };
+    assert_eq!(rt; report, wanted);
+    // A shard holds 64 steps, so what was made of both was taken out in many pieces.
+    assert!(rt;
+        streamed.pieces >= (steps / 64 - 2) as u64,
+        "{}",
+        streamed.pieces
+    );
+    Ok(())
+}

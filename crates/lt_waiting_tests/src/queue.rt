@@ -1,0 +1,302 @@
+//! Threads wait at one key, and take their turns.
+ghost use Rattle.std.specs.Prelude.{◌≡◌, ◌<◌, IfSome};
+
+use lt_ids::{Access, Key, Timestamp, TxnId};
+use lt_plain::KeyTable;
+use lt_table::{
+    Config, EnterRefused, Guard, LeaveStopped, Left, Poll, Ready, Scan, Table, Waker, open, prepare,
+};
+use lt_table_player::run::{close_all, seated};
+use lt_table_player::seat::Seat;
+use lt_words::{Name, Pass};
+use std::alloc::Global;
+use std::marker::Brand;
+use std::sync::{Mutex, Wait};
+use std::thread::{Threads, join, map_vec, sleep};
+use std::time::{Clock, CpuClock, Duration};
+
+pub const TIME: Timestamp = Timestamp {
+    wall: 1,
+    logical: 0,
+};
+
+/// How many milliseconds the holder keeps the lock once all wait.
+const HELD: u64 = 200;
+
+/// What came of the turns.
+#[derive(Drop)]
+pub struct Turns {
+    /// The numbers of the requests, in the order in which they took the lock.
+    pub numbers: Vec<u64>,
+    /// How much processor time all threads took while all waited and the holder slept.
+    pub processor: Duration,
+    /// How many steps were made.
+    pub steps: usize,
+}
+
+/// A thread's seat and its transaction.
+#[derive(Drop)]
+pub struct Caller<N: Name> {
+    pub seat: Seat<N>,
+    pub txn: TxnId,
+}
+
+/// The request enters to write the key.
+pub fn enter<N: Name, T: KeyTable, W: Waker, R: Wait>(
+    rt: &R,
+    alloc: Global,
+    table: &Table<N, T, W>,
+    seat: Seat<N>,
+    key: &Key,
+    txn: TxnId,
+) -> Option<Guard>
+    ensures { IfSome result (λ guard. guard.pass.of ≡ N.of) }
+{
+    let mut accesses = Vec::new(alloc);
+    accesses.push((key.copy().ok()?, Access::Write)).ok()?;
+    let pass = seat.into_pass()?;
+    match table.enter(rt, alloc, pass, Some(txn), TIME, &accesses, 0) {
+        Ok(guard) => Some(guard),
+        Err(EnterRefused { pass, error: _ }) => {
+            pass.abandon();
+            None
+        }
+    }
+}
+
+/// Scans until the request proceeds, and sleeps where it has to wait. Whether all went well.
+pub fn proceed<N: Name, T: KeyTable, R: Wait>(
+    rt: &R,
+    table: &Table<N, T>,
+    guard: &mut Guard,
+) -> bool
+    requires { guard.old.pass.of ≡ N.of }
+    ensures { guard.new.pass.of ≡ N.of }
+{
+    for _ in 0..1000 {
+        match table.scan(rt, guard) {
+            Ok(Scan::Proceed) => return true,
+            Ok(Scan::Rescan) => {}
+            Ok(Scan::Waiting(_)) => {
+                if table.wait(rt, guard) != Poll::Through {
+                    return false;
+                }
+            }
+            _ => return false,
+        }
+    }
+    false
+}
+
+/// Notes its number, and takes the lock. Whether all went well.
+fn take<N: Name, T: KeyTable, R: Wait>(
+    rt: &R,
+    table: &Table<N, T>,
+    guard: &mut Guard,
+    key: &Key,
+    txn: TxnId,
+    numbers: &Mutex<Vec<u64>>,
+) -> bool
+    requires { guard.old.pass.of ≡ N.of }
+    ensures { guard.new.pass.of ≡ N.of }
+{
+    let number = guard.number();
+    let is_noted = numbers.lock(rt).push(number).is_ok();
+    table.acquire_in(rt, guard, key, txn, TIME).is_ok() && is_noted
+}
+
+/// The guard leaves.
+pub fn leave<N: Name, T: KeyTable, W: Waker, R: Wait>(
+    rt: &R,
+    table: &Table<N, T, W>,
+    guard: Guard,
+) -> Option<Pass>
+    requires { guard.pass.of ≡ N.of }
+    ensures { IfSome result (λ pass. pass.of ≡ N.of) }
+{
+    match table.leave(rt, guard) {
+        Ok(Left { pass, answers: _ }) => Some(pass),
+        Err(LeaveStopped { guard, error: _ }) => {
+            guard.abandon();
+            None
+        }
+    }
+}
+
+/// A thread's turn: it enters, waits, takes the lock, leaves and frees the lock.
+fn turn<N: Name, T: KeyTable, R: Wait>(
+    rt: &R,
+    alloc: Global,
+    table: &Table<N, T>,
+    caller: Caller<N>,
+    key: &Key,
+    numbers: &Mutex<Vec<u64>>,
+) -> Option<Seat<N>> {
+    let Caller { seat, txn } = caller;
+    let mut guard = enter(rt, alloc, table, seat, key, txn)?;
+    let is_well = proceed(rt, table, &mut guard) && take(rt, table, &mut guard, key, txn, numbers);
+    let mut pass = leave(rt, table, guard)?;
+    let is_freed = table.finish(rt, &mut pass, key, txn).is_ok();
+    let seat = Seat::free(pass);
+    if is_well && is_freed {
+        Some(seat)
+    } else {
+        None
+    }
+}
+
+/// Waits until so many stand among the writers of the key. Whether they came.
+fn await_writers<N: Name, T: KeyTable, R: Wait + Clock>(
+    rt: &R,
+    table: &Table<N, T>,
+    pass: &mut Pass,
+    key: &Key,
+    many: usize,
+) -> bool
+    requires { pass.old.of ≡ N.of }
+    ensures { pass.new.of ≡ N.of }
+{
+    for _ in 0..10_000 {
+        match table.inspect(rt, pass, key) {
+            Ok(state) => {
+                if state.writers.len() == many {
+                    return true;
+                }
+            }
+            Err(_) => return false,
+        }
+        sleep(rt, Duration::from_millis(1));
+    }
+    false
+}
+
+/// Frees the lock once so many wait, and tells how much processor time all took while they waited.
+fn free_when<N: Name, T: KeyTable, R: Wait + Clock + CpuClock>(
+    rt: &R,
+    table: &Table<N, T>,
+    seat: Seat<N>,
+    key: &Key,
+    txn: TxnId,
+    many: usize,
+) -> Option<(Seat<N>, Duration)> {
+    let mut pass = seat.into_pass()?;
+    let has_come = await_writers(rt, table, &mut pass, key, many);
+    sleep(rt, Duration::from_millis(20));
+    let before = rt.process_cpu_time();
+    sleep(rt, Duration::from_millis(HELD));
+    let after = rt.process_cpu_time();
+    let is_freed = table.finish(rt, &mut pass, key, txn).is_ok();
+    let seat = Seat::free(pass);
+    let processor = after.ok()?.saturating_sub(before.ok()?);
+    if has_come && is_freed {
+        Some((seat, processor))
+    } else {
+        None
+    }
+}
+
+/// The transaction takes the lock of the key.
+pub fn hold<N: Name, T: KeyTable, W: Waker, R: Wait>(
+    rt: &R,
+    table: &Table<N, T, W>,
+    seat: Seat<N>,
+    key: &Key,
+    txn: TxnId,
+) -> Option<Seat<N>> {
+    let mut pass = seat.into_pass()?;
+    let is_held = table.acquire(rt, &mut pass, key, txn, TIME).is_ok();
+    let seat = Seat::free(pass);
+    if is_held { Some(seat) } else { None }
+}
+
+fn callers_of<N: Name>(alloc: Global, seats: Vec<Seat<N>>) -> Option<Vec<Caller<N>>> {
+    let mut callers = Vec::new(alloc);
+    let mut number = 0u64;
+    for seat in seats {
+        number = number.saturating_add(1);
+        let txn = TxnId::new(number)?;
+        callers.push(Caller { seat, txn }).ok()?;
+    }
+    Some(callers)
+}
+
+fn all_of<N: Name>(
+    alloc: Global,
+    done: Vec<Option<Seat<N>>>,
+    last: Seat<N>,
+) -> Option<Vec<Seat<N>>> {
+    let mut seats = Vec::new(alloc);
+    for seat in done {
+        seats.push(seat?).ok()?;
+    }
+    seats.push(last).ok()?;
+    Some(seats)
+}
+
+fn turns_on<N: Name + Send + Sync, T: KeyTable + Send, R: Threads + Wait + Clock + CpuClock + Sync>(
+    rt: &R,
+    alloc: Global,
+    table: &Table<N, T>,
+    mut seats: Vec<Seat<N>>,
+    numbers: &Mutex<Vec<u64>>,
+) -> Option<(Vec<Seat<N>>, Duration)> {
+    let key = Key::from_bytes(alloc, b"key").ok()?;
+    let txn = TxnId::new(1000)?;
+    let holder = hold(rt, table, seats.pop()?, &key, txn)?;
+    let callers = callers_of(alloc, seats)?;
+    let many = callers.len();
+    let at = &key;
+    let (done, freed) = join(
+        rt,
+        move || {
+            map_vec(
+                rt,
+                callers,
+                &|caller: Caller<N>| -> Option<Seat<N>> {
+                    turn(rt, alloc, table, caller, at, numbers)
+                },
+            )
+        },
+        move || free_when(rt, table, holder, at, txn, many),
+    );
+    let (last, processor) = freed?;
+    Some((all_of(alloc, done.ok()?, last)?, processor))
+}
+
+fn turns_named<N: Name + Send + Sync, R: Threads + Wait + Clock + CpuClock + Sync>(
+    rt: &R,
+    alloc: Global,
+    ready: Ready,
+) -> Option<Turns>
+    requires { ready.of ≡ N.of }
+{
+    let (table, passes) = open::<N>(alloc, ready).ok()?;
+    let seats = seated::<N>(alloc, passes)?;
+    let numbers = Mutex::new(Vec::new(alloc));
+    let (seats, processor) = turns_on(rt, alloc, &table, seats, &numbers)?;
+    let histories = close_all(rt, alloc, table, seats)?;
+    Some(Turns {
+        numbers: numbers.into_inner(),
+        processor,
+        steps: histories.shards.first()?.len(),
+    })
+}
+
+/// So many threads wait at one key that is held, sleep until it comes free, and take their turns.
+pub fn take_turns<R: Threads + Wait + Clock + CpuClock + Sync>(
+    rt: &R,
+    alloc: Global,
+    threads: usize,
+) -> Option<Turns>
+    requires { threads < 1000 }
+{
+    let config = Config {
+        shards: 1,
+        passes: threads + 1,
+        max_steps: 1 << 20,
+        max_requests: 1 << 20,
+        max_waits: 1 << 20,
+    };
+    let ready = prepare(alloc, config).ok()?;
+    turns_named::<Brand, R>(rt, alloc, ready)
+}

@@ -1,0 +1,63 @@
+use lt_history::Entry;
+use lt_ids::{Key, Through};
+use lt_plain::{Call, Reply};
+use std::marker::Model;
+use std::snapshot::Snapshot;
+
+/// The entry of a step, by its parts. In a contract it is that entry. The parts stand in the proof alone, so a step that
+/// nobody stores needs no entry in memory, and none is copied for the book.
+#[derive(Drop)]
+pub struct EntryParts {
+    key: Snapshot<Key>,
+    pass: u32,
+    call: Snapshot<Call>,
+    reply: Snapshot<Reply>,
+    lets: Snapshot<Vec<Through>>,
+}
+
+impl Model for EntryParts {
+    ghost use Rattle.lt_plain.specs.Step.{EntryState};
+    ghost use Rattle.lt_words.specs.Row.{made};
+
+    ghost Value = { EntryState };
+
+    ghost view = { λ e. made e.key.value e.pass e.call.value e.reply.value e.lets.value.items };
+}
+
+impl EntryParts {
+    ghost use Rattle.std.specs.Prelude.{◌≡◌};
+    ghost use Rattle.lt_words.specs.Row.{made};
+
+    /// The parts of the entry that the step of this pass at this key has.
+    pub fn new(key: &Key, pass: u32, call: &Call, reply: &Reply, lets: &Vec<Through>) -> EntryParts
+        ensures { result ≡ made key.now pass call.now reply.now lets.now.items }
+    {
+        EntryParts {
+            key: Snapshot::of(key),
+            pass,
+            call: Snapshot::of(call),
+            reply: Snapshot::of(reply),
+            lets: Snapshot::of(lets),
+        }
+    }
+
+    /// The parts of an entry.
+    pub fn of(entry: &Entry) -> EntryParts
+        ensures { result ≡ entry.now }
+    {
+        EntryParts::new(
+            entry.key(),
+            entry.pass(),
+            &entry.call(),
+            &entry.reply(),
+            entry.all_lets(),
+        )
+    }
+
+    /// The pass that makes the step.
+    pub fn pass(&self) -> u32
+        ensures { result ≡ self.now.pass }
+    {
+        self.pass
+    }
+}
