@@ -41,6 +41,9 @@ TESTS = [
     ('lt_words_tests', 'tests::a_book_is_used_by_its_name'),
     ('lt_schedules_tests', 'tests::schedules_come_out_alike'),
     ('lt_table_tests', 'refusals::'),
+    ('lt_texts_tests', 'histories::'),
+    ('lt_texts_tests', 'scripts::'),
+    ('lt_texts_tests', 'names::a_short_key_and_a_long_one'),
     ('lt_tool_tests', 'checks::'),
     ('lt_tool_tests', 'scripts::'),
     ('lt_tool_tests', 'words::'),
@@ -53,9 +56,10 @@ CALLS_OF_BOTH = ['Prepare', 'Enter', 'Scan', 'Look', 'Leave', 'Acquire', 'Acquir
 TABLE_CALLS = [f'{table} {call}' for table in ('linked', 'plain') for call in CALLS_OF_BOTH]
 TABLE_CALLS += ['linked Open', 'plain OpenWith']
 
-# This one needs two threads, which cannot be made where memory for one is refused: its passes then run in turn. That one
+# These need two threads, which cannot be made where memory for one is refused: the passes then run in turn. The last one
 # takes no memory.
-OTHERS = ['scripts::passes_work_at_once', 'words::failures_are_told']
+OTHERS = ['scripts::passes_work_at_once', 'scripts::passes_take_turns_by_a_gate',
+          'scripts::passes_poll_until_they_are_let_through', 'words::failures_are_told']
 
 # The ways in which a table keeps its history.
 WAYS = ['whole', 'streamed', 'unrecorded']
@@ -110,7 +114,7 @@ class Report:
 
 def tests_of(program, prefix):
     listed = subprocess.run([program, '--list'], capture_output=True, text=True).stdout
-    names = [re.sub(r':? ?test$', '', line).strip() for line in listed.splitlines()]
+    names = re.findall(r'^(\S+): test$', listed, re.M)
     return [name for name in names if name.startswith(prefix) and name not in OTHERS]
 
 
@@ -138,9 +142,10 @@ def tell_table_calls(report, outputs):
 
 
 def as_told(kind, ran, status, out):
-    """Whether the program ended as its formats say where something of this kind was refused."""
+    """Whether the program ended as its formats say where something of this kind was refused. A read or a write that failed
+    must be told. A short write changes nothing, and of refused memory a smaller piece may be enough."""
     got, wrote, err, _ = ran
-    if (got, wrote, err) == (status, out, b''):
+    if kind in ('refuse_memory', 'short_write') and (got, wrote, err) == (status, out, b''):
         return True
     if kind == 'refuse_memory':
         return (got, wrote, err) == (4, b'', b'lockrun: memory\n')
@@ -240,7 +245,7 @@ def histories_told(command, text, n):
     if not front.endswith(b'\n'):
         return b'', f'lockrun: line {lines + 1}: Shape\n'.encode()
     if command == 'upgrade':
-        return front, b''
+        return front.replace(b'locks 1\n', b'locks 2\n', 1), b''
     keys = {line.split(b' ')[0] for line in front.split(b'\n')[1:-1]}
     return f'ok {len(keys)} keys {lines - 1} steps\n'.encode(), b''
 
@@ -268,12 +273,17 @@ def cut_histories(program, text, n):
 
 
 def cut_everywhere(report, lanes):
-    """Each script of examples/, and the histories that it gives, cut at every byte."""
+    """Each script of examples/, and the histories that it gives, in both versions where they can be, cut at every byte."""
     program = built('lockrun')
     tried, faults = 0, []
     for name in example_scripts():
         script, output = open(name, 'rb').read(), open(name + '.stdout', 'rb').read()
-        for text, cut in ((script, cut_script), (output[output.index(b'locks 2\n'):], cut_histories)):
+        histories = output[output.index(b'locks 2\n'):]
+        texts = [(script, cut_script), (histories, cut_histories)]
+        older = histories.replace(b'locks 2', b'locks 1', 1)
+        if not subprocess.run([program, 'check'], input=older, capture_output=True).returncode:
+            texts.append((older, cut_histories))
+        for text, cut in texts:
             places = range(len(text) + 1)
             ended = lanes.map(lambda n: (n, cut(program, text, n)), places)
             faults += [f'{os.path.basename(name)}, {cut.__name__}: {n} bytes' for n, is_right in ended if not is_right]

@@ -1,13 +1,16 @@
 #!/usr/bin/env python3
-"""Runs random scripts with threads through the program and checks each output by the rules of a pass, written here anew.
+"""Runs random scripts through the program and checks each output by the rules of a pass, written here anew.
 
 usage: random_runs.py [--runs N] [--seed S] [--self-test] [PROGRAM]
 
-PROGRAM is crates/lockrun/out/lockrun, unless it is named. Each script has 4 to 16 passes over a few keys. Of each output:
-every pass is answered over a front of its lines, and over all of them unless its last answer is `turns`; each answer is the
-one that the state of its request demands (docs/RULES.md), and takes its key steps, with their calls and replies, from the
-histories, in order; no step is left over; numbers of requests are drawn once; who went on after a wait was let through;
-and `check` accepts the histories with their numbers of keys and steps. With `locks 1` for their first line they are refused
+PROGRAM is crates/lockrun/out/lockrun, unless it is named. Each script has 4 to 16 passes over a few keys, and runs with
+threads or, one time in three, in turn. Of each output: every pass is answered over a front of its lines, and over all of
+them unless its last answer is `turns`; each answer is the one that the state of its request demands (docs/RULES.md), and
+takes its key steps, with their calls and replies, from the histories, in order; no step is left over; numbers of requests
+are drawn once; who went on after a wait was let through; a history is full only where its shard has as many steps as it may;
+standard error tells of turns that were used up, and of nothing else; and `check` accepts the histories with their numbers of
+keys and steps. In turn each step stands in its key's history in the order of the lines, numbers rise, and a request goes on,
+or waits still, exactly as the lets of the lines before say. With `locks 1` for their first line they are refused
 for the first line with a word that came later; where there is none, `check` tells the same of them, and `upgrade` gives
 them back. About half of the scripts have no such words. The last line is `N runs, M wrong (A answers, U upgraded)`.
 
@@ -69,10 +72,20 @@ class Request:
         self.place, self.waits, self.waited, self.mode = 0, 0, False, 'free'
 
 
-class Output:
-    """An output that is taken apart: the answers of each pass, and the steps of each pass and key."""
+class Rules:
+    """How a script is run: in turn or with threads, on how many shards, and how many steps each may hold."""
 
-    def __init__(self, text):
+    def __init__(self, in_turn, shards, limit):
+        self.in_turn, self.shards, self.limit = in_turn, shards, limit
+
+    def shard_of(self, key):
+        return sum(key.encode()) % self.shards
+
+
+class Output:
+    """An output that is taken apart: the answers of each pass, and the steps of each key."""
+
+    def __init__(self, text, rules):
         ask(text.endswith('\n'), 'the last line has no end')
         lines = text.split('\n')[:-1]
         ask('locks 2' in lines, 'no histories')
@@ -85,15 +98,31 @@ class Output:
             ask((int(number), int(place)) > last, 'the answers do not rise at', line)
             last = (int(number), int(place))
             self.answers[number].append((int(place), words))
-        self.steps, self.lets = collections.defaultdict(collections.deque), set()
-        self.keys, self.count = set(), len(lines) - cut - 1
+        self.rules, self.steps, self.lets = rules, collections.defaultdict(collections.deque), set()
+        self.keys, self.count, self.of_shard = set(), len(lines) - cut - 1, collections.Counter()
         for line in lines[cut + 1:]:
             key, _, number, rest = line.split(' ', 3)
             call, reply = rest.split(' = ')
             reply, _, lets = reply.partition(' let ')
             self.keys.add(key)
-            self.lets.update(lets.split())
-            self.steps[number, key].append((call, reply))
+            self.of_shard[rules.shard_of(key)] += 1
+            if not rules.in_turn:
+                self.lets.update(lets.split())
+            self.steps[key if rules.in_turn else (number, key)].append((number, call, reply, lets.split()))
+        ask(all(count <= rules.limit for count in self.of_shard.values()), 'a history is too long')
+
+    def take(self, number, key, call):
+        """The reply of the next step at the key, if the pass made this call there."""
+        steps = self.steps[key if self.rules.in_turn else (number, key)]
+        if not steps or steps[0][:2] != (number, call):
+            return None
+        _, _, reply, lets = steps.popleft()
+        self.lets.update(lets)
+        return reply
+
+    def ask_of_full(self, key):
+        """Asks that the key's shard has no room."""
+        ask(self.of_shard[self.rules.shard_of(key)] == self.rules.limit, 'a history with room is full at', key)
 
 
 class Machine:
@@ -104,12 +133,16 @@ class Machine:
 
     def step(self, key, call):
         """The reply of the pass's next step at the key, if it is this call."""
-        steps = self.output.steps[self.number, key]
-        return steps.popleft()[1] if steps and steps[0][0] == call else None
+        return self.output.take(self.number, key, call)
+
+    def full(self, key, answer):
+        """A step is missing there, since there was no room for it."""
+        ask(answer == 'refused HistoryFull', 'a step is missing at', key, answer)
+        self.output.ask_of_full(key)
 
     def once(self, key, call, answer):
         if answer == 'refused HistoryFull':
-            return
+            return self.output.ask_of_full(key)
         reply = self.step(key, call)
         ask(reply is not None and reply == answer, 'no step', key, call, answer)
 
@@ -127,6 +160,7 @@ class Machine:
         word, _, number = answer.partition(' ')
         ask(word == 'request', 'open', answer)
         ask(number not in self.numbers, 'a number twice', answer)
+        ask(not self.output.rules.in_turn or number == str(len(self.numbers) + 1), 'a number out of turn', answer)
         self.numbers.add(number)
         self.request = Request(number, words[2], words[3], bound, accesses)
 
@@ -135,7 +169,7 @@ class Machine:
         if r.mode == 'leaving':
             return ask(answer == 'refused Leaving', 'scan', answer)
         if r.mode == 'waiting' and answer == 'refused StillWaiting':
-            return None
+            return ask(not self.output.rules.in_turn or not self.is_let(), 'waits still, though it was let through')
         if r.mode in ('waiting', 'let'):
             ask(self.is_let(), 'went on without a let', answer)
             r.place, r.mode = r.place + 1, 'free'
@@ -144,7 +178,7 @@ class Machine:
             call = ' '.join([f'visit {r.number}.{r.waits + 1} {r.txn} {r.ts} {access}'] + r.bound)
             reply = self.step(key, call)
             if reply is None:
-                return ask(answer == 'refused HistoryFull', 'a visit is missing at', key, answer)
+                return self.full(key, answer)
             if reply == 'wait':
                 r.waits, r.waited, r.mode = r.waits + 1, True, 'waiting'
                 return ask(answer == f'waiting {key}', 'scan', answer)
@@ -165,6 +199,8 @@ class Machine:
         if r.mode == 'let' or answer == 'let':
             r.mode = 'let'
             return ask(answer == 'let' and self.is_let(), 'await', answer)
+        if self.output.rules.in_turn:
+            return ask(answer == 'waiting' and not self.is_let(), 'await', answer)
         return ask(answer == 'turns', 'await', answer)
 
     def look(self, words, answer):
@@ -178,9 +214,9 @@ class Machine:
         if r.mode != 'leaving':
             r.place, r.mode = 0, 'leaving'
         while r.place < len(r.keys):
-            reply = self.step(r.keys[r.place][0], f'leave {r.number}')
-            if reply is None:
-                return ask(answer == 'refused HistoryFull', 'a leave is missing', answer)
+            key = r.keys[r.place][0]
+            if self.step(key, f'leave {r.number}') is None:
+                return self.full(key, answer)
             r.place += 1
         self.request = None
         return ask(answer == 'done', 'leave', answer)
@@ -198,9 +234,21 @@ class Machine:
         return {'scan': self.scan, 'await': self.wait, 'look': self.look, 'leave': self.leave}[call](words, answer)
 
 
-def judge(lines, text, status):
-    """Raises Wrong where the output is none of the script; gives its parts."""
-    output, numbers, turns = Output(text), set(), False
+def judge_in_turn(lines, output, numbers):
+    """Judges the lines in the order of the script."""
+    machines, answers = {}, {number: collections.deque(own) for number, own in output.answers.items()}
+    for at, words in enumerate(lines, 1):
+        own = answers.get(words[0])
+        ask(own and own[0][0] == at, 'line', at, 'has no answer')
+        machine = machines.setdefault(words[0], Machine(words[0], output, numbers))
+        machine.line(words, own.popleft()[1])
+    ask(not any(answers.values()), 'more answers than lines')
+    return False
+
+
+def judge_by_pass(lines, output, numbers):
+    """Judges each pass by itself. Whether one used up its turns."""
+    turns = False
     for number in {line[0] for line in lines} | set(output.answers):
         own = [(i + 1, line) for i, line in enumerate(lines) if line[0] == number]
         answers = output.answers.get(number, [])
@@ -213,9 +261,16 @@ def judge(lines, text, status):
         ask(all(a != 'turns' for _, a in answers[:-1]), 'a line after turns')
         ask(out or len(answers) == len(own), 'lines without an answer')
         turns = turns or out
+    return turns
+
+
+def judge(lines, rules, text, status, told):
+    """Raises Wrong where the output is none of the script; gives its parts."""
+    output, numbers = Output(text, rules), set()
+    turns = (judge_in_turn if rules.in_turn else judge_by_pass)(lines, output, numbers)
     ask(not any(output.steps.values()), 'a step that no answer tells')
     ask(numbers == {str(n + 1) for n in range(len(numbers))}, 'numbers', sorted(numbers))
-    ask(status == (3 if turns else 0), 'status', status)
+    ask((status, told) == ((3, 'lockrun: turns\n') if turns else (0, '')), 'status', status, told)
     return output
 
 
@@ -251,12 +306,15 @@ def ask_of_versions(program, output):
 
 def one(program, rng, limited):
     """One run; where it may be limited, some histories get full, and a refused call does not tell how many steps it made."""
-    lines = script(rng)
-    words = ['run', '--threads', '--turns', str(rng.choice([1, 5, 200])), '--shards', str(rng.randint(1, 6))]
+    lines, in_turn, shards, limit = script(rng), rng.random() < 1 / 3, rng.randint(1, 6), 1000000
+    words = ['run', '--shards', str(shards)]
+    if not in_turn:
+        words += ['--threads', '--turns', str(rng.choice([1, 5, 200]))]
     if limited and rng.random() < 0.1:
-        words += ['--steps', str(rng.randint(1, 30))]
-    status, text, _ = run(program, words, ''.join(' '.join(line) + '\n' for line in lines))
-    return lines, text, status
+        limit = rng.randint(1, 30)
+        words += ['--steps', str(limit)]
+    status, text, told = run(program, words, ''.join(' '.join(line) + '\n' for line in lines))
+    return lines, Rules(in_turn, shards, limit), text, status, told
 
 
 def changed(rng, text):
@@ -292,9 +350,9 @@ def main():
     told = asked.parse_args()
     rng, wrong, answers, older, refused, tried = random.Random(told.seed), 0, 0, 0, 0, 0
     for number in range(told.runs):
-        lines, text, status = one(told.program, rng, not told.self_test)
+        lines, rules, text, status, error = one(told.program, rng, not told.self_test)
         try:
-            output = judge(lines, text, status)
+            output = judge(lines, rules, text, status, error)
             answers += output.total
             older += ask_of_versions(told.program, output)
         except Wrong as why:
@@ -309,7 +367,7 @@ def main():
                 continue
             tried += 1
             try:
-                said = judge(lines, other, status)
+                said = judge(lines, rules, other, status, error)
                 verdict = run(told.program, ['check'], said.histories)
                 ask(verdict[1] == f'ok {len(said.keys)} keys {said.count} steps\n', 'check')
                 print(f'run {number}: a changed output is accepted', file=sys.stderr)
