@@ -17,7 +17,7 @@
 //! each held lock comes free, and that lets the waiting readers through. A waiting writer may also stand behind the
 //! reservation of a smaller number. The request with that reservation writes no other key, so it can only wait to read, and
 //! a read passes every reservation: it proceeds, and its turn ends. Numbers rise, so only finitely many requests go first.
-ghost use Rattle.std.specs.Prelude.{◌≡◌, ◌<◌};
+ghost use Rattle.std.specs.Prelude.{◌≡◌, ◌<◌, IfSome};
 
 use crate::load::Load;
 use lt_ids::{Access, Key, Timestamp, TxnId};
@@ -27,7 +27,7 @@ use lt_table::{
 };
 use lt_table_player::holds::Holds;
 use lt_table_player::seat::Seat;
-use lt_words::Name;
+use lt_words::{Name, Pass};
 use std::alloc::Global;
 use std::sync::Wait;
 use std::{hint, thread};
@@ -429,7 +429,147 @@ fn is_done<N: Name>(driver: &Driver<N>) -> bool {
     driver.course.stage == Stage::Enter && driver.course.tally.steps >= driver.plan.steps
 }
 
-/// Makes the rounds of one pass.
+/// Acquires the key. If the shard is full, it tries again. None if memory is refused.
+fn acquire_at_last<N: Name, T: KeyTable, R: Wait>(
+    rt: &R,
+    table: &Table<N, T>,
+    guard: &mut Guard,
+    key: &Key,
+    txn: TxnId,
+    ts: Timestamp,
+) -> Option<()>
+    requires { guard.old.pass.of ≡ N.of }
+    ensures { guard.new.pass.of ≡ N.of }
+{
+    for _ in 0..u64::MAX {
+        if acquire(rt, table, guard, key, txn, ts)? {
+            return Some(());
+        }
+    }
+    None
+}
+
+/// Finishes at the key. If the shard is full, it tries again. None if memory is refused.
+fn finish_at_last<N: Name, T: KeyTable, R: Wait>(
+    rt: &R,
+    table: &Table<N, T>,
+    guard: &mut Guard,
+    key: &Key,
+    txn: TxnId,
+) -> Option<()>
+    requires { guard.old.pass.of ≡ N.of }
+    ensures { guard.new.pass.of ≡ N.of }
+{
+    for _ in 0..u64::MAX {
+        if finish(rt, table, guard, key, txn)? {
+            return Some(());
+        }
+    }
+    None
+}
+
+/// Acquires the key that the request writes, finishes there, and counts both steps. None if memory is refused.
+fn write_once<N: Name, T: KeyTable, R: Wait>(
+    rt: &R,
+    table: &Table<N, T>,
+    key: &Key,
+    plan: &Plan,
+    course: &mut Course,
+    guard: &mut Guard,
+) -> Option<()>
+    requires { guard.old.pass.of ≡ N.of }
+    ensures { guard.new.pass.of ≡ N.of }
+{
+    acquire_at_last(rt, table, guard, key, plan.txn, at(course.round))?;
+    finish_at_last(rt, table, guard, key, plan.txn)?;
+    course.tally.steps = course.tally.steps.saturating_add(2);
+    Some(())
+}
+
+/// Scans for a request and, if it proceeds, writes. None if a call is refused.
+fn work<N: Name, T: KeyTable, R: Wait>(
+    rt: &R,
+    table: &Table<N, T>,
+    keys: &[Key],
+    plan: &Plan,
+    course: &mut Course,
+    guard: &mut Guard,
+) -> Option<()>
+    requires { guard.old.pass.of ≡ N.of }
+    ensures { guard.new.pass.of ≡ N.of }
+{
+    if scan_on(rt, table, plan, &mut course.tally, guard)? {
+        write_once(rt, table, keys.get(course.write)?, plan, course, guard)?;
+    }
+    Some(())
+}
+
+/// Ends a round. If a shard is full, it tries again. None if the leave is refused for another reason; the pass is then
+/// given up.
+fn leave_at_last<N: Name, T: KeyTable, R: Wait>(
+    rt: &R,
+    table: &Table<N, T>,
+    tally: &mut Tally,
+    guard: Guard,
+) -> Option<Pass>
+    requires { guard.pass.of ≡ N.of }
+    ensures { IfSome result (λ pass. pass.of ≡ N.of) }
+{
+    let mut staying = guard;
+    let steps = staying.keys().len() as u64;
+    for _ in 0..u64::MAX {
+        match table.leave(rt, staying) {
+            Ok(Left { pass, answers: _ }) => {
+                tally.steps = tally.steps.saturating_add(steps);
+                return Some(pass);
+            }
+            Err(LeaveStopped { guard, error }) => {
+                if error == StepError::Memory {
+                    guard.abandon();
+                    return None;
+                }
+                staying = guard;
+            }
+        }
+        thread::yield_now();
+    }
+    staying.abandon();
+    None
+}
+
+/// Makes a round. None if a call is refused; the pass is then given up.
+fn round<N: Name, T: KeyTable, R: Wait>(
+    rt: &R,
+    alloc: Global,
+    table: &Table<N, T>,
+    keys: &[Key],
+    driver: &mut Driver<N>,
+    pass: Pass,
+) -> Option<Pass>
+    requires { pass.of ≡ N.of }
+    ensures { IfSome result (λ pass. pass.of ≡ N.of) }
+{
+    let Driver { plan, course, .. } = driver;
+    let Some(accesses) = next_accesses(keys, course) else {
+        pass.abandon();
+        return None;
+    };
+    let txn = Some(plan.txn);
+    let mut guard = match table.enter(rt, alloc, pass, txn, at(course.round), &accesses, 0) {
+        Ok(guard) => guard,
+        Err(EnterRefused { pass, error: _ }) => {
+            pass.abandon();
+            return None;
+        }
+    };
+    if work(rt, table, keys, plan, course, &mut guard).is_none() {
+        guard.abandon();
+        return None;
+    }
+    leave_at_last(rt, table, &mut course.tally, guard)
+}
+
+/// Makes the rounds of one pass. It goes from call to call without its seat.
 pub fn drive<N: Name, T: KeyTable, R: Wait>(
     rt: &R,
     alloc: Global,
@@ -438,12 +578,14 @@ pub fn drive<N: Name, T: KeyTable, R: Wait>(
     driver: Driver<N>,
 ) -> Option<Driver<N>> {
     let mut driver = driver;
+    let mut pass = driver.seat.take()?.into_pass()?;
     for _ in 0..u64::MAX {
-        if is_done(&driver) {
+        if driver.course.tally.steps >= driver.plan.steps {
             break;
         }
-        turn(rt, alloc, table, keys, &mut driver)?;
+        pass = round(rt, alloc, table, keys, &mut driver, pass)?;
     }
+    driver.seat = Some(Seat::free(pass));
     Some(driver)
 }
 
@@ -458,6 +600,11 @@ pub fn drive_in_turn<N: Name, T: KeyTable, R: Wait>(
     let mut random = XorShift::new(0);
     let mut busy = drivers;
     let mut done = Vec::new(alloc);
+    if busy.len() == 1 {
+        // One pass takes no turns.
+        done.push(drive(rt, alloc, table, keys, busy.pop()?)?).ok()?;
+        return Some(done);
+    }
     for _ in 0..u64::MAX {
         if busy.is_empty() {
             break;

@@ -1,8 +1,9 @@
 //! Scripts and histories that were changed by chance, run and checked in this process, each twice.
 //!
 //! A script is run over a table, a text of histories is checked, and random bytes are tried as both. Each is asked twice
-//! and must be answered alike, and whatever is accepted as histories must be what is composed of its own entries, which
-//! are read here word by word. What is wrong is counted; a call that crashes or hangs ends the program.
+//! and must be answered alike. Whatever is accepted as histories must have the lines that are composed of its own entries. These
+//! are read here word by word, by the checker's readers of words, but without its rules. What is wrong is counted; a call
+//! that crashes or hangs ends the program.
 ghost use Rattle.std.specs.Prelude.{◌<◌};
 ghost use Rattle.lt_command_line.specs.Options.{AreInRange};
 
@@ -21,19 +22,35 @@ use std::rt::Runtime;
 use std::sync::Wait;
 use std::thread::Threads;
 
-/// Scripts with each call, each answer and each refusal of a scan.
-const SCRIPTS: [&[u8]; 4] = [
+/// Scripts with each call, each answer and each refusal of a scan. The last three have requests without a transaction, bounds,
+/// and queues that are too long.
+const SCRIPTS: [&[u8]; 7] = [
     b"# a\n2 acquire 9 10.0 b\n1 open 1 20.0 c:r a:w b:w\n1 scan\n1 await\n2 finish 9 b\n1 await\n1 scan\n1 scan\n1 leave\n",
     b"4 acquire 9 10.0 a\n1 open 1 12.0 a:r\n1 scan\n2 open 2 15.0 a:r\n2 scan\n3 open 3 1.0 a:w\n3 scan\n4 update 9 13.0 a\n4 finish 9 a\n3 look a\n1 leave\n",
     b"3 acquire 9 10.0 a\n1 open 1 10.0 a:w\n2 open 2 10.0 a:w\n2 scan\n3 finish 9 a\n1 scan\n2 look a\n1 acquire 1 11.0 a\n1 finish 1 a\n2 await\n2 scan\n2 leave\n",
     b"1 open 1 1.0\n1 scan\n64 open 1 1.0 a:r a:w\n64 look a\n64 update 1 2.0 a\n64 open 2 1.4294967295 b:r\n",
+    b"4 acquire 9 10.0 a\n1 open - 1.0 a:w\n1 scan\n2 open 2 1.0 a:w\n2 scan\n3 open - 1.0 a:w\n3 scan\n4 finish 9 a\n3 look a\n2 leave\n3 await\n",
+    b"4 acquire 9 10.0 a\n1 open 1 1.0 a:w\n1 scan\n2 open 2 1.0 max=1 a:w\n2 scan\n2 await\n3 open 3 1.0 max=2 a:w\n3 scan\n4 finish 9 a\n2 scan\n2 leave\n",
+    b"2 acquire 9 10.0 max=1\n1 open - 10.0 max=4294967295 max=1:w b:r\n1 scan\n1 look max=1\n2 finish 9 max=1\n1 scan\n",
 ];
 
-/// Histories of each call and each reply.
-const HISTORIES: [&[u8]; 3] = [
+/// Histories of each call and each reply, in both versions, and two with the words that came with the second.
+const HISTORIES: [&[u8]; 8] = [
     b"locks 2\na 1 4 acquire 9 10.0 = taken\na 2 1 visit 1.1 1 12.0 r = wait\na 3 2 visit 2.1 2 15.0 r = wait\na 4 3 visit 3.1 3 1.0 w = wait\na 5 4 update 9 13.0 = raised let 1.1\na 6 4 finish 9 = freed let 2.1 3.1\na 7 3 look 3 = reserved\nb 1 3 leave 3 = absent\n",
     b"locks 2\na 1 3 acquire 9 10.0 = taken\na 2 2 visit 2.1 2 10.0 w = wait\na 3 3 finish 9 = freed let 2.1\na 4 1 visit 1.1 1 10.0 w = pass\na 5 2 look 2 = idle\na 6 1 look 1 = reserved\na 7 1 acquire 1 11.0 = taken\na 8 1 finish 1 = freed\na 9 2 look 2 = reserved\na 10 2 leave 2 = left\n",
     b"locks 2\na 1 1 acquire 7 20.0 = taken\na 2 1 acquire 7 5.0 = kept\na 3 2 acquire 8 30.0 = other\nb 1 2 look 5 = nothing\nc 1 2 finish 8 = other\n",
+    b"locks 1\na 1 4 acquire 9 10.0 = taken\na 2 1 visit 1.1 1 12.0 r = wait\na 3 2 visit 2.1 2 15.0 r = wait\na 4 3 visit 3.1 3 1.0 w = wait\na 5 4 update 9 13.0 = raised let 1.1\na 6 4 finish 9 = freed let 2.1 3.1\na 7 3 look 3 = reserved\nb 1 3 leave 3 = absent\n",
+    b"locks 1\na 1 3 acquire 9 10.0 = taken\na 2 2 visit 2.1 2 10.0 w = wait\na 3 3 finish 9 = freed let 2.1\na 4 1 visit 1.1 1 10.0 w = pass\na 5 2 look 2 = idle\na 6 1 look 1 = reserved\na 7 1 acquire 1 11.0 = taken\na 8 1 finish 1 = freed\na 9 2 look 2 = reserved\na 10 2 leave 2 = left\n",
+    b"locks 1\na 1 1 acquire 7 20.0 = taken\na 2 1 acquire 7 5.0 = kept\na 3 2 acquire 8 30.0 = other\nb 1 2 look 5 = nothing\nc 1 2 finish 8 = other\n",
+    b"locks 2\na 1 4 acquire 9 10.0 = taken\na 2 1 visit 1.1 - 1.0 w = wait\na 3 2 visit 2.1 2 1.0 w max=1 = long\na 4 3 visit 3.1 3 1.0 w max=2 = wait\na 5 4 finish 9 = freed let 1.1 3.1\na 6 1 visit 1.2 - 1.0 w = pass\n",
+    b"locks 2\na 1 1 visit 1.1 - 1.0 r max=4294967295 = pass\nb 1 1 visit 2.1 - 1.0 w max=1 = pass\n",
+];
+
+/// Texts of the first version with each word that came later, which are refused.
+const LATER: [&[u8]; 3] = [
+    b"locks 1\na 1 1 visit 1.1 - 1.0 w = pass\n",
+    b"locks 1\na 1 1 visit 1.1 1 1.0 w max=1 = pass\n",
+    b"locks 1\na 1 1 acquire 7 20.0 = taken\na 2 1 visit 1.1 1 1.0 w = long\n",
 ];
 
 /// What was counted.
@@ -87,13 +104,21 @@ fn entries_of(alloc: Global, text: &[u8]) -> Option<Vec<Entry>> {
     Some(entries)
 }
 
-/// Whether the text is what is composed of its own entries.
+/// The lines behind the first, which tells the version.
+fn lines_of(text: &[u8]) -> &[u8] {
+    match cut(text, b'\n') {
+        Some((_, lines)) => lines,
+        None => &[],
+    }
+}
+
+/// Whether the text has the lines that are composed of its own entries. What is composed is of the second version.
 fn is_composed(alloc: Global, text: &[u8]) -> bool {
     let Some(entries) = entries_of(alloc, text) else {
         return false;
     };
     match compose(alloc, &[entries]) {
-        Ok(composed) => composed.as_slice() == text,
+        Ok(composed) => lines_of(&composed) == lines_of(text),
         Err(_) => false,
     }
 }
@@ -237,12 +262,12 @@ fn try_one<H: Threads + Wait + Sync>(
             try_histories(alloc, &bytes, tally);
         }
         1 | 2 | 3 => {
-            let script = SCRIPTS[place(random, 4)];
+            let script = SCRIPTS[place(random, 7)];
             let text = changed(alloc, random, script)?;
             try_script(threads, alloc, &text, tally);
         }
         _ => {
-            let histories = HISTORIES[place(random, 3)];
+            let histories = HISTORIES[place(random, 8)];
             let text = changed(alloc, random, histories)?;
             try_histories(alloc, &text, tally);
         }
@@ -269,8 +294,11 @@ pub fn report<H: Threads + Wait + Sync, R: Runtime>(
     for text in HISTORIES {
         try_histories(alloc, text, &mut tally);
     }
-    if tally.ran != 4 || tally.accepted != 3 {
-        bail!("a text is refused before it is changed");
+    for text in LATER {
+        try_histories(alloc, text, &mut tally);
+    }
+    if tally.ran != 7 || tally.accepted != 8 {
+        bail!("a text is refused before it is changed, or one with a later word is accepted");
     }
     for _ in 0..count {
         try_one(threads, alloc, &mut random, &mut tally)?;

@@ -1,4 +1,4 @@
-use Rattle.std.specs.Prelude.{ℕ, ◌≤◌, List, take}
+use Rattle.std.specs.Prelude.{ℕ, ◌<◌, ◌≤◌, List, length, take}
 use Rattle.lt_ids.specs.declared.key.Bytes.{Bytes}
 use Rattle.lt_ids.specs.declared.key.Bytes.TheVariants.{Short, Long}
 
@@ -11,3 +11,8 @@ bytes_of (Long n bytes) = take n bytes.value
 abbrev pub AreWithin : Bytes → Type 0
 AreWithin (Short n _) = n ≤ 22
 AreWithin (Long n _) = n ≤ 64
+
+-- an allocation is there only for more bytes than the key itself has places for
+abbrev pub NeedTheirRoom : Bytes → Type 0
+NeedTheirRoom (Short n bytes) = Unit {0}
+NeedTheirRoom (Long n bytes) = 22 < length (take n bytes.value)

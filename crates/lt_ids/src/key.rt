@@ -1,11 +1,11 @@
-ghost use Rattle.std.specs.Prelude.{◌≡◌, ◌==◌, ◌≤◌, length, IfOk, IfSome, IfNone, MatchResult, All, IsTrue, false, not, position};
+ghost use Rattle.std.specs.Prelude.{◌≡◌, ◌==◌, ◌≤◌, length, IfOk, IsOk, IfSome, IfNone, IsNone, MatchResult, All, IsTrue, false, not, position};
 ghost use Rattle.std.specs.Ordering.{nat_cmp, as_partial_cmp};
 ghost use Rattle.std.specs.Cmp.{partial_order_from_own_ties};
 ghost use Rattle.std.specs.Cmp.Rules.{comparing};
 ghost use Rattle.std.specs.Cmp.Lexicographic.{slice_cmp, pointwise};
 ghost use Rattle.std.proofs.Common.{rules};
 ghost use Rattle.lt_ids.specs.Key.{IsKey, key_fault, is_key_byte};
-ghost use Rattle.lt_ids.specs.Bytes.{bytes_of, AreWithin};
+ghost use Rattle.lt_ids.specs.Bytes.{bytes_of, AreWithin, NeedTheirRoom};
 
 use crate::IdError;
 use std::alloc::{AllocError, Global};
@@ -13,8 +13,7 @@ use std::cmp::Ordering;
 use std::fmt::{self, Debug, Formatter, Write};
 use std::marker::Model;
 
-/// Where the bytes of a key lie, and how many they are: up to 22 in the key itself, more in an allocation. The places
-/// behind them hold 0.
+/// Where the bytes of a key lie, and how many they are: up to 22 in the key itself, more in an allocation.
 #[derive(Drop)]
 pub(crate) enum Bytes {
     Short(u8, [u8; 22]),
@@ -27,6 +26,8 @@ impl Bytes {
         requires { length bytes.now ≤ 64 }
         ensures bytes { IfOk result (λ b. bytes_of b ≡ bytes.now) }
         ensures within { IfOk result AreWithin }
+        ensures needed { IfOk result NeedTheirRoom }
+        ensures short { length bytes.now ≤ 22 → IsOk result }
     {
         let len = bytes.len();
         if len <= 22 {
@@ -43,9 +44,12 @@ impl Bytes {
     }
 
     fn copy(&self) -> Result<Bytes, AllocError>
-        requires { AreWithin self.now }
+        requires within { AreWithin self.now }
+        requires needed { NeedTheirRoom self.now }
         ensures bytes { IfOk result (λ b. bytes_of b ≡ bytes_of self.now) }
         ensures within { IfOk result AreWithin }
+        ensures needed { IfOk result NeedTheirRoom }
+        ensures short { length (bytes_of self.now) ≤ 22 → IsOk result }
     {
         match self {
             Bytes::Short(len, bytes) => Ok(Bytes::Short(*len, *bytes)),
@@ -74,22 +78,23 @@ pub struct Key {
 impl Model for Key {
     ghost use Rattle.std.specs.Prelude.{ℕ, List};
     ghost use Rattle.lt_ids.specs.Key.{IsKey};
-    ghost use Rattle.lt_ids.specs.Bytes.{bytes_of, AreWithin};
+    ghost use Rattle.lt_ids.specs.Bytes.{bytes_of, AreWithin, NeedTheirRoom};
 
     ghost Value = { List ℕ };
 
     ghost view = { λ k. bytes_of k.bytes };
 
-    ghost invariant = { λ k. IsKey (bytes_of k.bytes) × AreWithin k.bytes };
+    ghost invariant = { λ k. IsKey (bytes_of k.bytes) × AreWithin k.bytes × NeedTheirRoom k.bytes };
 }
 
 impl Key {
     /// The key that these bytes spell. The first fault in the order of [`IdError`] is told, and nothing but want of
-    /// memory keeps bytes without a fault from being a key.
+    /// memory keeps bytes without a fault from being a key. Up to 22 bytes take no memory.
     pub fn from_bytes(alloc: Global, bytes: &[u8]) -> Result<Key, IdError>
         ensures fault { IfSome (key_fault bytes.now) (λ fault. result ≡ Err fault) }
         ensures key { IfNone (key_fault bytes.now) (MatchResult result (λ key. key ≡ bytes.now) (λ e. e ≡ IdError.Memory)) }
         ensures is_key { IfOk result IsKey }
+        ensures short { IsNone (key_fault bytes.now) → length bytes.now ≤ 22 → IsOk result }
     {
         if bytes.is_empty() {
             return Err(IdError::KeyEmpty);
@@ -104,9 +109,10 @@ impl Key {
         Ok(Key { bytes })
     }
 
-    /// The same key again; it fails for want of memory alone.
+    /// The same key again; it fails for want of memory alone. Up to 22 bytes take no memory.
     pub fn copy(&self) -> Result<Key, AllocError>
-        ensures { IfOk result (λ key. key ≡ self.now) }
+        ensures same { IfOk result (λ key. key ≡ self.now) }
+        ensures short { length self.now ≤ 22 → IsOk result }
     {
         let bytes = self.bytes.copy()?;
         Ok(Key { bytes })

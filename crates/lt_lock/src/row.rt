@@ -125,7 +125,7 @@ fn raise(
     requires lets { lets.old.items ≡ [] }
     ensures ok { IfOk result (λ reply. Went links.old links.new row.new row.old.id (raise (record_of links.old row.old) holder.now ts) reply lets.new.items) }
     ensures err { OnErr result ((links.new ≡ links.old) × (row.new ≡ row.old) × (lets.new.items ≡ [])) }
-    ensures no_memory { TakesNoMemory (raise (record_of links.old row.old) holder.now ts).reply → IsOk result }
+    ensures no_memory { TakesNoMemory (record_of links.old row.old) (raise (record_of links.old row.old) holder.now ts) → IsOk result }
 {
     if holder.ts < ts {
         raise_to(links, row, holder, ts, lets)
@@ -187,7 +187,7 @@ pub(crate) fn acquire(
     requires lets { lets.old.items ≡ [] }
     ensures ok { IfOk result (λ reply. Went links.old links.new row.new row.old.id (acquire (record_of links.old row.old) txn ts) reply lets.new.items) }
     ensures err { OnErr result ((links.new ≡ links.old) × (row.new ≡ row.old) × (lets.new.items ≡ [])) }
-    ensures no_memory { TakesNoMemory (acquire (record_of links.old row.old) txn ts).reply → IsOk result }
+    ensures no_memory { TakesNoMemory (record_of links.old row.old) (acquire (record_of links.old row.old) txn ts) → IsOk result }
 {
     let held_by = row.holder;
     match &held_by {
@@ -209,7 +209,7 @@ pub(crate) fn update(
     requires lets { lets.old.items ≡ [] }
     ensures ok { IfOk result (λ reply. Went links.old links.new row.new row.old.id (update (record_of links.old row.old) txn ts) reply lets.new.items) }
     ensures err { OnErr result ((links.new ≡ links.old) × (row.new ≡ row.old) × (lets.new.items ≡ [])) }
-    ensures no_memory { TakesNoMemory (update (record_of links.old row.old) txn ts).reply → IsOk result }
+    ensures no_memory { TakesNoMemory (record_of links.old row.old) (update (record_of links.old row.old) txn ts) → IsOk result }
 {
     let held_by = row.holder;
     match &held_by {
@@ -229,7 +229,7 @@ pub(crate) fn finish(
     requires lets { lets.old.items ≡ [] }
     ensures ok { IfOk result (λ reply. Went links.old links.new row.new row.old.id (finish (record_of links.old row.old) txn) reply lets.new.items) }
     ensures err { OnErr result ((links.new ≡ links.old) × (row.new ≡ row.old) × (lets.new.items ≡ [])) }
-    ensures no_memory { TakesNoMemory (finish (record_of links.old row.old) txn).reply → IsOk result }
+    ensures no_memory { TakesNoMemory (record_of links.old row.old) (finish (record_of links.old row.old) txn) → IsOk result }
 {
     let held_by = row.holder;
     match &held_by {
@@ -252,7 +252,7 @@ pub(crate) fn leave(
     requires lets { lets.old.items ≡ [] }
     ensures ok { IfOk result (λ reply. Went links.old links.new row.new row.old.id (leave (record_of links.old row.old) number) reply lets.new.items) }
     ensures err { OnErr result ((links.new ≡ links.old) × (row.new ≡ row.old) × (lets.new.items ≡ [])) }
-    ensures no_memory { TakesNoMemory (leave (record_of links.old row.old) number).reply → IsOk result }
+    ensures no_memory { TakesNoMemory (record_of links.old row.old) (leave (record_of links.old row.old) number) → IsOk result }
 {
     let Some(found) = find(links, row.id, number) else {
         return Ok(Reply::Absent);

@@ -109,7 +109,7 @@ fn visit_at(
     ensures ok { IfOk result (λ reply. IsStep (records_of links.old rows.old) key.now (λ r. visit r (request_of stand.now) longest access) reply [] (records_of links.new rows.new)) }
     ensures table { IsTable links.new rows.new }
     ensures err { OnErr result (records_of links.new rows.new ≡ records_of links.old rows.old) }
-    ensures no_memory { TakesNoMemory (visit (record_at (records_of links.old rows.old) key.now) (request_of stand.now) longest access).reply → IsOk result }
+    ensures no_memory { TakesNoMemory (record_at (records_of links.old rows.old) key.now) (visit (record_at (records_of links.old rows.old) key.now) (request_of stand.now) longest access) → IsOk result }
 {
     let Some(row) = rows.get_mut(key) else {
         return Ok(Reply::Passed);
@@ -130,7 +130,7 @@ fn update_at(
     ensures ok { IfOk result (λ reply. IsStep (records_of links.old rows.old) key.now (λ r. update r txn ts) reply lets.new.items (records_of links.new rows.new)) }
     ensures table { IsTable links.new rows.new }
     ensures err { OnErr result ((records_of links.new rows.new ≡ records_of links.old rows.old) × (lets.new.items ≡ [])) }
-    ensures no_memory { TakesNoMemory (update (record_at (records_of links.old rows.old) key.now) txn ts).reply → IsOk result }
+    ensures no_memory { TakesNoMemory (record_at (records_of links.old rows.old) key.now) (update (record_at (records_of links.old rows.old) key.now) txn ts) → IsOk result }
 {
     let Some(row) = rows.get_mut(key) else {
         return Ok(Reply::Other);
@@ -150,7 +150,7 @@ fn finish_at(
     ensures ok { IfOk result (λ reply. IsStep (records_of links.old rows.old) key.now (λ r. finish r txn) reply lets.new.items (records_of links.new rows.new)) }
     ensures linked { AreLinked links.new rows.new }
     ensures err { OnErr result ((records_of links.new rows.new ≡ records_of links.old rows.old) × (lets.new.items ≡ [])) }
-    ensures no_memory { TakesNoMemory (finish (record_at (records_of links.old rows.old) key.now) txn).reply → IsOk result }
+    ensures no_memory { TakesNoMemory (record_at (records_of links.old rows.old) key.now) (finish (record_at (records_of links.old rows.old) key.now) txn) → IsOk result }
 {
     let Some(row) = rows.get_mut(key) else {
         return Ok(Reply::Other);
@@ -171,7 +171,7 @@ fn leave_at(
     ensures linked { AreLinked links.new rows.new }
     ensures absent { IfOk result (λ reply. reply ≡ Absent → AreSound (records_of links.new rows.new)) }
     ensures err { OnErr result ((records_of links.new rows.new ≡ records_of links.old rows.old) × (lets.new.items ≡ [])) }
-    ensures no_memory { TakesNoMemory (leave (record_at (records_of links.old rows.old) key.now) number).reply → IsOk result }
+    ensures no_memory { TakesNoMemory (record_at (records_of links.old rows.old) key.now) (leave (record_at (records_of links.old rows.old) key.now) number) → IsOk result }
 {
     let Some(row) = rows.get_mut(key) else {
         return Ok(Reply::Absent);
@@ -251,7 +251,7 @@ fn acquire_at(
     ensures ok { IfOk result (λ reply. IsStep (records_of links.old rows.old) key.now (λ r. acquire r txn ts) reply lets.new.items (records_of links.new rows.new)) }
     ensures table { IsTable links.new rows.new }
     ensures err { OnErr result ((records_of links.new rows.new ≡ records_of links.old rows.old) × (lets.new.items ≡ [])) }
-    ensures no_memory { TakesNoMemory (acquire (record_at (records_of links.old rows.old) key.now) txn ts).reply → IsOk result }
+    ensures no_memory { TakesNoMemory (record_at (records_of links.old rows.old) key.now) (acquire (record_at (records_of links.old rows.old) key.now) txn ts) → IsOk result }
 {
     let Some(row) = rows.get_mut(key) else {
         return insert_held(links, rows, key, &Holder { txn, ts });

@@ -1,5 +1,5 @@
 //! What a visit does to a row and its queues.
-ghost use Rattle.std.specs.Prelude.{◌≡◌, ◌≢◌, ◌++◌, [], true, map, slice_get, None, Some, IfOk, OnOk, OnErr, IsOk};
+ghost use Rattle.std.specs.Prelude.{◌≡◌, ◌≢◌, ◌<◌, ◌++◌, [], true, map, slice_get, None, Some, IfOk, OnOk, OnErr, IsOk};
 ghost use Rattle.std.specs.List.{AllByRecursion};
 ghost use Rattle.lt_links.specs.declared.ids.QueueKind.TheVariants.{Reservation};
 ghost use Rattle.lt_plain.specs.Rules.{TakesNoMemory, set_back, stop_reading};
@@ -136,7 +136,7 @@ fn join_writers(
     requires named { IsNamed stand.now }
     ensures ok { IfOk result (λ reply. Went links.old links.new row.now row.now.id (join_writers (stop_reading (record_of links.old row.now) stand.now.number) (request_of stand.now) longest) reply []) }
     ensures err { OnErr result (links.new ≡ links.old) }
-    ensures no_memory { TakesNoMemory (join_writers (stop_reading (record_of links.old row.now) stand.now.number) (request_of stand.now) longest).reply → IsOk result }
+    ensures no_memory { TakesNoMemory (stop_reading (record_of links.old row.now) stand.now.number) (join_writers (stop_reading (record_of links.old row.now) stand.now.number) (request_of stand.now) longest) → IsOk result }
 {
     if is_too_long(links, row, found, stand, longest) {
         stop_reading(links, row, found, stand);
@@ -191,7 +191,7 @@ fn visit_held(
     requires named { IsNamed stand.now }
     ensures ok { IfOk result (λ reply. Went links.old links.new row.now row.now.id (visit_held (stop_reading (record_of links.old row.now) stand.now.number) holder.now (request_of stand.now) longest access) reply []) }
     ensures err { OnErr result (links.new ≡ links.old) }
-    ensures no_memory { TakesNoMemory (visit_held (stop_reading (record_of links.old row.now) stand.now.number) holder.now (request_of stand.now) longest access).reply → IsOk result }
+    ensures no_memory { TakesNoMemory (stop_reading (record_of links.old row.now) stand.now.number) (visit_held (stop_reading (record_of links.old row.now) stand.now.number) holder.now (request_of stand.now) longest access) → IsOk result }
 {
     match access {
         Access::Read if stand.ts < holder.ts => Ok(pass(links, row, found, stand)),
@@ -237,10 +237,12 @@ fn displace(
     requires row { IsRow links.old row.now }
     requires unheld { row.now.holder ≡ None }
     requires reserved { slice_get (line links.old (queue_at row.now.id Reservation)) 0 ≡ Some reservation.now }
+    requires less { stand.now.number < reservation.now.number }
     requires found { Finds links.old row.now.id stand.now.number found.now }
     requires named { IsNamed stand.now }
     ensures ok { IfOk result (λ reply. Went links.old links.new row.now row.now.id (displace stand.now.txn (stop_reading (record_of links.old row.now) stand.now.number) (request_of reservation.now) (request_of stand.now)) reply []) }
     ensures err { OnErr result (links.new ≡ links.old) }
+    ensures no_memory { TakesNoMemory (stop_reading (record_of links.old row.now) stand.now.number) (displace stand.now.txn (stop_reading (record_of links.old row.now) stand.now.number) (request_of reservation.now) (request_of stand.now)) → IsOk result }
 {
     match stand.txn {
         None => Ok(pass(links, row, found, stand)),
@@ -265,7 +267,7 @@ fn visit_reserved(
     requires named { IsNamed stand.now }
     ensures ok { IfOk result (λ reply. Went links.old links.new row.now row.now.id (visit_reserved (stop_reading (record_of links.old row.now) stand.now.number) (request_of reservation.now) (request_of stand.now) longest access) reply []) }
     ensures err { OnErr result (links.new ≡ links.old) }
-    ensures no_memory { TakesNoMemory (visit_reserved (stop_reading (record_of links.old row.now) stand.now.number) (request_of reservation.now) (request_of stand.now) longest access).reply → IsOk result }
+    ensures no_memory { TakesNoMemory (stop_reading (record_of links.old row.now) stand.now.number) (visit_reserved (stop_reading (record_of links.old row.now) stand.now.number) (request_of reservation.now) (request_of stand.now) longest access) → IsOk result }
 {
     if access == Access::Read {
         return Ok(pass(links, row, found, stand));
@@ -291,7 +293,7 @@ fn visit_lock(
     requires named { IsNamed stand.now }
     ensures ok { IfOk result (λ reply. Went links.old links.new row.now row.now.id (visit_lock row.now.holder (record_of links.old row.now).reservation (stop_reading (record_of links.old row.now) stand.now.number) (request_of stand.now) longest access) reply []) }
     ensures err { OnErr result (links.new ≡ links.old) }
-    ensures no_memory { TakesNoMemory (visit_lock row.now.holder (record_of links.old row.now).reservation (stop_reading (record_of links.old row.now) stand.now.number) (request_of stand.now) longest access).reply → IsOk result }
+    ensures no_memory { TakesNoMemory (stop_reading (record_of links.old row.now) stand.now.number) (visit_lock row.now.holder (record_of links.old row.now).reservation (stop_reading (record_of links.old row.now) stand.now.number) (request_of stand.now) longest access) → IsOk result }
 {
     match (&row.holder, &reserved(links, row)) {
         (Some(holder), _) if !is_of(stand, holder.txn) => {
@@ -317,7 +319,7 @@ pub(crate) fn visit(
     requires named { IsNamed stand.now }
     ensures ok { IfOk result (λ reply. Went links.old links.new row.new row.old.id (visit (record_of links.old row.old) (request_of stand.now) longest access) reply []) }
     ensures err { OnErr result ((links.new ≡ links.old) × (row.new ≡ row.old)) }
-    ensures no_memory { TakesNoMemory (visit (record_of links.old row.old) (request_of stand.now) longest access).reply → IsOk result }
+    ensures no_memory { TakesNoMemory (record_of links.old row.old) (visit (record_of links.old row.old) (request_of stand.now) longest access) → IsOk result }
 {
     let found = find(links, row.id, stand.number);
     let reply = visit_lock(links, row, &found, stand, longest, access)?;

@@ -46,10 +46,10 @@ pub(crate) fn make_room(
 }
 
 /// Holds one more step, where there is a key for its entry, or counts it with those before.
-pub(crate) fn keep(spare: Option<Key>, before: &mut u64, held: &mut Vec<Entry>, step: MadeStep)
+pub(crate) fn keep(spare: Option<Key>, before: &mut u64, held: &mut Vec<Entry>, step: MadeStep<'_>)
     requires room { IsSome spare → vec_len held.old < vec_capacity held.old }
     requires few { before.old + 1 < 2 ^ 64 }
-    ensures { KeepsBy spare step.entry before.old held.old.items before.new held.new.items }
+    ensures { KeepsBy spare step.entry.entry before.old held.old.items before.new held.new.items }
 {
     let MadeStep {
         entry,
@@ -59,7 +59,7 @@ pub(crate) fn keep(spare: Option<Key>, before: &mut u64, held: &mut Vec<Entry>, 
         ..
     } = step;
     match spare {
-        Some(key) => held.push_reserved(Entry::new(key, entry.pass(), &call, reply, lets)),
+        Some(key) => held.push_reserved(Entry::new(key, entry.pass(), call, reply, lets)),
         None => *before += 1,
     }
 }

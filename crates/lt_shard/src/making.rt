@@ -17,24 +17,24 @@ use std::alloc::{AllocError, Global};
 /// A step that the table has made, on its way into the history: of which shard it is, its entry, and what the entry has
 /// besides its key and its pass.
 #[derive(Drop)]
-pub(crate) struct MadeStep {
+pub(crate) struct MadeStep<'a> {
     pub shard: usize,
     pub entry: EntryParts,
-    pub call: Call,
+    pub call: &'a Call,
     pub reply: Reply,
     pub lets: Vec<Through>,
-    ghost parts: { entry ≡ made entry.key entry.pass call reply lets.items },
+    ghost parts: { entry ≡ made entry.key entry.pass call.now reply lets.items },
 }
 
 /// Makes the call at the table. All memory is taken before the table changes.
-pub(crate) fn make_step<T: KeyTable>(
+pub(crate) fn make_step<'a, T: KeyTable>(
     alloc: Global,
     table: &mut T,
     shard: usize,
     key: &Key,
     pass: u32,
-    call: &Call,
-) -> Result<MadeStep, AllocError>
+    call: &'a Call,
+) -> Result<MadeStep<'a>, AllocError>
     requires low { 1 ≤ pass }
     requires high { pass ≤ 1024 }
     requires number { NamesNumber call.now }
@@ -45,7 +45,7 @@ pub(crate) fn make_step<T: KeyTable>(
     ensures in_range { IfOk result (λ s. IsInRange s.entry) }
     ensures err { OnErr result (T.records table.new ≡ T.records table.old) }
     // No memory is taken for what an entry would have.
-    ensures no_memory { TakesNoMemory (step (record_at (T.records table.old) key.now) pass call.now).reply → IsOk result }
+    ensures no_memory { TakesNoMemory (record_at (T.records table.old) key.now) (step (record_at (T.records table.old) key.now) pass call.now) → IsOk result }
 {
     let mut lets = Vec::new(alloc);
     let reply = make(table, key, pass, call, &mut lets)?;
@@ -54,7 +54,7 @@ pub(crate) fn make_step<T: KeyTable>(
     Ok(MadeStep {
         shard,
         entry: EntryParts::new(key, pass, call, &reply, &lets),
-        call: *call,
+        call,
         reply,
         lets,
     })

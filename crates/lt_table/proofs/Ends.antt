@@ -1,6 +1,7 @@
 -- A table on its way to be closed.
-use Rattle.std.proofs.Common.{◌≡◌, ℕ, zero, suc, Bool, true, ◌+◌, ◌<◌, ◌≤◌, List, [], ◌∷◌, ◌++◌, length, map, take, drop, get_or, ap, sym, subst, ◌∙◌, arith, add-one, length-append}
+use Rattle.std.proofs.Common.{◌≡◌, ℕ, zero, suc, Bool, true, false, nat_eq, Option, Some, None, IfNone, ◌+◌, ◌<◌, ◌≤◌, List, [], ◌∷◌, ◌++◌, length, map, take, drop, get_or, ap, refl, sym, subst, ◌∙◌, arith, add-one, length-append}
 use Rattle.std.proofs.Math.Seq.{get_or-append_seam}
+use Rattle.std.proofs.lemmas.Bool.Decides.{nat_tests}
 use Rattle.std.proofs.lemmas.List.{get_or-map, length-map}
 use Rattle.std.proofs.Math.ListN.{get_or-append}
 use Rattle.std.specs.Prelude.{slice_index}
@@ -19,10 +20,14 @@ use Rattle.lt_words.specs.Row.{Opening, Seer, SeesMore}
 use Rattle.lt_words.proofs.Prefixes.{prefix_trans}
 use Rattle.lt_words.proofs.Histories.{part_prefix}
 use Rattle.lt_shard.specs.declared.holding.Rest.{Rest}
-use Rattle.lt_shard.specs.Shards.{View, IsShard, OnlySeesMore}
+use Rattle.lt_shard.specs.Shards.{View, IsShard, OnlySeesMore, new_shard}
 use Rattle.lt_shard.proofs.Storing.{shown_on}
 use Rattle.lt_table.proofs.InPlace.{prefix_same}
-use Rattle.lt_table.specs.Closed.{counts_at, IsCounted, IsMet, IsEnded, AreEnded, IsFinal, IsClosed, IsRest, IsClosedRest, AreWhole}
+use Rattle.lt_table.specs.Configs.{AreNewShards}
+use Rattle.lt_table.specs.declared.config.Config.{Config}
+use Rattle.lt_table.specs.declared.closing.CloseError.{CloseError}
+use Rattle.lt_table.specs.declared.closing.CloseError.TheVariants.{PassesOut, Memory, Counts}
+use Rattle.lt_table.specs.Closed.{counts_at, IsCounted, IsMiscount, IsUnclosed, IsMet, IsEnded, AreEnded, IsFinal, IsClosed, IsRest, IsClosedRest, AreWhole}
 
 -- ---- counts
 
@@ -38,6 +43,28 @@ counts_taken f s (y ∷ ys) (suc i) x lt is = omega (arith, counts_taken f s ys 
 
 pub less_one : {A : Type 0} (f : A → Seer) (s : ℕ) (xs : List A) (i : ℕ) (x : A) (left left' steps : ℕ) → left + counts_at s (map f (take i xs)) ≡ steps → i < length xs → x ≡ get_or xs i x → left' + slice_index (f x).counts s ≡ left → left' + counts_at s (map f (take (i + 1) xs)) ≡ steps
 less_one f s xs i x left left' steps so_far lt is less = rw add-one (omega (arith, so_far, less, counts_taken f s xs i x lt is))
+
+-- a fact that holds in any case holds where there is none
+pub on_none : {A : Type 0} (o : Option A) (P : Type 0) → P → IfNone o P
+on_none None P p = p
+on_none (Some x) P p = tt
+
+counts_front : {A : Type 0} (f : A → Seer) (s : ℕ) (xs : List A) (i : ℕ) → counts_at s (map f (take i xs)) ≤ counts_at s (map f xs)
+counts_front f s [] zero = omega arith
+counts_front f s [] (suc i) = omega arith
+counts_front f s (y ∷ ys) zero = omega arith
+counts_front f s (y ∷ ys) (suc i) = omega (arith, counts_front f s ys i)
+
+-- fewer are left than one item takes, so they all take more than there were
+pub more_taken : {A : Type 0} (f : A → Seer) (s : ℕ) (xs : List A) (i : ℕ) (x : A) (left steps : ℕ) → left + counts_at s (map f (take i xs)) ≡ steps → i < length xs → x ≡ get_or xs i x → left < slice_index (f x).counts s → steps < counts_at s (map f xs)
+more_taken f s xs i x left steps so_far lt is more = omega (arith, so_far, more, counts_taken f s xs i x lt is, counts_front f s xs (suc i))
+
+pub more_taken_alone : (s : ℕ) (ps : List Seer) (i : ℕ) (p : Seer) (left steps : ℕ) → left + counts_at s (map (λ q. q) (take i ps)) ≡ steps → i < length ps → p ≡ get_or ps i p → left < slice_index p.counts s → steps < counts_at s ps
+more_taken_alone s ps i p left steps so_far lt is more = omega (arith, same ps, more_taken (λ q. q) s ps i p left steps so_far lt is more)
+  where
+    same : (qs : List Seer) → counts_at s (map (λ q. q) qs) ≡ counts_at s qs
+    same [] = refl
+    same (q ∷ qs) = ap (λ n. slice_index q.counts s + n) (same qs)
 
 -- ---- what was seen
 
@@ -88,6 +115,10 @@ at_each P xs x n many each last s d lt =
     dite (ℕ_discrete s n)
     (λ same. subst (λ k. P k (get_or (xs ++ x ∷ []) k d)) (sym same) (subst (λ k. P n (get_or (xs ++ x ∷ []) k d)) (sym many) (subst (P n) (sym (get_or-append_seam xs x [] d)) last)))
     (λ other. let inside : s < n = omega (arith, lt, other) in subst (P s) (sym (get_or-append xs (x ∷ []) d s (omega (arith, inside, many)))) (each s d inside))
+
+-- one more shard that has made no step
+pub new_more : (of : Opening) (max_steps : ℕ) (vs : List View) (v : View) → AreNewShards of max_steps vs → v ≡ new_shard of (length vs) max_steps → AreNewShards of max_steps (vs ++ v ∷ [])
+new_more of max_steps vs v each last = λ s d lt. at_each (λ k x. x ≡ new_shard of k max_steps) vs v (length vs) refl each last s d (omega (arith, lt, length-append vs (v ∷ [])))
 
 ended_at : (of : Opening) (old new old' new' : Seer) (s : ℕ) (v v' : View) (t : Rest) → v ≡ v' → (IsMet of old new s v.stored → IsMet of old' new' s v.stored) → IsEnded of old new s v t → IsEnded of old' new' s v' t
 ended_at of old new old' new' s v v' t same f m = subst (λ x. IsEnded of old' new' s x t) same (record { met = f m.met; from = m.from; entries = m.entries; within = m.within; held = m.held; whole = m.whole; unrecorded = m.unrecorded })
@@ -177,6 +208,24 @@ whole_closed of ps ts hs draws draws' m none same drawn = record {
 -- a shard at its place with the steps of the passes and of the guards' passes
 pub counted_here : (only_whole : Bool) (ps qs : List Seer) (s left rest steps : ℕ) (v : View) → v.index ≡ s → steps ≡ length v.stored → left + counts_at s ps ≡ steps → rest + counts_at s qs ≡ left → rest ≡ 0 → (only_whole ≡ true → v.before ≡ 0) → IsCounted only_whole (ps ++ qs) s v
 counted_here only_whole ps qs s left rest steps v index all first second none whole = record { index = index; counted = omega (arith, all, first, second, none, counts_append s ps qs); whole = whole }
+
+-- a shard of which some count is not that of the passes and of the guards' passes
+pub few_steps : (only_whole : Bool) (ps qs : List Seer) (s steps : ℕ) (v : View) → steps ≡ length v.stored → steps < counts_at s ps → IsCounted only_whole (ps ++ qs) s v → ⊥
+few_steps only_whole ps qs s steps v all less m = absurd (omega (arith, all, less, m.counted, counts_append s ps qs))
+
+pub few_left : (only_whole : Bool) (ps qs : List Seer) (s left steps : ℕ) (v : View) → steps ≡ length v.stored → left + counts_at s ps ≡ steps → left < counts_at s qs → IsCounted only_whole (ps ++ qs) s v → ⊥
+few_left only_whole ps qs s left steps v all first less m = absurd (omega (arith, all, first, less, m.counted, counts_append s ps qs))
+
+pub some_left : (only_whole : Bool) (ps qs : List Seer) (s left rest steps : ℕ) (v : View) → steps ≡ length v.stored → left + counts_at s ps ≡ steps → rest + counts_at s qs ≡ left → nat_eq rest 0 ≡ false → IsCounted only_whole (ps ++ qs) s v → ⊥
+some_left only_whole ps qs s left rest steps v all first second some m =
+    let more : 0 < rest = grind (arith, nat_tests) in
+    absurd (omega (arith, all, first, second, more, m.counted, counts_append s ps qs))
+
+-- why a table is not closed whose counts are wrong at one of its shards
+pub is_unclosed : (only_whole : Bool) (ps : List Seer) (vs : List View) (e : CloseError) (handed : ℕ) (c : Config) → IsMiscount only_whole ps vs e → c.passes ≤ handed → length vs ≡ c.shards → IsUnclosed e handed c
+is_unclosed only_whole ps vs (Counts place) handed c m enough same = (enough, subst (λ n. place < n) same m.0)
+is_unclosed only_whole ps vs (PassesOut missing) handed c m enough same = absurd m
+is_unclosed only_whole ps vs Memory handed c m enough same = absurd m
 
 -- a fact of each item of two lists
 pub all_of_both : {A : Type 0} (P : A → Type 0) (xs ys : List A) → ((k : ℕ) (d : A) → k < length xs → P (get_or xs k d)) → ((k : ℕ) (d : A) → k < length ys → P (get_or ys k d)) → (k : ℕ) (d : A) → k < length (xs ++ ys) → P (get_or (xs ++ ys) k d)

@@ -57,7 +57,7 @@ all_stand old new (x ∷ xs) c =
 
 -- ---- counts
 
-one_counted : (old mid : Seer) (x : runs.Step) (s : ℕ) (b : Bool) → nat_eq (shard_at old x) s ≡ b → Reported old mid x → slice_index mid.counts s ≡ slice_index old.counts s + (if b then 1 else 0)
+pub one_counted : (old mid : Seer) (x : runs.Step) (s : ℕ) (b : Bool) → nat_eq (shard_at old x) s ≡ b → Reported old mid x → slice_index mid.counts s ≡ slice_index old.counts s + (if b then 1 else 0)
 one_counted old mid x s true is r =
     let here : shard_at old x ≡ s = grind (arith, nat_tests) in
     subst (λ t. slice_index mid.counts t ≡ slice_index old.counts t + 1) here r.reports.counted
@@ -65,7 +65,7 @@ one_counted old mid x s false is r =
     let same : slice_index mid.counts s ≡ slice_index old.counts s = r.reports.others s (λ e. let there : nat_eq (shard_at old x) s ≡ true = grind (arith, nat_tests) in absurd cc) in
     omega (arith, same)
 
-add_one_more : (b : Bool) (old mid new rest : ℕ) → mid ≡ old + (if b then 1 else 0) → new ≡ mid + rest → new ≡ old + (if b then rest + 1 else rest)
+pub add_one_more : (b : Bool) (old mid new rest : ℕ) → mid ≡ old + (if b then 1 else 0) → new ≡ mid + rest → new ≡ old + (if b then rest + 1 else rest)
 add_one_more true old mid new rest e f = omega (arith, e, f)
 add_one_more false old mid new rest e f = omega (arith, e, f)
 

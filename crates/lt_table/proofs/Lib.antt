@@ -15,3 +15,4 @@ pub mod Starts
 pub mod Waking
 pub mod Takes
 pub mod Waits
+pub mod Lives

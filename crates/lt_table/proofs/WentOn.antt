@@ -139,3 +139,8 @@ went_on max_waits old new result held number sound waits goes =
     (λ e. absurd (goes (still_waits old.walk.progress.mode (nat_eq held.word (value_of (wait_of old.walk))) (heard old.walk.asked.number old.walk.progress held.word) max_waits old.walk held.steps result new.walk waits e held.scan))) in
     let same : new.pass.number ≡ old.pass.number = (reported_stays held.read held.steps new.pass held.reported).number ∙ held.reads.number in
     rw same (let_later held.read.seen new.pass.seen old.pass.number (wait_of old.walk) (all_stand held.read new.pass held.steps held.reported).0 there)
+
+pub was_let : (max_waits : ℕ) (old new : GuardState) (result : Result Scan ScanError) → IsScan max_waits old new result → LetIn old.pass.seen old.pass.number (wait_of old.walk) → LetIn new.pass.seen new.pass.number (wait_of old.walk)
+was_let max_waits old new result s there =
+    let stays = (scan_stays max_waits old new result s).pass in
+    rw stays.number (let_later old.pass.seen new.pass.seen old.pass.number (wait_of old.walk) stays.seen there)

@@ -13,6 +13,7 @@ use Rattle.lt_words.specs.Shown.{AreShown, AreLet}
 use Rattle.lt_words.specs.Row.{Opening, Seer}
 use Rattle.lt_shard.specs.declared.holding.Rest.{Rest}
 use Rattle.lt_shard.specs.Shards.{View}
+use Rattle.lt_table.specs.declared.config.Config.{Config}
 use Rattle.lt_table.specs.declared.closing.CloseError.{CloseError}
 use Rattle.lt_table.specs.declared.closing.CloseError.TheVariants.{PassesOut, Memory, Counts}
 use Rattle.lt_table.specs.declared.leaving.Left.{Left}
@@ -91,11 +92,11 @@ pub record IsClosedRest (of : Opening) (ps : List Seer) (rests : List Rest) (dra
 abbrev pub AreWhole : Opening → List Rest → Type 0
 AreWhole of rests = (s : ℕ) (d : Rest) → s < of.shards → (slice_index_or rests s d).from ≡ 0
 
--- Why a table is not closed, of so many passes of which so many are handed back.
-abbrev pub IsUnclosed : CloseError → ℕ → ℕ → Type 0
-IsUnclosed (PassesOut missing) handed passes = (0 < missing) × (handed + missing ≡ passes)
-IsUnclosed Memory handed passes = passes ≤ handed
-IsUnclosed (Counts place) handed passes = passes ≤ handed
+-- Why a table is not closed, of whose passes so many are handed back. Counts names one of its shards.
+abbrev pub IsUnclosed : CloseError → ℕ → Config → Type 0
+IsUnclosed (PassesOut missing) handed c = (0 < missing) × (handed + missing ≡ c.passes)
+IsUnclosed Memory handed c = c.passes ≤ handed
+IsUnclosed (Counts place) handed c = (c.passes ≤ handed) × (place < c.shards)
 
 -- ---- on the way
 
@@ -104,6 +105,16 @@ pub record IsCounted (only_whole : Bool) (ps : List Seer) (s : ℕ) (v : View) :
   pub index : v.index ≡ s
   pub counted : length v.stored ≡ counts_at s ps
   pub whole : only_whole ≡ true → v.before ≡ 0
+
+-- The first of these shards stand at their places, and are counted.
+abbrev pub AreCounted : Bool → List Seer → List View → ℕ → Type 0
+AreCounted only_whole ps vs n = (s : ℕ) (v : View) → s < n → IsCounted only_whole ps s (slice_index_or vs s v)
+
+-- The fault names the first of these shards that is not counted.
+abbrev pub IsMiscount : Bool → List Seer → List View → CloseError → Type 0
+IsMiscount only_whole ps vs (Counts place) = (place < length vs) × AreCounted only_whole ps vs place × ((v : View) → IsCounted only_whole ps place (slice_index_or vs place v) → ⊥)
+IsMiscount only_whole ps vs (PassesOut missing) = ⊥
+IsMiscount only_whole ps vs Memory = ⊥
 
 -- A pass met a shard: what it had seen of the shard begins the shard's history, which begins what it has then seen.
 pub record IsMet (of : Opening) (old new : Seer) (s : ℕ) (es : List Entry) : Type 0 where

@@ -1,6 +1,7 @@
 -- The numbers that a table is opened with.
-use Rattle.std.specs.Prelude.{ℕ, ◌≡◌, ◌&&◌, ◌≤◌, ◌^◌, Bool, nat_le, if◌then◌else◌, Option, Some, None}
+use Rattle.std.specs.Prelude.{ℕ, ◌≡◌, ◌&&◌, ◌<◌, ◌≤◌, ◌^◌, Bool, nat_le, if◌then◌else◌, Option, Some, None, List, length, slice_index_or}
 use Rattle.lt_words.specs.Row.{Opening}
+use Rattle.lt_shard.specs.Shards.{View, new_shard}
 use Rattle.lt_table.specs.declared.config.Config.{Config}
 use Rattle.lt_table.specs.declared.config.PrepareError.{PrepareError}
 use Rattle.lt_table.specs.declared.config.PrepareError.TheVariants.{Shards, Passes, Steps, Requests, Waits}
@@ -44,3 +45,7 @@ pub record IsOpened (c : Config) (of : Opening) : Type 0 where
 pub record ReadyState : Type 0 where
   pub config : Config
   pub of : Opening
+
+-- Each of these shards stands at its place, may hold so many steps, and has made none.
+abbrev pub AreNewShards : Opening → ℕ → List View → Type 0
+AreNewShards of max_steps vs = (s : ℕ) (v : View) → s < length vs → slice_index_or vs s v ≡ new_shard of s max_steps

@@ -1,17 +1,20 @@
 -- What follows from what the calls of a table tell.
-use Rattle.std.specs.Prelude.{ℕ, ◌≡◌, ◌≢◌, ◌+◌, ◌<◌, ◌≤◌, ◌⊎◌, Option, List, length, map, Result, Ok, Err, Some, IsOk, slice_get, slice_index, slice_index_or}
+use Rattle.std.specs.Prelude.{ℕ, [], ◌∷◌, ◌++◌, ◌&&◌, nat_eq, if◌then◌else◌, ◌≡◌, ◌≢◌, ◌+◌, ◌<◌, ◌≤◌, ◌⊎◌, Option, List, length, map, Result, Ok, Err, Some, IsOk, slice_get, slice_index, slice_index_or}
 use Rattle.std.specs.Global.{Vec}
 use mathlib.Core.List.{IsPrefix}
 use Rattle.std.specs.List.{AllByRecursion}
 use Rattle.lt_ids.specs.declared.request.Access.{Access}
 use Rattle.lt_ids.specs.Ids.{Wait, value_of}
 use Rattle.lt_ids.specs.declared.timestamp.Timestamp.{Timestamp}
-use Rattle.lt_plain.specs.declared.call.Reply.TheVariants.{Passed, TooLong}
+use Rattle.lt_ids.specs.declared.request.Access.TheVariants.{Read}
+use Rattle.lt_plain.specs.declared.call.Call.TheVariants.{Visit}
+use Rattle.lt_plain.specs.declared.call.Reply.TheVariants.{Passed, MustWait, TooLong}
+use Rattle.lt_plain.specs.Step.{Event as KeyEvent, Holds, IsBelowOthers}
 use Rattle.lt_history.specs.declared.entry.Entry.{Entry}
-use Rattle.lt_words.specs.History.{part, IsLegalHistory, Among, LetIn}
+use Rattle.lt_words.specs.History.{part, shard_of, key_history, IsLegalHistory, Among, LetIn}
 use Rattle.lt_words.specs.Shown.{IsShown}
 use Rattle.lt_words.specs.declared.event.Event.{Event}
-use Rattle.lt_words.specs.Row.{Opening, Seer}
+use Rattle.lt_words.specs.Row.{Opening, Seer, SeesMore, fresh}
 use Rattle.lt_shard.specs.declared.answer.Answer.{Answer}
 use Rattle.lt_table.specs.declared.progress.Mode.TheVariants.{Free, Awaiting}
 use Rattle.lt_table.specs.declared.progress.Progress.{Progress}
@@ -112,3 +115,47 @@ abbrev pub ReportedStandAtClose : Type 0
 ReportedStandAtClose = (of : Opening) (ps : List Seer) (shards : List (Vec Entry)) (draws k : ℕ) (p old new : Seer) (x : Step) (d : Vec Entry) →
     IsClosed of ps shards draws → k < length ps → p ≡ slice_index_or ps k p → (step : Reported old new x) → IsPrefix new.seen p.seen → shard_at old x < of.shards →
     slice_get (slice_index_or shards (shard_at old x) d).items x.answer.at ≡ Some step.entry
+
+-- ---- the headline, of what a close gives
+
+-- At no place of a key's history do two transactions hold the lock.
+abbrev pub OneHolderAtClose : Type 0
+OneHolderAtClose = (of : Opening) (ps : List Seer) (shards : List (Vec Entry)) (draws s : ℕ) (d : Vec Entry) (key : List ℕ) (past rest : List KeyEvent) (T U : ℕ) → IsClosed of ps shards draws → s < of.shards →
+    key_history key (slice_index_or shards s d).items ≡ past ++ rest → Holds past T → Holds past U → T ≡ U
+
+-- A read passes exactly where each other holder's stamp is above its time, and else has to wait.
+abbrev pub ReadsPassAtClose : Type 0
+ReadsPassAtClose = (of : Opening) (ps : List Seer) (shards : List (Vec Entry)) (draws s : ℕ) (d : Vec Entry) (key : List ℕ) (past rest : List KeyEvent) (e : KeyEvent) (ticket : Wait) (txn : Option ℕ) (ts : Timestamp) (longest : ℕ) → IsClosed of ps shards draws → s < of.shards →
+    key_history key (slice_index_or shards s d).items ≡ past ++ e ∷ rest → e.call ≡ Visit ticket txn ts Read longest →
+    ((e.reply ≡ Passed) × IsBelowOthers past txn ts) ⊎ ((e.reply ≡ MustWait) × (IsBelowOthers past txn ts → ⊥))
+
+-- What a pass did: it saw more, and its calls reported these steps, one after the other.
+abbrev pub Lived : Seer → List Step → Seer → Type 0
+Lived p [] q = SeesMore p q
+Lived p (x ∷ xs) q = (m : Seer) × (n : Seer) × SeesMore p m × Reported m n x × Lived n xs q
+
+-- It goes on with each call, which sees more or reports steps.
+abbrev pub LivesGoOn : Type 0
+LivesGoOn = (p q r : Seer) (xs ys : List Step) → Lived p xs q → (SeesMore q r → Lived p xs r) × (AreReported q ys r → Lived p (xs ++ ys) r)
+
+-- These passes, of different numbers, did these steps since they were handed out.
+abbrev pub AreLives : Opening → List (List Step) → List Seer → Type 0
+AreLives of [] [] = Unit {0}
+AreLives of [] (p ∷ ps) = ⊥
+AreLives of (xs ∷ lives) [] = ⊥
+AreLives of (xs ∷ lives) (p ∷ ps) = Lived (fresh of p.number) xs p × AllByRecursion (λ q. p.number ≢ q.number) ps × AreLives of lives ps
+
+-- how many of the steps are of this shard and at this place, among so many shards
+abbrev pub at_place : ℕ → ℕ → ℕ → List Step → ℕ
+at_place shards s at [] = 0
+at_place shards s at (x ∷ xs) = if nat_eq (shard_of x.key shards) s && nat_eq x.answer.at at then at_place shards s at xs + 1 else at_place shards s at xs
+
+abbrev pub at_place_of : ℕ → ℕ → ℕ → List (List Step) → ℕ
+at_place_of shards s at [] = 0
+at_place_of shards s at (xs ∷ lives) = at_place shards s at xs + at_place_of shards s at lives
+
+-- Of all steps that the passes reported since they were handed out, exactly one stands at each place of each final history.
+abbrev pub EachPlaceIsReportedOnce : Type 0
+EachPlaceIsReportedOnce = (of : Opening) (ps : List Seer) (shards : List (Vec Entry)) (draws : ℕ) (lives : List (List Step)) (s at : ℕ) (d : Vec Entry) →
+    IsClosed of ps shards draws → AreLives of lives ps → s < of.shards → at < length (slice_index_or shards s d).items →
+    at_place_of of.shards s at lives ≡ 1

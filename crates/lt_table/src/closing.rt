@@ -1,10 +1,10 @@
 //! A table is closed.
-ghost use Rattle.std.specs.Prelude.{◌≡◌, ◌≤◌, ◌<◌, ◌+◌, ℕ, [], true, IsTrue, IsFalse, map, length, slice_index_or, vec_len, vec_capacity, IfOk, IfErr, IfSome, IfNone, OnErr, OnOk};
+ghost use Rattle.std.specs.Prelude.{◌≡◌, ◌≢◌, ◌≤◌, ◌<◌, ◌+◌, ℕ, [], true, IsTrue, IsFalse, map, length, slice_index_or, vec_len, vec_capacity, IfOk, IfErr, IfSome, IfNone, OnErr, OnOk};
 ghost use Rattle.std.specs.List.{All, AllByRecursion};
 ghost use mathlib.Core.List.{IsPrefix};
 ghost use Rattle.lt_shard.specs.Shards.{View};
 ghost use Rattle.lt_words.specs.Row.{SeesMore};
-ghost use Rattle.lt_table.specs.Closed.{counts_at, passes_of, IsCounted, IsEnded, AreEnded, IsClosed, IsClosedRest, AreWhole, IsUnclosed};
+ghost use Rattle.lt_table.specs.Closed.{counts_at, passes_of, IsCounted, AreCounted, IsMiscount, IsEnded, AreEnded, IsClosed, IsClosedRest, AreWhole, IsUnclosed};
 
 use crate::guard::Guard;
 use crate::table::{Slot, Table};
@@ -48,6 +48,17 @@ pub enum CloseError {
     Counts(usize),
 }
 
+impl From<AllocError> for CloseError {
+    ghost use Rattle.std.specs.Prelude.{◌≡◌};
+    ghost use Rattle.lt_table.specs.declared.closing.CloseError.TheVariants.{Memory};
+
+    ghost from_gives = { λ _ e. e ≡ Memory };
+
+    fn from(_: AllocError) -> CloseError {
+        CloseError::Memory
+    }
+}
+
 /// A table is not closed: all comes back as it was.
 pub struct CloseRefused<N: Name, T: KeyTable, W: Waker = ()> {
     pub table: Table<N, T, W>,
@@ -81,7 +92,8 @@ pub fn abandon_guards(mut guards: Vec<Guard>) {
 /// What is left of these steps of a shard without those that the passes made; nothing, where they made more.
 fn without_passes(steps: u64, place: usize, passes: &[Pass]) -> Option<u64>
     requires { All (λ p. place < p.of.shards) passes.now }
-    ensures { IfSome result (λ left. left + counts_at place passes.now ≡ steps) }
+    ensures some { IfSome result (λ left. left + counts_at place passes.now ≡ steps) }
+    ensures none { IfNone result (steps < counts_at place passes.now) }
 {
     let mut left = steps;
     for pass in passes {
@@ -93,7 +105,8 @@ fn without_passes(steps: u64, place: usize, passes: &[Pass]) -> Option<u64>
 /// The same for the passes of guards.
 fn without_guards(steps: u64, place: usize, guards: &[Guard]) -> Option<u64>
     requires { All (λ g. place < g.pass.of.shards) guards.now }
-    ensures { IfSome result (λ left. left + counts_at place (map (λ g. g.pass) guards.now) ≡ steps) }
+    ensures some { IfSome result (λ left. left + counts_at place (map (λ g. g.pass) guards.now) ≡ steps) }
+    ensures none { IfNone result (steps < counts_at place (map (λ g. g.pass) guards.now)) }
 {
     let mut left = steps;
     for guard in guards {
@@ -104,7 +117,8 @@ fn without_guards(steps: u64, place: usize, guards: &[Guard]) -> Option<u64>
 
 /// Whether steps are missing that have to be there.
 fn is_missing(only_whole: bool, before: u64) -> bool
-    ensures { IsFalse result → only_whole ≡ true → before ≡ 0 }
+    ensures no { IsFalse result → only_whole ≡ true → before ≡ 0 }
+    ensures yes { IsTrue result → (only_whole ≡ true) × (before ≢ 0) }
 {
     only_whole && before != 0
 }
@@ -119,7 +133,8 @@ fn is_counted<N: Name, T: KeyTable>(
 ) -> bool
     requires passes { All (λ p. place < p.of.shards) passes.now }
     requires guards { All (λ g. place < g.pass.of.shards) guards.now }
-    ensures { IsTrue result → IsCounted only_whole (passes_of passes.now guards.now) place shard.now }
+    ensures yes { IsTrue result → IsCounted only_whole (passes_of passes.now guards.now) place shard.now }
+    ensures no { IsFalse result → IsCounted only_whole (passes_of passes.now guards.now) place shard.now → ⊥ }
 {
     if shard.index() != place {
         return false;
@@ -136,21 +151,22 @@ fn is_counted<N: Name, T: KeyTable>(
     rest == 0
 }
 
-/// The first shard that is another, or whose steps are not those of the passes, or of which steps are missing.
-fn first_miscounted<N: Name, T: KeyTable>(
+/// Names the first shard that is another, or whose steps are not those of the passes, or of which steps are missing.
+fn count_fault<N: Name, T: KeyTable>(
     shards: &[Shard<N, T>],
     only_whole: bool,
     passes: &[Pass],
     guards: &[Guard],
-) -> Option<usize>
+) -> Option<CloseError>
     requires many { length shards.now ≡ N.of.shards }
     requires passes { All (λ p. p.of ≡ N.of) passes.now }
     requires guards { All (λ g. g.pass.of ≡ N.of) guards.now }
-    ensures { IfNone result ((s : ℕ) (v : View) → s < N.of.shards → IsCounted only_whole (passes_of passes.now guards.now) s (slice_index_or shards.now s v)) }
+    ensures none { IfNone result (AreCounted only_whole (passes_of passes.now guards.now) shards.now N.of.shards) }
+    ensures some { IfSome result (IsMiscount only_whole (passes_of passes.now guards.now) shards.now) }
 {
     for place in 0..shards.len() {
         if !is_counted(&shards[place], place, only_whole, passes, guards) {
-            return Some(place);
+            return Some(CloseError::Counts(place));
         }
     }
     None
@@ -260,13 +276,14 @@ fn take_room<N: Name, T: KeyTable + Drop>(
     shards: usize,
     passes: &mut Vec<Pass>,
     guards: usize,
-) -> Result<Room<N, T>, AllocError>
+) -> Result<Room<N, T>, CloseError>
     ensures shards { IfOk result (λ room. (room.shards.items ≡ []) × (shards ≤ vec_capacity room.shards)) }
     ensures slots { IfOk result (λ room. (room.slots.items ≡ []) × (shards ≤ vec_capacity room.slots)) }
     ensures rests { IfOk result (λ room. (room.rests.items ≡ []) × (shards ≤ vec_capacity room.rests)) }
     ensures histories { IfOk result (λ room. (room.histories.items ≡ []) × (shards ≤ vec_capacity room.histories)) }
     ensures passes { passes.new.items ≡ passes.old.items }
     ensures guards { OnOk result (length passes.old.items + guards ≤ vec_capacity passes.new) }
+    ensures refused { IfErr result (λ e. e ≡ CloseError.Memory) }
 {
     passes.reserve(guards)?;
     Ok(Room {
@@ -290,7 +307,7 @@ fn end<N: Name, T: KeyTable + Drop, R: Wait>(
     requires some { 0 < length passes.items }
     requires passes { All (λ p. p.of ≡ N.of) passes.items }
     requires many { length shards.items ≡ N.of.shards }
-    requires counted { (s : ℕ) (v : View) → s < N.of.shards → IsCounted only_whole passes.items s (slice_index_or shards.items s v) }
+    requires counted { AreCounted only_whole passes.items shards.items N.of.shards }
     requires empty { rests.items ≡ [] }
     requires room { length shards.items ≤ vec_capacity rests }
     ensures closed { IsClosedRest N.of passes.items result.shards.items result.draws }
@@ -349,7 +366,7 @@ impl<N: Name, T: KeyTable + Drop, W: Waker + Drop> Table<N, T, W> {
         ensures whole { IfOk result (λ e. only_whole ≡ true → AreWhole N.of e.rests.shards.items) }
         ensures room { IfOk result (λ e. (e.histories.items ≡ []) × (length e.rests.shards.items ≤ vec_capacity e.histories)) }
         ensures enough { OnOk result (self.passes ≤ length passes.items + length guards.items) }
-        ensures refused { IfErr result (λ e. IsUnclosed e.error (length passes.items + length guards.items) self.passes) }
+        ensures refused { IfErr result (λ e. IsUnclosed e.error (length passes.items + length guards.items) self) }
         ensures table { IfErr result (λ e. e.table ≡ self) }
         ensures passes { IfErr result (λ e. e.passes.items ≡ passes.items) }
         ensures guards { IfErr result (λ e. e.guards.items ≡ guards.items) }
@@ -364,13 +381,16 @@ impl<N: Name, T: KeyTable + Drop, W: Waker + Drop> Table<N, T, W> {
                 error,
             });
         }
-        let Ok(room) = take_room(alloc, self.shards.len(), &mut passes, guards.len()) else {
-            return Err(CloseRefused {
-                table: self,
-                passes,
-                guards,
-                error: CloseError::Memory,
-            });
+        let room = match take_room(alloc, self.shards.len(), &mut passes, guards.len()) {
+            Ok(room) => room,
+            Err(error) => {
+                return Err(CloseRefused {
+                    table: self,
+                    passes,
+                    guards,
+                    error,
+                });
+            }
         };
         let Table {
             config,
@@ -379,7 +399,7 @@ impl<N: Name, T: KeyTable + Drop, W: Waker + Drop> Table<N, T, W> {
             waker,
         } = self;
         let shards = each_into(shards, room.shards, |slot| slot.into_shard());
-        if let Some(place) = first_miscounted(&shards, only_whole, &passes, &guards) {
+        if let Some(error) = count_fault(&shards, only_whole, &passes, &guards) {
             return Err(CloseRefused {
                 table: Table {
                     config,
@@ -389,7 +409,7 @@ impl<N: Name, T: KeyTable + Drop, W: Waker + Drop> Table<N, T, W> {
                 },
                 passes,
                 guards,
-                error: CloseError::Counts(place),
+                error,
             });
         }
         let passes = all_passes(passes, guards);
@@ -416,7 +436,7 @@ impl<N: Name, T: KeyTable + Drop, W: Waker + Drop> Table<N, T, W> {
         requires guards { All (λ g. g.pass.of ≡ N.of) guards.items }
         ensures closed { IfOk result (λ h. IsClosed N.of (passes_of passes.items guards.items) h.shards.items h.draws) }
         ensures enough { OnOk result (self.passes ≤ length passes.items + length guards.items) }
-        ensures refused { IfErr result (λ e. IsUnclosed e.error (length passes.items + length guards.items) self.passes) }
+        ensures refused { IfErr result (λ e. IsUnclosed e.error (length passes.items + length guards.items) self) }
         ensures table { IfErr result (λ e. e.table ≡ self) }
         ensures passes { IfErr result (λ e. e.passes.items ≡ passes.items) }
         ensures guards { IfErr result (λ e. e.guards.items ≡ guards.items) }
@@ -438,7 +458,7 @@ impl<N: Name, T: KeyTable + Drop, W: Waker + Drop> Table<N, T, W> {
         requires guards { All (λ g. g.pass.of ≡ N.of) guards.items }
         ensures closed { IfOk result (λ r. IsClosedRest N.of (passes_of passes.items guards.items) r.shards.items r.draws) }
         ensures enough { OnOk result (self.passes ≤ length passes.items + length guards.items) }
-        ensures refused { IfErr result (λ e. IsUnclosed e.error (length passes.items + length guards.items) self.passes) }
+        ensures refused { IfErr result (λ e. IsUnclosed e.error (length passes.items + length guards.items) self) }
         ensures table { IfErr result (λ e. e.table ≡ self) }
         ensures passes { IfErr result (λ e. e.passes.items ≡ passes.items) }
         ensures guards { IfErr result (λ e. e.guards.items ≡ guards.items) }

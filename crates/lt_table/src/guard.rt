@@ -1,8 +1,9 @@
 ghost use Rattle.std.specs.Prelude.{◌≡◌};
 ghost use mathlib.Core.List.{IsPrefix};
 ghost use Rattle.lt_ids.specs.Ids.{IsNumber};
-ghost use Rattle.lt_words.specs.History.{IsLegalHistory};
+ghost use Rattle.lt_words.specs.History.{IsLegalHistory, LetIn};
 ghost use Rattle.lt_words.specs.Row.{SeesMore};
+ghost use Rattle.lt_table.specs.Reported.{wait_of};
 
 use crate::progress::Mode;
 use crate::walk::Walk;
@@ -71,6 +72,13 @@ impl Guard {
         ensures { IsLegalHistory self.now.pass.of.shards self.now.pass.seen }
     {
         self.pass.legal();
+    }
+
+    /// A request that waited, and has heard that it was let through, was let through in what its pass has seen.
+    pub fn let_through(&self)
+        ensures { self.now.walk.progress.mode ≡ Mode.Let → LetIn self.now.pass.seen self.now.pass.number (wait_of self.now.walk) }
+    {
+        let _ = &self.pass;
     }
 
     /// What its pass has seen, for another to learn.

@@ -1,9 +1,11 @@
 //! What follows from what the calls of a table tell.
 //!
 //! Each law is the contract of a function without work, over the definitions alone.
-ghost use Rattle.lt_table.specs.Laws.{OneKeyList, ReportedStand, ProceedHasPassedEach, ThroughGoesOn, ShownIsThrough, ShownGoesOn, NoWakeUpIsLost, NumbersOfGuardsDiffer, ReportedStandAtClose};
+ghost use Rattle.lt_table.specs.Laws.{OneKeyList, ReportedStand, ProceedHasPassedEach, ThroughGoesOn, ShownIsThrough, ShownGoesOn, NoWakeUpIsLost, NumbersOfGuardsDiffer, ReportedStandAtClose, OneHolderAtClose, ReadsPassAtClose, LivesGoOn, EachPlaceIsReportedOnce};
 ghost use Rattle.lt_table.specs.Reported.{PlacesRise};
 ghost use Rattle.lt_table.specs.Taken.{TakesJoin};
+
+use lt_words::laws::{one_holder_at_each_key, reads_pass_at_each_key};
 
 /// The accesses of a request decide its key list.
 pub fn one_key_list()
@@ -63,4 +65,30 @@ pub fn reported_stand_at_close()
 /// Takes of a shard that follow one another give its steps without a gap, and none twice.
 pub fn takes_join()
     ensures { TakesJoin }
+{}
+
+/// At no place of a key's history, in what a close gives, do two transactions hold the lock.
+pub fn one_holder_at_close()
+    ensures { OneHolderAtClose }
+{
+    one_holder_at_each_key();
+}
+
+/// In what a close gives, a read passes exactly where each other holder's stamp is above its timestamp, and else has to
+/// wait.
+pub fn reads_pass_at_close()
+    ensures { ReadsPassAtClose }
+{
+    reads_pass_at_each_key();
+}
+
+/// What a pass did goes on with each of its calls.
+pub fn lives_go_on()
+    ensures { LivesGoOn }
+{}
+
+/// Of all steps that the passes reported since they were handed out, exactly one stands at each place of each history of
+/// the close.
+pub fn each_place_is_reported_once()
+    ensures { EachPlaceIsReportedOnce }
 {}

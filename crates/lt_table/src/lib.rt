@@ -1,23 +1,59 @@
 //! The lock table of a transactional store: requests of many threads wait their turn at contended keys.
 //!
-//! A store sequences its requests through a [`Table`]. Each thread owns a [`Pass`](lt_words::Pass), and for each request
-//! it goes round this loop:
+//! A store opens a table in two steps, since a proof knows a table by its name: [`prepare`] takes the memory of its words, and
+//! a function over `N: Name`, which is called at `Brand`, opens it and does all that is done with it:
 //!
 //! ```text
-//! // A number is drawn: who is first, goes first.
-//! let mut guard = table.enter(rt, alloc, pass, Some(txn), ts, &accesses, longest)?;
-//! loop {
-//!     match table.scan(rt, &mut guard)? {                              // one visit of each key, in order
-//!         Scan::Proceed => break,                                      // no conflict: evaluate now
-//!         Scan::Rescan => {}                                           // it waited on the way: once more
-//!         Scan::Waiting(_) => { table.wait(rt, &mut guard); }          // it sleeps until it is let through
-//!         Scan::TooLong(_) => return table.leave(rt, guard),           // there are as many writers as its bound
+//! fn serve<N: Name + Send + Sync, R: Threads + Wait + Sync>(rt: &R, alloc: Global, ready: Ready) -> Option<Histories>
+//!     requires { ready.of ≡ N.of }
+//! {
+//!     let (table, passes) = open::<N>(alloc, ready).ok()?;
+//!     let (passes, guards) = work_on(rt, alloc, &table, passes);           // each thread has a pass
+//!     match table.close(rt, alloc, passes, guards) {                       // all passes are back
+//!         Ok(histories) => Some(histories),
+//!         Err(refused) => { refused.abandon(); None }                      // or try again with what comes back
 //!     }
 //! }
-//! table.acquire_in(rt, &mut guard, &key, txn, ts)?;                    // the keys that it wrote are locked
-//! let mut pass = table.leave(rt, guard)?.pass;                         // its stands in the queues are given up
-//! table.finish(rt, &mut pass, &key, txn)?;                             // at its end: the lock is free, the next may go
+//!
+//! let ready = prepare(alloc, config).ok()?;
+//! serve::<Brand, R>(rt, alloc, ready)
 //! ```
+//!
+//! For each request a thread goes round this loop with its pass. It leaves on every path, since whoever stands behind it waits
+//! until it does, and it looks at what an acquire was replied:
+//!
+//! ```text
+//! fn proceed(rt: &R, table: &Table<N, T>, guard: &mut Guard) -> bool {
+//!     for _ in rt.forever() {
+//!         match table.scan(rt, guard) {                                    // one visit of each key, in order
+//!             Ok(Scan::Proceed) => return true,                            // no conflict: evaluate now
+//!             Ok(Scan::Rescan) => {}                                       // it waited on the way: once more
+//!             Ok(Scan::Waiting(_)) => { table.wait(rt, guard); }           // it sleeps until it is let through
+//!             Ok(Scan::TooLong(_)) => return false,                        // there are as many writers as its bound
+//!             Err(_) => return false,                                      // a full history, no memory, too many waits
+//!         }
+//!     }
+//!     unreachable!()
+//! }
+//!
+//! let mut guard = match table.enter(rt, alloc, pass, Some(txn), ts, &accesses, longest) {
+//!     Ok(guard) => guard,                                                  // a number is drawn: who is first, goes first
+//!     Err(EnterRefused { pass, error: _ }) => { seat.put(pass); return None; }
+//! };
+//! let is_locked = proceed(rt, &table, &mut guard)
+//!     && is_ours(table.acquire_in(rt, &mut guard, key, txn, ts));          // `Taken`, `Raised` or `Kept`, and not `Other`
+//! match table.leave(rt, guard) {                                           // its stands in the queues are given up
+//!     Ok(Left { pass, answers: _ }) => seat.put(pass),
+//!     Err(LeaveStopped { guard, error: _ }) => ..                          // no memory: it leaves again from there
+//! }
+//! // Later, at the transaction's end, where it holds the lock: the lock comes free, and the next may go.
+//! table.finish(rt, &mut pass, key, txn)
+//! ```
+//!
+//! What a store brings itself: latches, since two requests that meet no lock both proceed, and of their acquires the second is
+//! answered `Other`; pushing, that is what becomes of a transaction that holds a lock for too long, and deadlock detection, for
+//! which [`Table::inspect`] tells who waits for whom; and timestamps. The crate `lt_waiting_tests` has such a store's threads,
+//! whole and proved, in `lent.rt` and `queue.rt`.
 //!
 //! A scan waits for the locks of shards alone. At a conflict its request stands in the key's queue, and it answers
 //! `Waiting`. A poll is one load of the pass's own status word, so a thread may poll as often as it likes, or do something
@@ -56,7 +92,7 @@
 //! pub struct Seat<N: Name> {
 //!     pass: Option<Pass>,
 //!     name: PhantomData<N>,
-//!     pub ghost of: { IfSome pass (λ p. p.of ≡ N.of) },                // it is a pass of this table
+//!     pub ghost of: { ForSome pass (λ p. p.of ≡ N.of) },               // it is a pass of this table
 //! }
 //!
 //! impl<N: Name> Drop for Seat<N> {
@@ -71,8 +107,6 @@
 //! // Moved: each thread is given a seat and gives one back.
 //! let seats = map_vec(rt, seats, &|seat: Seat<N>| -> Option<Seat<N>> { turn(rt, &table, seat) })?;
 //! ```
-//!
-//! The crate `lt_waiting_tests` has both, whole and proved: `lent.rt` and `queue.rt`.
 //!
 //! Look next at `specs/Machine.antt`, the state of a request and what each call makes of it, `specs/Reported.antt`, what a
 //! call tells of its steps, and `specs/Closed.antt`, what is left at the end. `docs/RULES.md`, "A request", has the rules in

@@ -3,6 +3,7 @@ ghost use Rattle.std.specs.Prelude.{◌≡◌, ◌≤◌, ◌^◌, IfOk, length}
 ghost use Rattle.std.specs.List.{All};
 ghost use Rattle.std.specs.FinMap as finmap;
 ghost use Rattle.lt_words.specs.Row.{fresh_passes};
+ghost use Rattle.lt_table.specs.Configs.{AreNewShards};
 
 use crate::config::Ready;
 use crate::table::{Slot, Table};
@@ -12,8 +13,45 @@ use lt_shard::Shard;
 use lt_words::{Book, Name, Pass, Waker, abandon_all};
 use std::alloc::{AllocError, Global};
 
-/// The shards over these tables, each behind a lock of its own.
+/// The shards over these tables, in order, each of which may hold so many steps.
 fn shards_over<N: Name, T: KeyTable + Drop>(
+    alloc: Global,
+    book: &Book,
+    tables: Vec<T>,
+    max_steps: u64,
+) -> Result<Vec<Shard<N, T>>, AllocError>
+    requires book { book.now ≡ N.of }
+    requires many { length tables.items ≡ N.of.shards }
+    requires empty { All (λ t. T.records t ≡ finmap.empty) tables.items }
+    requires low { 1 ≤ max_steps }
+    requires high { max_steps ≤ 2 ^ 32 }
+    ensures many { IfOk result (λ shards. length shards.items ≡ N.of.shards) }
+    ensures each { IfOk result (λ shards. AreNewShards N.of max_steps shards.items) }
+{
+    let mut shards = Vec::new(alloc);
+    for table in tables {
+        let index = shards.len();
+        shards.push(Shard::new(alloc, table, book, index, max_steps))?;
+    }
+    Ok(shards)
+}
+
+/// Puts each shard behind a lock of its own.
+fn slots_of<N: Name, T: KeyTable + Drop>(
+    alloc: Global,
+    shards: Vec<Shard<N, T>>,
+) -> Result<Vec<Slot<N, T>>, AllocError>
+    ensures { IfOk result (λ slots. length slots.items ≡ length shards.items) }
+{
+    let mut slots = Vec::new(alloc);
+    for shard in shards {
+        slots.push(Slot::new(shard))?;
+    }
+    Ok(slots)
+}
+
+/// The shards over these tables, which may hold so many steps, each behind a lock of its own.
+fn slots_over<N: Name, T: KeyTable + Drop>(
     alloc: Global,
     book: &Book,
     tables: Vec<T>,
@@ -24,14 +62,9 @@ fn shards_over<N: Name, T: KeyTable + Drop>(
     requires empty { All (λ t. T.records t ≡ finmap.empty) tables.items }
     requires low { 1 ≤ max_steps }
     requires high { max_steps ≤ 2 ^ 32 }
-    ensures { IfOk result (λ shards. length shards.items ≡ N.of.shards) }
+    ensures { IfOk result (λ slots. length slots.items ≡ N.of.shards) }
 {
-    let mut shards = Vec::new(alloc);
-    for table in tables {
-        let index = shards.len();
-        shards.push(Slot::new(Shard::new(alloc, table, book, index, max_steps)))?;
-    }
-    Ok(shards)
+    slots_of(alloc, shards_over(alloc, book, tables, max_steps)?)
 }
 
 /// Opens the table of a book over these tables, which are empty, one for each shard, in order. Its passes have seen
@@ -54,7 +87,7 @@ pub fn open_with<N: Name, T: KeyTable + Drop>(
         book,
         passes,
     } = ready;
-    let Ok(shards) = shards_over(alloc, &book, tables, config.max_steps) else {
+    let Ok(shards) = slots_over(alloc, &book, tables, config.max_steps) else {
         abandon_all(passes);
         return Err(AllocError);
     };

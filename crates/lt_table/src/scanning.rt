@@ -12,8 +12,21 @@ use crate::progress::Mode;
 use crate::scan::{Poll, Scan, ScanError};
 use crate::table::Table;
 use lt_plain::KeyTable;
-use lt_words::{Keeping, Name, Waker};
+use lt_words::{Book, Keeping, Name, Waker};
 use std::sync::Wait;
+
+/// Loads the status word of the guard's pass, and compares it with the ticket of its wait. The book has words alone, so
+/// no lock can be taken here.
+fn poll_on(book: &Book, guard: &mut Guard) -> Poll
+    requires { guard.old.pass.of ≡ book.now }
+    ensures poll { IsPoll guard.old guard.new result }
+    ensures through { result ≡ Poll.Through → LetIn guard.new.pass.seen guard.new.pass.number (wait_of guard.new.walk) }
+    ensures stays { GuardStays guard.old guard.new }
+{
+    guard.walk.sound();
+    let word = book.read(&mut guard.pass);
+    guard.walk.poll(word)
+}
 
 impl<N: Name, T: KeyTable, W: Waker> Table<N, T, W> {
     /// Whether the request was let through. It is one load of the pass's status word, compared with the whole ticket
@@ -24,9 +37,7 @@ impl<N: Name, T: KeyTable, W: Waker> Table<N, T, W> {
         ensures through { result ≡ Poll.Through → LetIn guard.new.pass.seen guard.new.pass.number (wait_of guard.new.walk) }
         ensures stays { GuardStays guard.old guard.new }
     {
-        guard.walk.sound();
-        let word = self.book.read(&mut guard.pass);
-        guard.walk.poll(word)
+        poll_on(&self.book, guard)
     }
 
     fn visit_on<R: Wait>(&self, rt: &R, guard: &mut Guard) -> Result<Scan, ScanError>
@@ -56,6 +67,8 @@ impl<N: Name, T: KeyTable, W: Waker> Table<N, T, W> {
         ensures scan { IsScan self.now.max_waits guard.old guard.new result }
         // Who waited goes on only where it was let through.
         ensures went_on { guard.old.walk.progress.mode ≡ Mode.Awaiting → result ≢ Err ScanError.StillWaiting → LetIn guard.new.pass.seen guard.new.pass.number (wait_of guard.old.walk) }
+        // Who was let through before has been let through in what its pass has then seen.
+        ensures was_let { guard.old.walk.progress.mode ≡ Mode.Let → LetIn guard.new.pass.seen guard.new.pass.number (wait_of guard.old.walk) }
         // It waits at a key of its list.
         ensures waiting { (place : ℕ) → result ≡ Ok (Waiting place) → place < length guard.new.walk.asked.keys }
         // A queue was too long for it at a key of its list, and it stands at the start again.
@@ -64,6 +77,7 @@ impl<N: Name, T: KeyTable, W: Waker> Table<N, T, W> {
         ensures stays { GuardStays guard.old guard.new }
         ensures never_full { N.of.keeping ≡ Keeping.Unrecorded → result ≢ Err ScanError.HistoryFull }
     {
+        guard.let_through();
         let result = self.visit_on(rt, guard);
         guard.walk.sound();
         result

@@ -276,3 +276,20 @@ fn an_unrecorded_table_tells_what_a_whole_one_tells(rt: HostRuntime) -> Result<(
     let kept = keep(&rt, alloc, config(1, 5), Keeping::Unrecorded, &acts).ok_or("the run")?;
     tells_the_same(&rt, &whole, kept, &[])
 }
+
+/// Of three shards the second alone made steps, which are gone. A close that is to give whole histories names it and is
+/// refused, and the locks come back at their places: the close for what is left finds each shard at its own.
+#[test]
+fn a_refused_close_gives_each_lock_back_at_its_place(rt: HostRuntime) -> Result<(), Fail> {
+    let alloc = rt.alloc();
+    let acts = [at(0, taken(0, 7, 10, b'a')), at(1, freed(0, 7, b'a'))];
+    let kept = keep(&rt, alloc, config(3, 2), Keeping::Unrecorded, &acts).ok_or("the run")?;
+    assert_eq!(rt; kept.came.len(), 2);
+    assert_eq!(rt; kept.refused, CloseError::Counts(1));
+    assert_eq!(rt; kept.rests.shards.len(), 3);
+    let mut froms = kept.rests.shards.iter().map(|rest| rest.from);
+    assert_eq!(rt; froms.next(), Some(0));
+    assert_eq!(rt; froms.next(), Some(2));
+    assert_eq!(rt; froms.next(), Some(0));
+    Ok(())
+}

@@ -74,6 +74,23 @@ fn a_ticket_is_a_number_and_a_wait_in_one_word(rt: HostRuntime) -> Result<(), Fa
     Ok(())
 }
 
+/// A ticket is shown as its number and its wait, with a dot between them.
+#[test]
+fn a_ticket_is_shown_as_its_number_and_its_wait(rt: HostRuntime) -> Result<(), Fail> {
+    for (number, wait, text) in [
+        (1, 2, "1.2"),
+        ((1 << 40) - 1, (1 << 24) - 1, "1099511627775.16777215"),
+    ] {
+        let ticket = Ticket::new(number, wait).ok_or("a ticket")?;
+        let shown = match format!(in rt.alloc(); "{ticket:?}") {
+            Ok(shown) => shown,
+            Err(_) => format!(in rt.alloc(); "{ticket:?}")?,
+        };
+        assert_eq!(rt; shown.as_str(), text);
+    }
+    Ok(())
+}
+
 #[test]
 fn transactions_and_requests_keep_their_ranges(rt: HostRuntime) -> Result<(), Fail> {
     assert_eq!(rt; TxnId::new(0), None);

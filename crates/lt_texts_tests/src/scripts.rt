@@ -1,6 +1,6 @@
 use lt_ids::{Access, Key, Timestamp, TxnId};
 use lt_script::{Accesses, Action, Command, Fault, Script, ScriptError, ScriptPass, read_script};
-use std::alloc::Global;
+use std::alloc::{AllocError, Global};
 use std::test::*;
 
 const MIXED: &str =
@@ -53,11 +53,15 @@ fn mixed(alloc: Global) -> Option<Vec<Command>> {
 }
 
 /// What is read, at the second call where the first one was refused memory.
-fn read(rt: &HostRuntime, text: &str) -> Result<Script, ScriptError> {
-    match read_script(rt.alloc(), text.as_bytes()) {
-        Err(ScriptError::Memory) => read_script(rt.alloc(), text.as_bytes()),
+fn read_bytes(rt: &HostRuntime, text: &[u8]) -> Result<Script, ScriptError> {
+    match read_script(rt.alloc(), text) {
+        Err(ScriptError::Memory) => read_script(rt.alloc(), text),
         read => read,
     }
+}
+
+fn read(rt: &HostRuntime, text: &str) -> Result<Script, ScriptError> {
+    read_bytes(rt, text.as_bytes())
 }
 
 /// Skipped lines count, each line may end in either way, and spaces may stand around words.
@@ -71,6 +75,29 @@ fn lines_are_counted_and_words_are_cut(rt: HostRuntime) -> Result<(), Fail> {
     let expected = expected.ok_or("memory is refused once")?;
     assert_eq!(rt; script.as_slice(), expected.as_slice());
     assert_eq!(rt; script.into_vec().len(), 5);
+    Ok(())
+}
+
+/// A script of 5,000 lines.
+fn many_lines(alloc: Global) -> Result<Vec<u8>, AllocError> {
+    let mut text = Vec::with_capacity(alloc, 35_000)?;
+    for _ in 0..5000 {
+        text.extend_from_slice(b"1 scan\n")?;
+    }
+    Ok(text)
+}
+
+/// A script may have any number of lines.
+#[test]
+fn a_script_of_5000_lines_is_read_whole(rt: HostRuntime) -> Result<(), Fail> {
+    let text = match many_lines(rt.alloc()) {
+        Ok(text) => text,
+        Err(_) => many_lines(rt.alloc())?,
+    };
+    let script = read_bytes(&rt, &text)?;
+    let commands = script.as_slice();
+    assert_eq!(rt; commands.len(), 5000);
+    assert_eq!(rt; commands.last().map(|command| command.line), Some(5000));
     Ok(())
 }
 

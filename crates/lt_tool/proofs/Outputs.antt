@@ -16,6 +16,7 @@ written options always commands ran text finish is_ran composed = record {
   finish_is = composed.finish_is;
   histories = composed.histories;
   report = record { version = 2; keys = length composed.is_text.keys; steps = length (joined ran.histories.items) };
+  latest = refl;
   legal = record {
     is_version = inr refl;
     entries = joined ran.histories.items;

@@ -1,5 +1,5 @@
 -- What a run writes, and what it says.
-use Rattle.std.specs.Prelude.{ℕ, ◌≡◌, ◌<◌, ◌≤◌, ◌^◌, Bool, List, ◌++◌, length, Option, Some, None, IfSome, Ok, Err, if◌then◌else◌}
+use Rattle.std.specs.Prelude.{ℕ, ◌≡◌, ◌⊎◌, ◌<◌, ◌≤◌, ◌^◌, Bool, List, ◌++◌, length, Option, Some, None, IfSome, Result, Ok, Err, if◌then◌else◌}
 use Rattle.std.specs.Io.KnownBytes.{Appends}
 use Rattle.lt_history.specs.declared.checker.Report.{Report}
 use Rattle.lt_history.specs.Histories.{IsTextOf}
@@ -37,14 +37,15 @@ pub record IsComposed (ran : Ran) (text : List ℕ) (finish : Finish) : Type 0 w
   pub whole : text ≡ answers_text ran.answers.items ++ histories
   pub finish_is : finish ≡ ran.finish
 
--- The commands were run so, and the text answers each that was run and ends with a text of legal histories, just as a
--- check takes it, whose entries are those that the run left: all that the answers tell stands in them.
+-- The commands were run so, and the text answers each that was run and ends with a text of legal histories in the latest
+-- version, just as a check takes it, whose entries are those that the run left: all that the answers tell stands in them.
 pub record IsOutput (options : Options) (always : Bool) (commands : List Command) (text : List ℕ) (finish : Finish) : Type 0 where
   pub ran : Ran
   pub is_ran : IsRan (rules_of options) always options.shards commands ran
   pub finish_is : finish ≡ ran.finish
   pub histories : List ℕ
   pub report : Report
+  pub latest : report.version ≡ 2
   pub legal : IsLegalText histories report
   pub entries_are : legal.entries ≡ joined ran.histories.items
   pub whole : text ≡ answers_text ran.answers.items ++ histories
@@ -56,6 +57,11 @@ IsShort text = length text ≤ 2 ^ 24
 -- The commands are those of the script, where its bytes are known.
 abbrev pub AreOf : List Command → Option (List ℕ) → Type 0
 AreOf commands script = IfSome script (λ text. IsShort text × (commands_of text ≡ Ok commands))
+
+-- The bytes are short enough to be read, and are a script: each of its lines can be run.
+pub record IsScript (text : List ℕ) : Type 0 where
+  pub commands : List Command
+  pub are_of : IsShort text × (commands_of text ≡ Ok commands)
 
 -- The writer holds the output of the script more, and nothing else; the run ended so.
 pub record Writes (options : Options) (always : Bool) (finish : Finish) (script old new : Option (List ℕ)) : Type 0 where
@@ -74,11 +80,22 @@ pub record WritesInPart (options : Options) (always : Bool) (script old new : Op
   pub output : IsOutput options always commands text finish
   pub written : AppendsFront old new text
 
--- why a script was not run, where its bytes are known
+-- why a script was not run, where its bytes are known; a table is closed only after a script was run
 abbrev pub IsRefused : RunError → Option (List ℕ) → Type 0
 IsRefused errors.TooLong script = IfSome script (λ text. 2 ^ 24 < length text)
 IsRefused (errors.Script line fault) script = IfSome script (λ text. IsShort text × (commands_of text ≡ Err (Fault line fault)))
+IsRefused errors.Counts script = IfSome script IsScript
 IsRefused _ script = Unit {0}
+
+-- A read failed, or memory ran out.
+abbrev pub IsStopped : {X : Type 0} → Result X RunError → Type 0
+IsStopped (Err errors.Read) = Unit {0}
+IsStopped (Err errors.Memory) = Unit {0}
+IsStopped _ = ⊥
+
+-- The script was refused for this reason, unless a read failed or memory ran out.
+abbrev pub IsStoppedOr : {X : Type 0} → Result X RunError → RunError → Type 0
+IsStoppedOr result reason = (result ≡ Err reason) ⊎ IsStopped result
 
 abbrev pub unread : Unread → RunError
 unread inputs.Read = errors.Read

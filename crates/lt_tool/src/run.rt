@@ -1,6 +1,8 @@
-ghost use Rattle.std.specs.Prelude.{◌≡◌, ◌≢◌, true, IfOk, IfErr};
+ghost use Rattle.std.specs.Prelude.{◌≡◌, ◌≢◌, ◌<◌, ◌^◌, ℕ, true, IfOk, IfErr, IfSome, Err, length};
 ghost use Rattle.lt_command_line.specs.Options.{AreInRange};
-ghost use Rattle.lt_tool.specs.Output.{Writes, WritesInPart, IsRefused, AreOf, unread, unscripted, unfinished};
+ghost use Rattle.lt_script.specs.declared.error.ScriptError.TheVariants as faults;
+ghost use Rattle.lt_script.specs.Script.{commands_of};
+ghost use Rattle.lt_tool.specs.Output.{Writes, WritesInPart, IsRefused, IsStoppedOr, IsShort, AreOf, unread, unscripted, unfinished};
 
 use crate::input::{Unread, read_text};
 use crate::output::run_commands;
@@ -69,6 +71,8 @@ fn unfinished(why: RunFault) -> RunError
 fn script_of<R: Read>(alloc: Global, reader: &mut R) -> Result<Script, RunError>
     ensures ok { IfOk result (λ script. AreOf script (R.remaining reader.old)) }
     ensures err { IfErr result (λ e. IsRefused e (R.remaining reader.old)) }
+    ensures faulty { IfSome (R.remaining reader.old) (λ text. (line : ℕ) (fault : Fault) → IsShort text → commands_of text ≡ Err (faults.Fault line fault) → IsStoppedOr result (RunError.Script line fault)) }
+    ensures too_long { IfSome (R.remaining reader.old) (λ text. 2 ^ 24 < length text → IsStoppedOr result RunError.TooLong) }
     ensures unwritten { IfErr result (λ e. e ≢ RunError.Write) }
 {
     let text = match read_text(alloc, reader) {
@@ -106,6 +110,10 @@ pub fn run_script_with<H: Threads + Wait + Sync, R: Read, W: Write, G: Gate + Sy
 
     // After a write that failed the writer holds a front of the output.
     ensures write { IfErr result (λ e. e ≡ RunError.Write → WritesInPart options.now (G.always gate.now) (R.remaining reader.old) (W.contents writer.old) (W.contents writer.new)) }
+
+    // A script with a fault is told just that fault, and one that is too long just that, unless a read or memory fails.
+    ensures faulty { IfSome (R.remaining reader.old) (λ text. (line : ℕ) (fault : Fault) → IsShort text → commands_of text ≡ Err (faults.Fault line fault) → IsStoppedOr result (RunError.Script line fault)) }
+    ensures too_long { IfSome (R.remaining reader.old) (λ text. 2 ^ 24 < length text → IsStoppedOr result RunError.TooLong) }
 {
     let script = script_of(alloc, reader)?;
     let outcome = match run_commands(rt, alloc, options, gate, script) {
@@ -131,6 +139,8 @@ pub fn run_script<H: Threads + Wait + Sync, R: Read, W: Write>(
     ensures refused { IfErr result (λ e. IsRefused e (R.remaining reader.old)) }
     ensures unwritten { IfErr result (λ e. e ≢ RunError.Write → writer.new ≡ writer.old) }
     ensures write { IfErr result (λ e. e ≡ RunError.Write → WritesInPart options.now true (R.remaining reader.old) (W.contents writer.old) (W.contents writer.new)) }
+    ensures faulty { IfSome (R.remaining reader.old) (λ text. (line : ℕ) (fault : Fault) → IsShort text → commands_of text ≡ Err (faults.Fault line fault) → IsStoppedOr result (RunError.Script line fault)) }
+    ensures too_long { IfSome (R.remaining reader.old) (λ text. 2 ^ 24 < length text → IsStoppedOr result RunError.TooLong) }
 {
     run_script_with(rt, alloc, reader, writer, options, &OpenGate)
 }

@@ -1,4 +1,4 @@
-use crate::streams::{LineEnds, Paper, Torn, blank};
+use crate::streams::{FAULTS_OF_READS, FAULTS_OF_WRITES, LineEnds, Paper, Torn, blank};
 use lt_history::{CheckError, Fault, Report};
 use lt_tool::{CheckTextError, check_text, upgrade_text};
 use std::io::{ErrorKind, Read};
@@ -49,20 +49,18 @@ fn done<R: Read + Drop>(
     Err(CheckTextError::Check(CheckError::Memory))
 }
 
-fn torn(text: &str, fails_at: usize) -> Torn<'_> {
+fn torn(text: &str, fails_at: usize, fault: ErrorKind) -> Torn<'_> {
     Torn {
         rest: text.as_bytes(),
         reads: 0,
         fails_at,
+        fault,
     }
 }
 
-fn line_ends(left: usize) -> LineEnds {
-    LineEnds {
-        left,
-        reads: 0,
-        fails_at: usize::MAX,
-    }
+/// The text, by a reader that does not fail.
+fn whole(text: &str) -> Torn<'_> {
+    torn(text, usize::MAX, ErrorKind::Other)
 }
 
 fn three_steps(version: u8) -> Ending {
@@ -73,45 +71,40 @@ fn three_steps(version: u8) -> Ending {
     })
 }
 
-/// A text of 97 bytes is read by ten reads of up to ten bytes, and an eleventh that finds its end.
+/// A text of 97 bytes is read by ten reads of up to ten bytes, and an eleventh that finds its end. A read that fails or is
+/// interrupted is told, though the next one would not fail.
 #[test]
 fn reads_that_fail(rt: HostRuntime) {
     assert_eq!(rt; THREE_STEPS.len(), 97);
     for (work, version, text, told) in WORKS {
-        for fails_at in 0..12 {
-            let mut writer = blank(1024, 1024);
-            let readers = [torn(text, fails_at), torn(text, fails_at)];
-            let ended = done(&rt, work, readers, &mut writer);
-            let (ending, written) = if fails_at < 11 {
-                (Err(CheckTextError::Read), "")
-            } else {
-                (three_steps(version), told)
-            };
-            assert_eq!(rt; ended, ending);
-            assert_eq!(rt; writer.written(), written.as_bytes());
+        for fault in &FAULTS_OF_READS {
+            for fails_at in 0..12 {
+                let mut writer = blank(1024, 1024);
+                let readers = [torn(text, fails_at, *fault), torn(text, fails_at, *fault)];
+                let ended = done(&rt, work, readers, &mut writer);
+                let (ending, written) = if fails_at < 11 {
+                    (Err(CheckTextError::Read), "")
+                } else {
+                    (three_steps(version), told)
+                };
+                assert_eq!(rt; ended, ending);
+                assert_eq!(rt; writer.written(), written.as_bytes());
+            }
         }
     }
 }
 
-/// A writer that fails after so many bytes holds the front of the line, or of the upgraded text, that long; so does one
-/// that takes nothing, or is interrupted.
+/// A writer that fails after so many bytes holds the front of the line, or of the upgraded text, that long. So does one that
+/// takes no byte then, or is interrupted, though the next write would not fail.
 #[test]
 fn writes_that_fail(rt: HostRuntime) {
     for (work, version, text, told) in WORKS {
-        for stops_at in 0..told.len().saturating_add(2) {
-            for (at_once, fault) in [
-                (1024, ErrorKind::Other),
-                (1, ErrorKind::Interrupted),
-                (0, ErrorKind::Other),
-            ] {
-                let mut writer = blank(at_once, stops_at);
-                writer.fault = fault;
-                let ended = done(&rt, work, [torn(text, 99), torn(text, 99)], &mut writer);
-                let held = if at_once == 0 {
-                    0
-                } else {
-                    stops_at.min(told.len())
-                };
+        for fault in &FAULTS_OF_WRITES {
+            for stops_at in 0..told.len().saturating_add(2) {
+                let mut writer = blank(7, stops_at);
+                writer.fault = *fault;
+                let ended = done(&rt, work, [whole(text), whole(text)], &mut writer);
+                let held = stops_at.min(told.len());
                 assert_eq!(rt;
                     ended,
                     if held == told.len() {
@@ -140,7 +133,7 @@ fn long_texts(rt: HostRuntime) {
             (usize::MAX, CheckTextError::TooLong),
         ] {
             let mut writer = blank(1024, 1024);
-            let readers = [line_ends(left), line_ends(left)];
+            let readers = [LineEnds { left }, LineEnds { left }];
             let ended = done(&rt, work, readers, &mut writer);
             assert_eq!(rt; ended, Err(error));
             assert_eq!(rt; writer.written(), b"".as_slice());

@@ -1,38 +1,92 @@
-//! Gates that end a pass, or hold one pass for another.
+//! Gates that note what they are asked, end a pass, or hold one pass for another.
 ghost use Rattle.std.specs.Prelude.{false};
 
 use lt_tool::Gate;
+use std::array;
 use std::hint::spin_loop;
-use std::sync::atomic::{AtomicBool, Ordering};
+use std::sync::atomic::{AtomicBool, AtomicU64, AtomicUsize, Ordering};
+use std::thread::yield_now;
 
-/// Answers no before one line.
-#[derive(Drop)]
-pub(crate) struct Until {
-    pub line: usize,
-}
+/// How many turns a hold has at most.
+const TURNS: u32 = 5_000_000;
 
-impl Gate for Until {
-    ghost always = { λ _. false };
-
-    fn before(&self, _pass: u32, line: usize) -> bool {
-        line != self.line
-    }
-
-    fn after(&self, _pass: u32, _line: usize) {}
-}
-
-/// How many turns a wait has at most.
-const TURNS: u32 = 100_000_000;
-
-/// Counts turns until the flag is set. False where it is not set in 100,000,000 turns.
+/// Gives the processor away until the flag is set. False where it is not set in so many turns.
 fn is_set_in_time(flag: &AtomicBool) -> bool {
     for _ in 0..TURNS {
         if flag.load(Ordering::SeqCst) {
             return true;
         }
-        spin_loop();
+        yield_now();
     }
     false
+}
+
+/// Counts 5,000,000 turns, unless the flag is set before. It keeps the processor, so that this takes as long on a busy one.
+fn linger(flag: &AtomicBool) {
+    for _ in 0..TURNS {
+        if flag.load(Ordering::SeqCst) {
+            return;
+        }
+        spin_loop();
+    }
+}
+
+/// Notes what it is asked and told, and answers no before one line. A note has three digits: the pass, the line, and 0 where
+/// it was asked before the line, 1 where it was told after it.
+#[derive(Drop)]
+pub(crate) struct Notes {
+    refused: usize,
+    count: AtomicUsize,
+    notes: [AtomicU64; 16],
+}
+
+impl Notes {
+    pub fn new(refused: usize) -> Self {
+        Notes {
+            refused,
+            count: AtomicUsize::new(0),
+            notes: array::from_fn(|_place: usize| AtomicU64::new(0)),
+        }
+    }
+
+    fn note(&self, pass: u32, line: usize, is_told: bool) {
+        let place = self.count.fetch_add(1, Ordering::SeqCst);
+        let digits = u64::from(pass)
+            .wrapping_mul(100)
+            .wrapping_add((line as u64).wrapping_mul(10))
+            .wrapping_add(u64::from(is_told));
+        if let Some(note) = self.notes.get(place) {
+            note.store(digits, Ordering::SeqCst);
+        }
+    }
+
+    /// The notes of the pass, or of all passes if none is named, in their order, are these.
+    pub fn are(&self, pass: Option<u64>, expected: &[u64]) -> bool {
+        let mut rest = expected;
+        for note in &self.notes {
+            let digits = note.load(Ordering::SeqCst);
+            if digits != 0 && (pass.is_none() || pass == Some(digits / 100)) {
+                match rest.split_first() {
+                    Some((first, others)) if *first == digits => rest = others,
+                    _ => return false,
+                }
+            }
+        }
+        rest.is_empty()
+    }
+}
+
+impl Gate for Notes {
+    ghost always = { λ _. false };
+
+    fn before(&self, pass: u32, line: usize) -> bool {
+        self.note(pass, line, false);
+        line != self.refused
+    }
+
+    fn after(&self, pass: u32, line: usize) {
+        self.note(pass, line, true);
+    }
 }
 
 /// Holds line 1 until line 4 is answered, and line 4 until it was asked for line 1; and answers no where it held a line too
@@ -69,6 +123,125 @@ impl Gate for Crossed {
     fn after(&self, _pass: u32, line: usize) {
         if line == 4 {
             self.answered.store(true, Ordering::SeqCst);
+        }
+    }
+}
+
+/// Holds each line until the line before it is answered, so that passes on threads take turns as they do on one thread; and
+/// answers no where it held a line too long.
+#[derive(Drop)]
+pub(crate) struct Between {
+    answered: AtomicUsize,
+}
+
+impl Between {
+    pub fn new() -> Self {
+        Between {
+            answered: AtomicUsize::new(0),
+        }
+    }
+}
+
+impl Gate for Between {
+    ghost always = { λ _. false };
+
+    fn before(&self, _pass: u32, line: usize) -> bool {
+        for _ in 0..TURNS {
+            if self.answered.load(Ordering::SeqCst).wrapping_add(1) >= line {
+                return true;
+            }
+            yield_now();
+        }
+        false
+    }
+
+    fn after(&self, _pass: u32, line: usize) {
+        self.answered.store(line, Ordering::SeqCst);
+    }
+}
+
+/// Holds line 1 until it is told of line 2, and the pass that tells it of line 2 until it is asked for line 3. So line 2 is
+/// taken first if the gate is told of it only once it is answered, and else last. It answers no where it held line 1 too long.
+#[derive(Drop)]
+pub(crate) struct Told {
+    told: AtomicBool,
+    asked: AtomicBool,
+}
+
+impl Told {
+    pub fn new() -> Self {
+        Told {
+            told: AtomicBool::new(false),
+            asked: AtomicBool::new(false),
+        }
+    }
+}
+
+impl Gate for Told {
+    ghost always = { λ _. false };
+
+    fn before(&self, _pass: u32, line: usize) -> bool {
+        match line {
+            1 => is_set_in_time(&self.told),
+            3 => {
+                self.asked.store(true, Ordering::SeqCst);
+                true
+            }
+            _ => true,
+        }
+    }
+
+    fn after(&self, _pass: u32, line: usize) {
+        if line == 2 {
+            self.told.store(true, Ordering::SeqCst);
+            let _is_asked = is_set_in_time(&self.asked);
+        }
+    }
+}
+
+/// Holds line 3 until line 1 is answered, and line 5 until it was asked for line 4 and many turns more, unless line 4 is
+/// answered before; and answers no where it held a line too long.
+#[derive(Drop)]
+pub(crate) struct Late {
+    first: AtomicBool,
+    asked: AtomicBool,
+    answered: AtomicBool,
+}
+
+impl Late {
+    pub fn new() -> Self {
+        Late {
+            first: AtomicBool::new(false),
+            asked: AtomicBool::new(false),
+            answered: AtomicBool::new(false),
+        }
+    }
+}
+
+impl Gate for Late {
+    ghost always = { λ _. false };
+
+    fn before(&self, _pass: u32, line: usize) -> bool {
+        match line {
+            3 => is_set_in_time(&self.first),
+            4 => {
+                self.asked.store(true, Ordering::SeqCst);
+                true
+            }
+            5 => {
+                let is_asked = is_set_in_time(&self.asked);
+                linger(&self.answered);
+                is_asked
+            }
+            _ => true,
+        }
+    }
+
+    fn after(&self, _pass: u32, line: usize) {
+        match line {
+            1 => self.first.store(true, Ordering::SeqCst),
+            4 => self.answered.store(true, Ordering::SeqCst),
+            _ => (),
         }
     }
 }

@@ -6,6 +6,8 @@ mod checks;
 #[cfg(test)]
 mod gates;
 #[cfg(test)]
+mod long;
+#[cfg(test)]
 mod options;
 #[cfg(test)]
 mod scripts;

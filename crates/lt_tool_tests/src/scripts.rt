@@ -1,19 +1,19 @@
 ghost use Rattle.lt_command_line.specs.Options.{AreInRange};
 
-use crate::gates::{Crossed, Until};
+use crate::gates::{Between, Crossed, Late, Notes, Told};
 use crate::options::options;
-use crate::streams::{LineEnds, Paper, Torn, blank};
+use crate::streams::{FAULTS_OF_READS, FAULTS_OF_WRITES, LineEnds, Paper, Torn, blank};
 use lt_script::Fault;
 use lt_tool::{Finish, Gate, Options, RunError, run_script, run_script_with};
 use std::alloc::{AllocError, Global};
-use std::io::Read;
+use std::io::{ErrorKind, Read};
 use std::process::Abort;
 use std::sync::Wait;
 use std::test::*;
 use std::thread::Threads;
 
 /// What each run shows, its script, and what it writes. Eight runs are the scripts of `examples/`, whose files say the same.
-const RUNS: [(&'static str, &'static str, &'static str); 29] = [
+const RUNS: [(&'static str, &'static str, &'static str); 30] = [
     ("an empty script", "", "locks 2\n"),
     (
         "a reader at the time of the holder waits",
@@ -154,6 +154,11 @@ const RUNS: [(&'static str, &'static str, &'static str); 29] = [
         "a bound that ends like an access is a key",
         "1 open 7 1.0 max=0:r\n1 scan\n",
         "1 1 request 1\n1 2 proceed\nlocks 2\nmax=0 1 1 visit 1.1 7 1.0 r = pass\n",
+    ),
+    (
+        "the greatest pass, transaction, time and bound",
+        "64 acquire 18446744073709551615 18446744073709551615.4294967295 a\n64 open 18446744073709551615 18446744073709551615.4294967295 max=4294967295 b:w\n64 scan\n1 open - 18446744073709551615.4294967295 a:r\n1 scan\n1 look a\n",
+        "1 4 request 2\n1 5 waiting a\n1 6 first 18446744073709551615 held\n64 1 taken\n64 2 request 1\n64 3 proceed\nlocks 2\na 1 64 acquire 18446744073709551615 18446744073709551615.4294967295 = taken\na 2 1 visit 2.1 - 18446744073709551615.4294967295 r = wait\na 3 1 look 2 = first 18446744073709551615 held\nb 1 64 visit 1.1 18446744073709551615 18446744073709551615.4294967295 w max=4294967295 = pass\n",
     ),
 ];
 
@@ -323,40 +328,211 @@ fn a_request_has_up_to_256_accesses(rt: HostRuntime) {
     }
 }
 
-/// One run of the two passes on threads of their own, by this gate.
+/// One run of a script by this gate.
 fn run_gated<H: Threads + Wait + Sync, G: Gate + Sync>(
     rt: &H,
     alloc: Global,
+    script: &str,
+    threads: bool,
     gate: &G,
     writer: &mut Paper,
 ) -> Ending {
-    let options = options(4, 1000000, true, 1000000);
-    run_script_with(rt, alloc, &mut TWO_KEYS.as_bytes(), writer, &options, gate)
+    let options = options(4, 1000000, threads, 1000000000);
+    run_script_with(rt, alloc, &mut script.as_bytes(), writer, &options, gate)
 }
 
-/// A gate that answers no before a line ends that line's pass, and no other one.
+/// A script by a gate that notes what it is asked and told, whether the passes have threads, the line before which the gate
+/// answers no, and how the run ends; the pass whose notes are read, or none for those of all; and the notes.
+type Noted = (
+    &'static str,
+    bool,
+    usize,
+    Finish,
+    Option<u64>,
+    &'static [u64],
+);
+
+/// Two passes. The lines are numbered with those that are skipped.
+const LINES_OF_TWO: &str =
+    "# 1\n1 acquire 7 20.0 a\n2 acquire 8 20.0 b\n\n1 finish 7 a\n2 finish 8 b\n";
+
+/// In turn the gate is asked in the order of the script; on threads in that of each pass. A line before which it answers no
+/// is the last one of its pass for which it is asked, and it is not told of it.
+const NOTED: [Noted; 9] = [
+    (
+        LINES_OF_TWO,
+        false,
+        0,
+        Finish::Done,
+        None,
+        &[120, 121, 230, 231, 150, 151, 260, 261],
+    ),
+    (
+        LINES_OF_TWO,
+        false,
+        5,
+        Finish::TurnsOut,
+        None,
+        &[120, 121, 230, 231, 150, 260, 261],
+    ),
+    (
+        LINES_OF_TWO,
+        false,
+        3,
+        Finish::TurnsOut,
+        None,
+        &[120, 121, 230, 150, 151],
+    ),
+    (
+        LINES_OF_TWO,
+        true,
+        0,
+        Finish::Done,
+        Some(1),
+        &[120, 121, 150, 151],
+    ),
+    (
+        LINES_OF_TWO,
+        true,
+        0,
+        Finish::Done,
+        Some(2),
+        &[230, 231, 260, 261],
+    ),
+    (
+        LINES_OF_TWO,
+        true,
+        5,
+        Finish::TurnsOut,
+        Some(1),
+        &[120, 121, 150],
+    ),
+    (
+        LINES_OF_TWO,
+        true,
+        5,
+        Finish::TurnsOut,
+        Some(2),
+        &[230, 231, 260, 261],
+    ),
+    (LINES_OF_TWO, true, 3, Finish::TurnsOut, Some(2), &[230]),
+    (
+        LINES_OF_TWO,
+        true,
+        3,
+        Finish::TurnsOut,
+        Some(1),
+        &[120, 121, 150, 151],
+    ),
+];
+
+/// Runs the script of the row, and asks that the gate's notes are these.
+fn expect_notes<H: Threads + Wait + Sync + Abort>(rt: &H, alloc: Global, row: &Noted) {
+    let (script, threads, refused, finish, pass, expected) = *row;
+    let mut notes = Notes::new(refused);
+    let mut writer = blank(1024, 1024);
+    let mut ended = run_gated(rt, alloc, script, threads, &notes, &mut writer);
+    if ended == Err(RunError::Memory) {
+        notes = Notes::new(refused);
+        ended = run_gated(rt, alloc, script, threads, &notes, &mut writer);
+    }
+    assert_eq!(rt; ended, Ok(finish));
+    assert!(rt; notes.are(pass, expected), "{pass:?} {expected:?}");
+}
+
+/// The gate is asked with the pass and the line before each line, and told of both after it.
+#[test]
+fn a_gate_is_asked_and_told_of_each_line(rt: HostRuntime) {
+    for row in &NOTED {
+        expect_notes(&rt, rt.alloc(), row);
+    }
+}
+
+/// A gate that answers no before a line ends that line's pass, and no other one, with threads and in turn.
 #[test]
 fn a_gate_ends_a_pass(rt: HostRuntime) {
-    let mut writer = blank(1024, 1024);
-    let mut ended = run_gated(&rt, rt.alloc(), &Until { line: 4 }, &mut writer);
-    if ended == Err(RunError::Memory) {
-        ended = run_gated(&rt, rt.alloc(), &Until { line: 4 }, &mut writer);
+    for threads in [true, false] {
+        let mut writer = blank(1024, 1024);
+        let mut ended = run_gated(
+            &rt,
+            rt.alloc(),
+            TWO_KEYS,
+            threads,
+            &Notes::new(4),
+            &mut writer,
+        );
+        if ended == Err(RunError::Memory) {
+            ended = run_gated(
+                &rt,
+                rt.alloc(),
+                TWO_KEYS,
+                threads,
+                &Notes::new(4),
+                &mut writer,
+            );
+        }
+        assert_eq!(rt; ended, Ok(Finish::TurnsOut));
+        assert_eq!(rt; writer.written(), TWO_KEYS_BUT_ONE_LINE.as_bytes());
     }
-    assert_eq!(rt; ended, Ok(Finish::TurnsOut));
-    assert_eq!(rt; writer.written(), TWO_KEYS_BUT_ONE_LINE.as_bytes());
+}
+
+/// Asks that the script, by this gate and with threads, is answered so.
+fn expect_gated<H: Threads + Wait + Sync + Abort, G: Gate + Sync>(
+    rt: &H,
+    alloc: Global,
+    gate: &G,
+    script: &'static str,
+    output: &'static str,
+) {
+    let mut writer = blank(1024, 1024);
+    let ended = run_gated(rt, alloc, script, true, gate, &mut writer);
+    assert!(rt; ended == Ok(Finish::Done), "{script}");
+    assert!(rt; writer.written() == output.as_bytes(), "{script}");
 }
 
 /// The gate holds the first line of pass 1 until the last line of pass 2 is answered, and that one until the gate was asked
 /// for the first: so the passes work at once.
 #[test]
 fn passes_work_at_once(rt: HostRuntime) {
-    let mut writer = blank(1024, 1024);
-    let mut ended = run_gated(&rt, rt.alloc(), &Crossed::new(), &mut writer);
-    if ended == Err(RunError::Memory) {
-        ended = run_gated(&rt, rt.alloc(), &Crossed::new(), &mut writer);
+    expect_gated(
+        &rt,
+        rt.alloc(),
+        &Crossed::new(),
+        TWO_KEYS,
+        TWO_KEYS_ANSWERED,
+    );
+}
+
+/// Two passes ask for one lock.
+const TWO_TAKERS: &str = "1 acquire 7 20.0 a\n2 acquire 8 20.0 a\n1 finish 7 a\n";
+
+/// What they are answered if pass 2 comes first.
+const SECOND_TAKES: &str =
+    "1 1 other\n1 3 other\n2 2 taken\nlocks 2\na 1 2 acquire 8 20.0 = taken\na 2 1 acquire 7 20.0 = other\na 3 1 finish 7 = other\n";
+
+/// A gate that holds a line until another was answered has the lines take effect in its order: in the script's, as without
+/// threads, and in another one. Runs in which an `await` is answered `waiting` are left out, since on threads it polls on.
+#[test]
+fn passes_take_turns_by_a_gate(rt: HostRuntime) {
+    expect_gated(&rt, rt.alloc(), &Told::new(), TWO_TAKERS, SECOND_TAKES);
+    for (_, script, output) in &RUNS {
+        if !output.contains("waiting\n") {
+            expect_gated(&rt, rt.alloc(), &Between::new(), script, output);
+        }
     }
-    assert_eq!(rt; ended, Ok(Finish::Done));
-    assert_eq!(rt; writer.written(), TWO_KEYS_ANSWERED.as_bytes());
+}
+
+/// A writer waits, and the holder lets it go.
+const ONE_LET: &str =
+    "2 acquire 9 10.0 a\n1 open 1 10.0 a:w\n1 scan\n1 await\n2 finish 9 a\n1 leave\n";
+
+const ONE_LET_ANSWERED: &str =
+    "1 2 request 1\n1 3 waiting a\n1 4 let\n1 6 done\n2 1 taken\n2 5 freed\nlocks 2\na 1 2 acquire 9 10.0 = taken\na 2 1 visit 1.1 1 10.0 w = wait\na 3 2 finish 9 = freed let 1.1\na 4 1 leave 1 = left\n";
+
+/// An `await` on threads polls on: the gate holds the line that lets the request through until long after the `await` began.
+#[test]
+fn passes_poll_until_they_are_let_through(rt: HostRuntime) {
+    expect_gated(&rt, rt.alloc(), &Late::new(), ONE_LET, ONE_LET_ANSWERED);
 }
 
 /// A lock that is taken, and a request for it.
@@ -364,60 +540,61 @@ const TWO_LINES: &str = "1 acquire 7 20.0 a\n2 open 8 20.0 a:r\n";
 
 const ANSWERED: &str = "1 1 taken\n2 2 request 1\nlocks 2\na 1 1 acquire 7 20.0 = taken\n";
 
-fn torn(fails_at: usize) -> Torn<'static> {
+fn torn(fails_at: usize, fault: ErrorKind) -> Torn<'static> {
     Torn {
         rest: TWO_LINES.as_bytes(),
         reads: 0,
         fails_at,
+        fault,
     }
 }
 
-fn line_ends(left: usize) -> LineEnds {
-    LineEnds {
-        left,
-        reads: 0,
-        fails_at: usize::MAX,
-    }
+/// The two lines, by a reader that does not fail.
+fn whole() -> Torn<'static> {
+    torn(usize::MAX, ErrorKind::Other)
 }
 
-/// A script of 37 bytes is read by four reads of up to ten bytes, and a fifth that finds its end.
+/// A script of 37 bytes is read by four reads of up to ten bytes, and a fifth that finds its end. A read that fails or is
+/// interrupted is told, though the next one would not fail.
 #[test]
 fn reads_that_fail(rt: HostRuntime) {
     assert_eq!(rt; TWO_LINES.len(), 37);
-    for fails_at in 0..6 {
-        let mut writer = blank(1024, 1024);
-        let ended = run_of(
-            &rt,
-            rt.alloc(),
-            [torn(fails_at), torn(fails_at)],
-            &mut writer,
-        );
-        let (ending, written) = if fails_at < 5 {
-            (Err(RunError::Read), "")
-        } else {
-            (Ok(Finish::Done), ANSWERED)
-        };
-        assert_eq!(rt; ended, ending);
-        assert_eq!(rt; writer.written(), written.as_bytes());
+    for fault in &FAULTS_OF_READS {
+        for fails_at in 0..6 {
+            let mut writer = blank(1024, 1024);
+            let readers = [torn(fails_at, *fault), torn(fails_at, *fault)];
+            let ended = run_of(&rt, rt.alloc(), readers, &mut writer);
+            let (ending, written) = if fails_at < 5 {
+                (Err(RunError::Read), "")
+            } else {
+                (Ok(Finish::Done), ANSWERED)
+            };
+            assert_eq!(rt; ended, ending);
+            assert_eq!(rt; writer.written(), written.as_bytes());
+        }
     }
 }
 
-/// A writer that fails after so many bytes holds the front of the output that long.
+/// A writer that fails after so many bytes holds the front of the output that long. So does one that takes no byte then, or is
+/// interrupted, though the next write would not fail.
 #[test]
 fn writes_that_fail(rt: HostRuntime) {
     assert_eq!(rt; ANSWERED.len(), 61);
-    for stops_at in 0..62 {
-        let mut writer = blank(1, stops_at);
-        let ended = run_of(&rt, rt.alloc(), [torn(99), torn(99)], &mut writer);
-        assert_eq!(rt;
-            ended,
-            if stops_at == 61 {
-                Ok(Finish::Done)
-            } else {
-                Err(RunError::Write)
-            }
-        );
-        assert_eq!(rt; Some(writer.written()), ANSWERED.as_bytes().get(..stops_at));
+    for fault in &FAULTS_OF_WRITES {
+        for stops_at in 0..62 {
+            let mut writer = blank(7, stops_at);
+            writer.fault = *fault;
+            let ended = run_of(&rt, rt.alloc(), [whole(), whole()], &mut writer);
+            assert_eq!(rt;
+                ended,
+                if stops_at == 61 {
+                    Ok(Finish::Done)
+                } else {
+                    Err(RunError::Write)
+                }
+            );
+            assert_eq!(rt; Some(writer.written()), ANSWERED.as_bytes().get(..stops_at));
+        }
     }
 }
 
@@ -433,7 +610,7 @@ fn long_scripts(rt: HostRuntime) {
         let ended = run_of(
             &rt,
             rt.alloc(),
-            [line_ends(left), line_ends(left)],
+            [LineEnds { left }, LineEnds { left }],
             &mut writer,
         );
         assert_eq!(rt; ended, ending);
@@ -441,9 +618,13 @@ fn long_scripts(rt: HostRuntime) {
     }
 }
 
-/// From which length and before which one the fronts of the two lines have this fault, or this output. The last line may
-/// lack its end.
-const FRONTS: [(usize, usize, Option<(usize, Fault)>, &str); 10] = [
+/// A reader below the time of a lock, one at it or above it, and the lock's end.
+const TWO_READERS: &str =
+    "1 acquire 7 20.0 a\n2 open 8 19.4294967295 a:r\n2 scan\n3 open 9 20.1 a:r\n3 scan\n1 finish 7 a\n";
+
+/// From which length and before which one the fronts of this script have this fault, or this output. The last line may lack
+/// its end.
+const FRONTS: [(usize, usize, Option<(usize, Fault)>, &str); 23] = [
     (0, 1, None, "locks 2\n"),
     (1, 9, Some((1, Fault::BadCall)), ""),
     (9, 18, Some((1, Fault::BadWords)), ""),
@@ -458,12 +639,55 @@ const FRONTS: [(usize, usize, Option<(usize, Fault)>, &str); 10] = [
     (29, 32, Some((2, Fault::BadTime)), ""),
     (
         32,
-        34,
+        43,
         None,
         "1 1 taken\n2 2 refused NoKeys\nlocks 2\na 1 1 acquire 7 20.0 = taken\n",
     ),
-    (34, 36, Some((2, Fault::BadAccess)), ""),
-    (36, 38, None, ANSWERED),
+    (43, 45, Some((2, Fault::BadAccess)), ""),
+    (
+        45,
+        47,
+        None,
+        "1 1 taken\n2 2 request 1\nlocks 2\na 1 1 acquire 7 20.0 = taken\n",
+    ),
+    (47, 52, Some((3, Fault::BadCall)), ""),
+    (
+        52,
+        54,
+        None,
+        "1 1 taken\n2 2 request 1\n2 3 proceed\nlocks 2\na 1 1 acquire 7 20.0 = taken\na 2 2 visit 1.1 8 19.4294967295 r = pass\n",
+    ),
+    (54, 59, Some((4, Fault::BadCall)), ""),
+    (59, 63, Some((4, Fault::BadWords)), ""),
+    (63, 66, Some((4, Fault::BadTime)), ""),
+    (
+        66,
+        68,
+        None,
+        "1 1 taken\n2 2 request 1\n2 3 proceed\n3 4 refused NoKeys\nlocks 2\na 1 1 acquire 7 20.0 = taken\na 2 2 visit 1.1 8 19.4294967295 r = pass\n",
+    ),
+    (68, 70, Some((4, Fault::BadAccess)), ""),
+    (
+        70,
+        72,
+        None,
+        "1 1 taken\n2 2 request 1\n2 3 proceed\n3 4 request 2\nlocks 2\na 1 1 acquire 7 20.0 = taken\na 2 2 visit 1.1 8 19.4294967295 r = pass\n",
+    ),
+    (72, 77, Some((5, Fault::BadCall)), ""),
+    (
+        77,
+        79,
+        None,
+        "1 1 taken\n2 2 request 1\n2 3 proceed\n3 4 request 2\n3 5 waiting a\nlocks 2\na 1 1 acquire 7 20.0 = taken\na 2 2 visit 1.1 8 19.4294967295 r = pass\na 3 3 visit 2.1 9 20.1 r = wait\n",
+    ),
+    (79, 86, Some((6, Fault::BadCall)), ""),
+    (86, 90, Some((6, Fault::BadWords)), ""),
+    (
+        90,
+        92,
+        None,
+        "1 1 taken\n1 6 freed\n2 2 request 1\n2 3 proceed\n3 4 request 2\n3 5 waiting a\nlocks 2\na 1 1 acquire 7 20.0 = taken\na 2 2 visit 1.1 8 19.4294967295 r = pass\na 3 3 visit 2.1 9 20.1 r = wait\na 4 1 finish 7 = freed let 2.1\n",
+    ),
 ];
 
 fn ending_of(fault: Option<(usize, Fault)>) -> Ending {
@@ -476,13 +700,14 @@ fn ending_of(fault: Option<(usize, Fault)>) -> Ending {
 /// A script that is cut inside a line has the fault of the words that are left, or none.
 #[test]
 fn cut_scripts(rt: HostRuntime) {
-    for (first, end, fault, written) in FRONTS {
-        for len in first..end {
+    assert_eq!(rt; TWO_READERS.len(), 91);
+    for (first, end, fault, written) in &FRONTS {
+        for len in *first..*end {
             let mut writer = blank(1024, 1024);
-            let front = TWO_LINES.get(..len).unwrap_or("?");
+            let front = TWO_READERS.get(..len).unwrap_or("?");
             let readers = [front.as_bytes(), front.as_bytes()];
             let ended = run_of(&rt, rt.alloc(), readers, &mut writer);
-            assert_eq!(rt; ended, ending_of(fault));
+            assert_eq!(rt; ended, ending_of(*fault));
             assert_eq!(rt; writer.written(), written.as_bytes());
         }
     }

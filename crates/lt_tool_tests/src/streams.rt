@@ -1,15 +1,28 @@
 //! Streams that give, take and fail as they are told.
+ghost use Rattle.std.specs.Prelude.{◌≤◌};
+
 use std::io;
 use std::io::{ErrorKind, Read, Write};
 
-/// A writer that takes some bytes at once, and fails once it holds so many.
+/// How a read can fail.
+pub(crate) const FAULTS_OF_READS: [ErrorKind; 2] = [ErrorKind::Other, ErrorKind::Interrupted];
+
+/// How a write can fail. Without an error it takes no byte.
+pub(crate) const FAULTS_OF_WRITES: [Option<ErrorKind>; 3] = [
+    Some(ErrorKind::Other),
+    Some(ErrorKind::Interrupted),
+    None,
+];
+
+/// A writer that takes up to so many bytes at once. It fails once, when it holds so many bytes, and then takes bytes again.
 #[derive(Drop)]
 pub(crate) struct Paper {
     bytes: [u8; 1024],
     len: usize,
     pub at_once: usize,
     pub stops_at: usize,
-    pub fault: ErrorKind,
+    pub fault: Option<ErrorKind>,
+    has_stopped: bool,
 }
 
 pub(crate) fn blank(at_once: usize, stops_at: usize) -> Paper {
@@ -18,7 +31,8 @@ pub(crate) fn blank(at_once: usize, stops_at: usize) -> Paper {
         len: 0,
         at_once,
         stops_at,
-        fault: ErrorKind::Other,
+        fault: Some(ErrorKind::Other),
+        has_stopped: false,
     }
 }
 
@@ -29,13 +43,28 @@ impl Paper {
             None => &[],
         }
     }
+
+    /// How many bytes it holds when it next fails.
+    fn end(&self) -> usize
+        ensures { result ≤ 1024 }
+    {
+        if self.has_stopped {
+            1024
+        } else {
+            self.stops_at.min(1024)
+        }
+    }
 }
 
 impl Write for Paper {
     fn write(&mut self, buf: &[u8]) -> io::Result<usize> {
-        let end = self.stops_at.min(1024);
+        let end = self.end();
         if self.len >= end {
-            return Err(io::Error::from(self.fault));
+            self.has_stopped = true;
+            return match self.fault {
+                Some(kind) => Err(io::Error::from(kind)),
+                None => Ok(0),
+            };
         }
         let n = buf.len().min(self.at_once).min(end - self.len);
         let upto = self.len + n;
@@ -49,20 +78,49 @@ impl Write for Paper {
     }
 }
 
-/// A reader that gives so many line ends, and fails at a read: 0 is the first.
+/// A writer that takes everything, and compares it with what is expected as it goes.
+#[derive(Drop)]
+pub(crate) struct Expecting<'a> {
+    rest: &'a [u8],
+    is_other: bool,
+}
+
+impl<'a> Expecting<'a> {
+    pub fn new(expected: &'a [u8]) -> Self {
+        Expecting {
+            rest: expected,
+            is_other: false,
+        }
+    }
+
+    /// Whether it was given just what is expected.
+    pub fn has_all(&self) -> bool {
+        !self.is_other && self.rest.is_empty()
+    }
+}
+
+impl Write for Expecting<'_> {
+    fn write(&mut self, buf: &[u8]) -> io::Result<usize> {
+        match self.rest.strip_prefix(buf) {
+            Some(rest) => self.rest = rest,
+            None => self.is_other = true,
+        }
+        Ok(buf.len())
+    }
+
+    fn flush(&mut self) -> io::Result<()> {
+        Ok(())
+    }
+}
+
+/// A reader that gives so many line ends.
 #[derive(Drop)]
 pub(crate) struct LineEnds {
     pub left: usize,
-    pub reads: usize,
-    pub fails_at: usize,
 }
 
 impl Read for LineEnds {
     fn read(&mut self, buf: &mut [u8]) -> io::Result<usize> {
-        if self.reads == self.fails_at {
-            return Err(io::Error::from(ErrorKind::Other));
-        }
-        self.reads = self.reads.saturating_add(1);
         let n = buf.len().min(self.left);
         buf[..n].fill(b'\n');
         self.left -= n;
@@ -70,20 +128,22 @@ impl Read for LineEnds {
     }
 }
 
-/// A reader that gives a text, ten bytes at once, and fails at a read: 0 is the first.
+/// A reader that gives a text, ten bytes at once. It fails once, at this read, of which 0 is the first, and then goes on.
 #[derive(Drop)]
 pub(crate) struct Torn<'a> {
     pub rest: &'a [u8],
     pub reads: usize,
     pub fails_at: usize,
+    pub fault: ErrorKind,
 }
 
 impl Read for Torn<'_> {
     fn read(&mut self, buf: &mut [u8]) -> io::Result<usize> {
-        if self.reads == self.fails_at {
-            return Err(io::Error::from(ErrorKind::Other));
+        let number = self.reads;
+        self.reads = number.saturating_add(1);
+        if number == self.fails_at {
+            return Err(io::Error::from(self.fault));
         }
-        self.reads = self.reads.saturating_add(1);
         let n = buf.len().min(self.rest.len()).min(10);
         let (piece, rest) = self.rest.split_at(n);
         buf[..n].copy_from_slice(piece);

@@ -22,7 +22,7 @@ type Case = (
     &'static str,
 );
 
-const ENDS: [Case; 53] = [
+const ENDS: [Case; 57] = [
     (
         "a script that is not there",
         &["run", "no-such-file"],
@@ -278,6 +278,38 @@ const ENDS: [Case; 53] = [
         1,
         "",
         "lockrun: line 3: KeyOrder\n",
+    ),
+    (
+        "no turns",
+        &["run", "--turns", "0"],
+        "",
+        2,
+        "",
+        "lockrun: command line\n",
+    ),
+    (
+        "no steps of a shard",
+        &["run", "--steps", "0"],
+        "",
+        2,
+        "",
+        "lockrun: command line\n",
+    ),
+    (
+        "a long name of a file",
+        &["check", "/dev/././././././null"],
+        "locks 2\n",
+        1,
+        "",
+        "lockrun: line 1: Header\n",
+    ),
+    (
+        "a name of a file with a space",
+        &["run", "/dev/null "],
+        "",
+        5,
+        "",
+        "lockrun: read\n",
     ),
     (
         "no shards",

@@ -5,8 +5,8 @@ ghost use Rattle.std.specs.List.{All};
 
 use crate::queue::{TIME, leave, proceed};
 use lt_ids::{Access, Key, TxnId};
-use lt_plain::KeyTable;
-use lt_table::{Config, EnterRefused, Guard, Ready, Table, open, prepare};
+use lt_plain::{KeyTable, Reply};
+use lt_table::{Answer, Config, EnterRefused, Guard, Ready, StepError, Table, open, prepare};
 use lt_table_player::run::close_all;
 use lt_words::{Name, Pass, abandon_all};
 use std::alloc::Global;
@@ -83,8 +83,17 @@ fn enter<N: Name, T: KeyTable, R: Wait>(
     }
 }
 
-/// A thread's work: its request enters, waits for its turn, locks the key and leaves; then the lock comes free, and the pass
-/// goes back into the seat.
+/// Whether the transaction holds the lock that it asked for. It may not: of two requests that met no lock, both proceeded,
+/// and the other one's transaction came first.
+fn is_ours(answered: Result<Answer, StepError>) -> bool {
+    match answered {
+        Ok(answer) => matches!(&answer.reply, Reply::Taken | Reply::Raised | Reply::Kept),
+        Err(_) => false,
+    }
+}
+
+/// A thread's work: its request enters, waits for its turn, locks the key and leaves, whatever came before; then the lock
+/// comes free, and the pass goes back into the seat.
 fn work<N: Name, T: KeyTable, R: Wait>(
     rt: &R,
     alloc: Global,
@@ -95,7 +104,7 @@ fn work<N: Name, T: KeyTable, R: Wait>(
 ) -> Option<()> {
     let mut guard = enter(rt, alloc, table, seat, key, txn)?;
     let is_locked = proceed(rt, table, &mut guard)
-        && table.acquire_in(rt, &mut guard, key, txn, TIME).is_ok();
+        && is_ours(table.acquire_in(rt, &mut guard, key, txn, TIME));
     let mut pass = leave(rt, table, guard)?;
     let is_freed = table.finish(rt, &mut pass, key, txn).is_ok();
     seat.put(pass);

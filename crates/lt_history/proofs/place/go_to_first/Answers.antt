@@ -5,7 +5,7 @@ use Rattle.lt_history.proofs.place.go_to_first.Goals as goal
 pub returns-clause-ok : goal.returns-clause-ok
 returns-clause-ok c = record {
   counted = c.if-index-ne1.false;
-  key_is = ap Some c.in_ok-copy.ensures;
+  key_is = ap Some c.in_ok-copy.ensures.same;
   index_is = refl;
   state_is = empty_at c.new.result c.args.key.now c.new.ensures;
 }

@@ -28,7 +28,7 @@ returns-in_default-clause-ok c =
 pub returns-in_default-clause-no_memory : goal.returns-in_default-clause-no_memory
 returns-in_default-clause-no_memory c t =
     let none = rw c.in_default.is at c.get_mut.ensures.value in
-    absurd (subst (λ r. TakesNoMemory (acquire r c.args.txn c.args.ts).reply) (missing c.args.links.now c.args.rows.now c.args.key.now none) t)
+    absurd (subst (λ r. TakesNoMemory r (acquire r c.args.txn c.args.ts)) (missing c.args.links.now c.args.rows.now c.args.key.now none) t)
 
 pub returns-in_default-clause-table : goal.returns-in_default-clause-table
 returns-in_default-clause-table c =
@@ -73,4 +73,4 @@ pub returns-clause-no_memory : goal.returns-clause-no_memory
 returns-clause-no_memory c t =
     let r = c.in-Some.row.now in
     let some = rw c.in-Some.is at c.get_mut.ensures.value in
-    c.acquire.ensures.no_memory (subst (λ r. TakesNoMemory (acquire r c.args.txn c.args.ts).reply) (found c.args.links.now c.args.rows.now c.args.key.now r some) t)
+    c.acquire.ensures.no_memory (subst (λ r. TakesNoMemory r (acquire r c.args.txn c.args.ts)) (found c.args.links.now c.args.rows.now c.args.key.now r some) t)

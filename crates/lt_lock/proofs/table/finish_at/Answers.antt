@@ -38,4 +38,4 @@ pub returns-clause-no_memory : goal.returns-clause-no_memory
 returns-clause-no_memory c t =
     let r = c.in-Some.row.now in
     let some = rw c.in-Some.is at c.get_mut.ensures.value in
-    c.finish.ensures.no_memory (subst (λ r. TakesNoMemory (finish r c.args.txn).reply) (found c.args.links.now c.args.rows.now c.args.key.now r some) t)
+    c.finish.ensures.no_memory (subst (λ r. TakesNoMemory r (finish r c.args.txn)) (found c.args.links.now c.args.rows.now c.args.key.now r some) t)

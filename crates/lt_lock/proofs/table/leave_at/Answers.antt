@@ -60,4 +60,4 @@ pub returns-clause-no_memory : goal.returns-clause-no_memory
 returns-clause-no_memory c t =
     let r = c.in-Some.row.now in
     let some = rw c.in-Some.is at c.get_mut.ensures.value in
-    c.leave.ensures.no_memory (subst (λ r. TakesNoMemory (leave r c.args.number).reply) (found c.args.links.now c.args.rows.now c.args.key.now r some) t)
+    c.leave.ensures.no_memory (subst (λ r. TakesNoMemory r (leave r c.args.number)) (found c.args.links.now c.args.rows.now c.args.key.now r some) t)

@@ -46,4 +46,4 @@ pub returns-clause-no_memory : goal.returns-clause-no_memory
 returns-clause-no_memory c t =
     let r = c.in-Some.row.now in
     let some = rw c.in-Some.is at c.get_mut.ensures.value in
-    c.update.ensures.no_memory (subst (λ r. TakesNoMemory (update r c.args.txn c.args.ts).reply) (found c.args.links.now c.args.rows.now c.args.key.now r some) t)
+    c.update.ensures.no_memory (subst (λ r. TakesNoMemory r (update r c.args.txn c.args.ts)) (found c.args.links.now c.args.rows.now c.args.key.now r some) t)

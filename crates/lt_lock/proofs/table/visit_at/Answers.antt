@@ -47,4 +47,4 @@ pub returns-clause-no_memory : goal.returns-clause-no_memory
 returns-clause-no_memory c t =
     let r = c.in-Some.row.now in
     let some = rw c.in-Some.is at c.get_mut.ensures.value in
-    c.visit.ensures.no_memory (subst (λ r. TakesNoMemory (visit r (request_of c.args.stand.now) c.args.longest c.args.access).reply) (found c.args.links.now c.args.rows.now c.args.key.now r some) t)
+    c.visit.ensures.no_memory (subst (λ r. TakesNoMemory r (visit r (request_of c.args.stand.now) c.args.longest c.args.access)) (found c.args.links.now c.args.rows.now c.args.key.now r some) t)

@@ -1,7 +1,7 @@
 use Rattle.std.proofs.Common.{length, ap, subst}
 use Rattle.lt_table.specs.Machine.{WalkState}
 use Rattle.lt_table.specs.Sound.{IsSound}
-use Rattle.lt_table.proofs.WentOn.{went_on, scan_stays, waits_inside}
+use Rattle.lt_table.proofs.WentOn.{went_on, was_let, scan_stays, waits_inside}
 use Rattle.lt_table.proofs.Stopping.{too_long, long_inside}
 use Rattle.lt_table.proofs.table.Table.scan.Goals as goal
 
@@ -10,6 +10,9 @@ IsSoundWalk w = IsSound (length w.asked.keys) w.progress (length w.answers)
 
 pub returns-clause-went_on : goal.returns-clause-went_on
 returns-clause-went_on g c = went_on c.args.self.now.max_waits c.args.guard.now c.visit_on-result.new.guard c.visit_on-result.result c.visit_on-result.ensures.scan c.visit_on-result.ensures.number c.visit_on-result.ensures.sound
+
+pub returns-clause-was_let : goal.returns-clause-was_let
+returns-clause-was_let g c = λ held. was_let c.args.self.now.max_waits c.args.guard.now c.visit_on-result.new.guard c.visit_on-result.result c.visit_on-result.ensures.scan (c.let_through.ensures held)
 
 pub returns-clause-waiting : goal.returns-clause-waiting
 returns-clause-waiting g c = λ place.
