@@ -1,5 +1,5 @@
 ghost use Rattle.std.specs.Prelude.{◌≡◌, ◌<◌, ◌↔◌, IsTrue, true, length};
-ghost use Rattle.lt_links.specs.Maps.{HasNode, has_record as is_record};
+ghost use Rattle.lt_links.specs.Maps.{HasNode, IsEmpty, has_record as is_record};
 
 use super::*;
 use crate::QueueKind;
@@ -17,6 +17,26 @@ fn has_record(links: &Links, id: RecordId) -> bool
     ensures { IsTrue result ↔ (is_record links.now id ≡ true) }
 {
     links.heads.contains(id.key())
+}
+
+/// Whether a record's three queues are empty.
+fn is_empty(links: &Links, id: RecordId) -> bool
+    requires { is_record links.now id ≡ true }
+    ensures { IsTrue result → IsEmpty links.now id }
+{
+    let writers = links.first(Queue {
+        id,
+        kind: QueueKind::Writers,
+    });
+    let readers = links.first(Queue {
+        id,
+        kind: QueueKind::Readers,
+    });
+    let reservation = links.first(Queue {
+        id,
+        kind: QueueKind::Reservation,
+    });
+    writers.is_none() && readers.is_none() && reservation.is_none()
 }
 
 fn stand_of(rt: &impl Abort, number: u64, wait: u32) -> Stand {
@@ -327,6 +347,23 @@ impl Both {
         Ok(())
     }
 
+    /// Takes every node of a record out, drops the record, and adds one in its place.
+    fn renew(&mut self, rt: &impl Abort, id: RecordId) -> Result<RecordId, AllocError> {
+        for place in (0..self.nodes.len()).rev() {
+            if place < self.nodes.len() {
+                let node = self.nodes[place];
+                assert!(rt; has_node(&self.links, node));
+                if self.links.queue_of(node).id == id {
+                    self.remove(rt, place)?;
+                }
+            }
+        }
+        assert!(rt; has_record(&self.links, id) && is_empty(&self.links, id));
+        self.links.drop_record(id);
+        assert!(rt; !has_record(&self.links, id));
+        self.links.add_record()
+    }
+
     /// One random call.
     fn call(
         &mut self,
@@ -354,7 +391,7 @@ impl Both {
 fn random_calls_do_what_three_plain_maps_do(rt: HostRuntime) -> Result<(), Fail> {
     let alloc = rt.alloc();
     let mut links = Links::new(alloc);
-    let records = [links.add_record()?, links.add_record()?];
+    let mut records = [links.add_record()?, links.add_record()?];
     let mut both = Both {
         links,
         plain: Plain::new(alloc),
@@ -367,6 +404,10 @@ fn random_calls_do_what_three_plain_maps_do(rt: HostRuntime) -> Result<(), Fail>
             kind: kind_of(random.below(3) as usize),
         };
         both.call(&rt, &mut random, &to, turn)?;
+        if turn % 20 == 19 {
+            let place = random.below(2) as usize;
+            records[place] = both.renew(&rt, records[place])?;
+        }
         both.plain.expect(&rt, &both.links, &records);
     }
     Ok(())
