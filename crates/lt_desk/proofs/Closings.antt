@@ -1,10 +1,10 @@
 -- A table is closed over what the passes did.
-use Rattle.std.proofs.Common.{◌≡◌, ◌≢◌, ℕ, zero, suc, ◌+◌, ◌<◌, Bool, true, false, cond, nat_eq, List, [], ◌∷◌, ◌++◌, length, map, get_or, refl, sym, ap, subst, ◌∙◌, append_assoc, append-nil, length-append, arith}
-use Rattle.std.specs.Prelude.{Contains}
+use Rattle.std.proofs.Common.{◌≡◌, ◌≢◌, ℕ, zero, suc, ◌+◌, ◌<◌, Bool, true, false, cond, nat_eq, List, [], ◌∷◌, ◌++◌, length, map, get_or, replicate, refl, sym, ap, subst, ◌∙◌, append_assoc, append-nil, length-append, arith}
+use Rattle.std.specs.Prelude.{Contains, slice_index}
 use Rattle.std.specs.Global.{Vec}
-use Rattle.std.specs.List.{AllByRecursion}
+use Rattle.std.specs.List.{flat_map, AllByRecursion}
 use Rattle.std.specs.Str.{bytes_eq}
-use Rattle.std.proofs.lemmas.List.{map-append}
+use Rattle.std.proofs.lemmas.List.{map-append, get_or-replicate}
 use Rattle.std.proofs.lemmas.List.Elements.{Contains-append_left, Contains-append_right, Contains-push, filter-append}
 use mathlib.Core.List.{IsPrefix}
 use Rattle.lt_history.specs.declared.entry.Entry.{Entry}
@@ -15,8 +15,9 @@ use Rattle.lt_plain.specs.Step.{IsLegal}
 use Rattle.lt_words.specs.History.{part, shard_of}
 use Rattle.lt_words.specs.Row.{Opening, Seer, fresh, fresh_passes}
 use Rattle.lt_script.specs.declared.command.Command.{Command}
-use Rattle.lt_table.specs.Reported.{GuardState}
-use Rattle.lt_table.specs.Closed.{IsClosed, passes_of}
+use Rattle.lt_table.specs.Reported.{GuardState, steps_at}
+use Rattle.lt_table.specs.Closed.{IsClosed, counts_at, passes_of}
+use Rattle.lt_table.proofs.Ends.{counts_append}
 use Rattle.lt_desk.specs.declared.answer.AnswerLine.{AnswerLine}
 use Rattle.lt_desk.specs.declared.desk.Desk.{Desk}
 use Rattle.lt_desk.specs.declared.desk.Desk.TheVariants.{Free, Open}
@@ -26,9 +27,10 @@ use Rattle.lt_desk.specs.declared.outcome.Ran.{Ran}
 use Rattle.lt_desk.specs.declared.outcome.Work.{Work}
 use Rattle.lt_desk.specs.Desks.{pass_of, request_of}
 use Rattle.lt_desk.specs.Machine.{Rules, Deed}
-use Rattle.lt_desk.specs.Worked.{lines_of}
+use Rattle.lt_desk.specs.Standing.{made_at, AreAll}
+use Rattle.lt_desk.specs.Worked.{deed_steps, lines_of}
 use Rattle.lt_desk.specs.Turns.{AreNumbered, AreWorked, IsAmong}
-use Rattle.lt_desk.specs.Closing.{AreHanded, IsPut, IsWithin, AreWithin, finish_all, join}
+use Rattle.lt_desk.specs.Closing.{AreHanded, CountAlike, IsPut, IsWithin, AreWithin, finish_all, join}
 use Rattle.lt_desk.specs.Ran.{AreAnswered, IsAnswered, IsRan, joined}
 use Rattle.lt_desk.proofs.Telling.{all_append, all_more, all_weaker}
 use Rattle.lt_desk.proofs.Standings.{AreRun, AreOfShards, all_stand}
@@ -69,6 +71,23 @@ put_handed (Open g) ps qs gs hs ws w is put h =
     (all_weaker (λ x. Contains (passes_of ps gs) (pass_of x.desk)) (λ x. Contains (passes_of ps gs ++ g.pass ∷ []) (pass_of x.desk)) ws (λ x. Contains-append_left (passes_of ps gs) (g.pass ∷ []) (pass_of x.desk)) h)
     (subst (λ (d : Desk). Contains (passes_of ps gs ++ g.pass ∷ []) (pass_of d)) (sym is) (Contains-push (passes_of ps gs) g.pass)) in
     rw (put.0, put.1) (subst (λ (l : List Seer). AreHanded l (ws ++ w ∷ [])) (sym all) more)
+
+abbrev pass_in : Work → Seer
+pass_in w = pass_of w.desk
+
+pub put_counted : (d : Desk) (ps qs : List Seer) (gs hs : List GuardState) (ws : List Work) (w : Work) → w.desk ≡ d → IsPut d ps gs qs hs → CountAlike (passes_of ps gs) ws → CountAlike (passes_of qs hs) (ws ++ w ∷ [])
+put_counted d ps qs gs hs ws w is put h s = by_desk d is put
+  where
+    mapped : counts_at s (map pass_in (ws ++ w ∷ [])) ≡ counts_at s (map pass_in ws) + slice_index (pass_of w.desk).counts s
+    mapped = let all : counts_at s (map pass_in (ws ++ w ∷ [])) ≡ counts_at s (map pass_in ws ++ pass_in w ∷ []) = ap (counts_at s) (map-append pass_in ws (w ∷ [])) in omega (arith, all, counts_append s (map pass_in ws) (pass_in w ∷ []))
+    by_desk : (d : Desk) → w.desk ≡ d → IsPut d ps gs qs hs → counts_at s (passes_of qs hs) ≡ counts_at s (map pass_in (ws ++ w ∷ []))
+    by_desk (Free p) is put =
+        let own : slice_index (pass_of w.desk).counts s ≡ slice_index p.counts s = ap (λ (d : Desk). slice_index (pass_of d).counts s) is in
+        rw (put.0, put.1) (omega (arith, mapped, own, h s, counts_append s (ps ++ p ∷ []) (map guard_pass gs), counts_append s ps (p ∷ []), counts_append s ps (map guard_pass gs)))
+    by_desk (Open g) is put =
+        let own : slice_index (pass_of w.desk).counts s ≡ slice_index g.pass.counts s = ap (λ (d : Desk). slice_index (pass_of d).counts s) is in
+        let all : counts_at s (passes_of ps (gs ++ g ∷ [])) ≡ counts_at s (ps ++ (map guard_pass gs ++ g.pass ∷ [])) = ap (λ (l : List Seer). counts_at s (ps ++ l)) (map-append guard_pass gs (g ∷ [])) in
+        rw (put.0, put.1) (omega (arith, mapped, own, all, h s, counts_append s ps (map guard_pass gs ++ g.pass ∷ []), counts_append s (map guard_pass gs) (g.pass ∷ []), counts_append s ps (map guard_pass gs)))
 
 pub finish_more : (fs : List Finish) (f : Finish) → finish_all (fs ++ f ∷ []) ≡ join (finish_all fs) f
 finish_more [] Done = refl
@@ -201,10 +220,30 @@ answered rules always cs n (p ∷ ps) (ds ∷ dss) (w ∷ ws) r num =
     } in
     (subst (λ (k : ℕ). IsAnswered rules always k (lines_of k cs) ds w.answers.items w.finish) num.0 one, answered rules always cs (n + 1) ps dss ws r.1 num.1)
 
+-- the passes had made no step of the shard
+abbrev pub HaveNone : ℕ → List Seer → Type 0
+HaveNone s ps = AllByRecursion (λ p. slice_index p.counts s ≡ 0) ps
+
+counts_are_made : (rules : Rules) (always : Bool) (cs : List Command) (shards s : ℕ) (ps : List Seer) (dss : List (List Deed)) (ws : List Work) → AreRun rules always cs ps dss ws → AreOfShards shards ps → HaveNone s ps → counts_at s (map pass_in ws) ≡ made_at shards s dss
+counts_are_made rules always cs shards s [] [] [] r of none = refl
+counts_are_made rules always cs shards s [] [] (w ∷ ws) r of none = absurd r
+counts_are_made rules always cs shards s [] (ds ∷ dss) ws r of none = absurd r
+counts_are_made rules always cs shards s (p ∷ ps) [] ws r of none = absurd r
+counts_are_made rules always cs shards s (p ∷ ps) (ds ∷ dss) [] r of none = absurd r
+counts_are_made rules always cs shards s (p ∷ ps) (ds ∷ dss) (w ∷ ws) r of none =
+    let here : slice_index (pass_of w.desk).counts s ≡ slice_index p.counts s + steps_at shards s (flat_map deed_steps ds) = subst (λ (k : ℕ). slice_index (pass_of w.desk).counts s ≡ slice_index p.counts s + steps_at k s (flat_map deed_steps ds)) of.0 (r.0.done.tells.counted s) in
+    omega (arith, here, none.0, counts_are_made rules always cs shards s ps dss ws r.1 of.1 none.1)
+
+are_all : (rules : Rules) (always : Bool) (of : Opening) (cs : List Command) (ps qs : List Seer) (dss : List (List Deed)) (ws : List Work) (shards : List (Vec Entry)) (draws : ℕ)
+    → IsClosed of qs shards draws → CountAlike qs ws → AreRun rules always cs ps dss ws → AreOfShards of.shards ps → ((s : ℕ) → s < of.shards → HaveNone s ps) → AreAll of.shards (map entries_of shards) dss
+are_all rules always of cs ps qs dss ws shards draws closed alike run same none s lt =
+    at_map entries_of shards s [] (λ (es : List Entry). length es ≡ made_at of.shards s dss) (omega (arith, closed.many))
+    (λ d. (closed.each s d lt).counted ∙ (alike s ∙ counts_are_made rules always cs of.shards s ps dss ws run same (none s lt)))
+
 pub is_ran : (rules : Rules) (always : Bool) (of : Opening) (cs : List Command) (ps qs : List Seer) (ws : List Work) (draws : ℕ) (ran : Ran)
-    → 0 < of.shards → AllByRecursion (IsAmong (length ps)) cs → AllByRecursion (λ p. p.of ≡ of) ps → AreNumbered 0 ps → AreWorked rules always cs ps ws → IsClosed of qs ran.histories.items draws → AreHanded qs ws
+    → 0 < of.shards → AllByRecursion (IsAmong (length ps)) cs → AllByRecursion (λ p. p.of ≡ of) ps → AreNumbered 0 ps → AreWorked rules always cs ps ws → IsClosed of qs ran.histories.items draws → AreHanded qs ws → CountAlike qs ws → ((s : ℕ) → s < of.shards → HaveNone s ps)
     → ran.answers.items ≡ map (λ w. w.answers) ws → ran.finish ≡ finish_all (map (λ w. w.finish) ws) → IsRan rules always of.shards cs ran
-is_ran rules always of cs ps qs ws draws ran some among are_of num worked closed handed answers_are finish_is =
+is_ran rules always of cs ps qs ws draws ran some among are_of num worked closed handed alike none answers_are finish_is =
     let run = deeds_of rules always cs ps ws worked in
     let within : AreWithin of.shards (map entries_of ran.histories.items) ws = are_within of qs ran.histories.items draws ws some closed handed in
     let shards : AreOfShards of.shards ps = all_weaker (λ p. p.of ≡ of) (λ p. p.of.shards ≡ of.shards) ps (λ p e. ap (λ (o : Opening). o.shards) e) are_of in
@@ -217,6 +256,7 @@ is_ran rules always of cs ps qs ws draws ran some among are_of num worked closed
       finish = finish_is;
       many = closed.many;
       stand = all_stand rules always cs of.shards within.whole (map entries_of ran.histories.items) 0 ps run.0 ws some within.legal shards run.1 num within.within;
+      all = are_all rules always of cs ps qs run.0 ws ran.histories.items draws closed alike run.1 shards none;
       legal = λ key. legal_key of.shards 0 key ran.histories.items good;
       in_range = all_in_range of.shards 0 ran.histories.items good;
     }
@@ -240,6 +280,13 @@ new_numbered of n ps e = subst (AreNumbered 0) (sym e) (fresh_numbered of n)
 
 pub new_among : (of : Opening) (n : ℕ) (ps : List Seer) (cs : List Command) → ps ≡ fresh_passes of n → AllByRecursion (IsAmong n) cs → AllByRecursion (IsAmong (length ps)) cs
 new_among of n ps cs e a = let many : length ps ≡ n = ap length e ∙ fresh_many of n in subst (λ (k : ℕ). AllByRecursion (IsAmong k) cs) (sym many) a
+
+fresh_none : (of : Opening) (s n : ℕ) → s < of.shards → HaveNone s (fresh_passes of n)
+fresh_none of s zero lt = tt
+fresh_none of s (suc n) lt = all_more (λ p. slice_index p.counts s ≡ 0) (fresh_passes of n) (fresh of (suc n)) (fresh_none of s n lt) (get_or-replicate of.shards s 0 0 lt)
+
+pub new_none : (of : Opening) (n : ℕ) (ps : List Seer) → ps ≡ fresh_passes of n → (s : ℕ) → s < of.shards → HaveNone s ps
+new_none of n ps e s lt = subst (HaveNone s) (sym e) (fresh_none of s n lt)
 
 -- the passes of what was done are the table's
 pub works_of : (rules : Rules) (always : Bool) (cs : List Command) (of : Opening) (ps : List Seer) (ws : List Work) → AreWorked rules always cs ps ws → AllByRecursion (λ p. p.of ≡ of) ps → AllByRecursion (λ w. (pass_of w.desk).of ≡ of) ws

@@ -1,5 +1,6 @@
 -- Calls of a pass, one after the other.
-use Rattle.std.proofs.Common.{◌≡◌, ℕ, ◌+◌, ◌<◌, ◌≤◌, Option, List, [], ◌∷◌, ◌++◌, length, inl, inr, refl, ap, sym, subst, ◌∙◌, arith}
+use Rattle.std.proofs.Common.{◌≡◌, ℕ, ◌+◌, ◌<◌, ◌≤◌, Bool, true, false, if◌then◌else◌, nat_eq, Option, List, [], ◌∷◌, ◌++◌, length, inl, inr, refl, ap, sym, subst, ◌∙◌, arith}
+use Rattle.std.specs.Prelude.{slice_index}
 use Rattle.std.specs.List.{AllByRecursion}
 use Rattle.std.proofs.lemmas.Option.{slice_get_within}
 use mathlib.Core.List.{IsPrefix}
@@ -16,7 +17,8 @@ use Rattle.lt_words.proofs.Histories.{part_length, part_prefix, let_later}
 use Rattle.lt_words.proofs.Draws.{draws_stay}
 use Rattle.lt_table.specs.Machine as runs
 use Rattle.lt_table.specs.Entered.{IsEntered}
-use Rattle.lt_table.specs.Reported.{GuardState, Reported, AreReported}
+use Rattle.lt_table.specs.Reported.{GuardState, Reported, AreReported, steps_at}
+use Rattle.lt_table.proofs.InPlace.{all_counted}
 use Rattle.lt_desk.specs.Told.{StandsAt, StandsIn, ComesAfter, IsBefore, Ascend, Rise, IsDrawn, Tells, part_of}
 
 pub all_append : {A : Type 0} (P : A → Type 0) (xs ys : List A) → AllByRecursion P xs → AllByRecursion P ys → AllByRecursion P (xs ++ ys)
@@ -113,13 +115,30 @@ drawn_next old new p n g =
     let more : draws_of new ≡ draws_of g.0 + 1 = ap draws_of g.3 ∙ draws_snoc g.0 p n in
     record { drew = subst (λ (h : List Event). DrewIn h p n) (sym g.3) (drew_last g.0 p n); above = omega arith; within = omega arith }
 
+-- ---- counts
+
+-- without a step the counts stay
+count_none : (a b : Seer) → b.counts ≡ a.counts → (s : ℕ) → slice_index b.counts s ≡ slice_index a.counts s + 0
+count_none a b e s = let same : slice_index b.counts s ≡ slice_index a.counts s = ap (λ (l : List ℕ). slice_index l s) e in omega (arith, same)
+
+one_more : (b : Bool) (k m n : ℕ) → k ≡ m + n → (if b then k + 1 else k) ≡ (if b then m + 1 else m) + n
+one_more true k m n e = omega (arith, e)
+one_more false k m n e = e
+
+steps_append : (shards s : ℕ) (xs ys : List runs.Step) → steps_at shards s (xs ++ ys) ≡ steps_at shards s xs + steps_at shards s ys
+steps_append shards s [] ys = omega arith
+steps_append shards s (x ∷ xs) ys = one_more (nat_eq (shard_of x.key shards) s) (steps_at shards s (xs ++ ys)) (steps_at shards s xs) (steps_at shards s ys) (steps_append shards s xs ys)
+
+count_then : (a b c : Seer) (n s : ℕ) (xs ys : List runs.Step) → slice_index b.counts s ≡ slice_index a.counts s + steps_at n s xs → slice_index c.counts s ≡ slice_index b.counts s + steps_at n s ys → slice_index c.counts s ≡ slice_index a.counts s + steps_at n s (xs ++ ys)
+count_then a b c n s xs ys one two = omega (arith, one, two, steps_append n s xs ys)
+
 -- ---- what is told
 
 pub tells_none : (a : Seer) → Tells a a [] [] []
-tells_none a = record { of = refl; number = refl; seen = prefix_self a.seen; stand = tt; after = tt; ascend = tt; drawn = tt; rise = tt; let_in = tt }
+tells_none a = record { of = refl; number = refl; seen = prefix_self a.seen; stand = tt; after = tt; ascend = tt; counted = count_none a a refl; drawn = tt; rise = tt; let_in = tt }
 
 pub tells_more : (a b : Seer) → SeesMore a b → Tells a b [] [] []
-tells_more a b m = record { of = m.of; number = m.number; seen = m.seen; stand = tt; after = tt; ascend = tt; drawn = tt; rise = tt; let_in = tt }
+tells_more a b m = record { of = m.of; number = m.number; seen = m.seen; stand = tt; after = tt; ascend = tt; counted = count_none a b m.counts; drawn = tt; rise = tt; let_in = tt }
 
 -- one call after the other
 pub tells_then : (a b c : Seer) (xs ys : List runs.Step) (ms ns : List ℕ) (ts us : List Wait) → Tells a b xs ms ts → Tells b c ys ns us → Tells a c (xs ++ ys) (ms ++ ns) (ts ++ us)
@@ -138,6 +157,7 @@ tells_then a b c xs ys ms ns ts us g h =
       stand = all_append (StandsIn n a.number c.seen) xs ys (all_weaker (StandsIn n a.number b.seen) (StandsIn n a.number c.seen) xs (λ x. stands_later n a.number b.seen c.seen x h.seen) g.stand) stand;
       after = all_append (ComesAfter n a.seen) xs ys g.after (all_weaker (ComesAfter n b.seen) (ComesAfter n a.seen) ys (λ x. after_earlier n a.seen b.seen x g.seen) after);
       ascend = ascend_append n a.number b.seen xs ys g.stand after g.ascend ascend;
+      counted = λ s. count_then a b c n s xs ys (g.counted s) (subst (λ (k : ℕ). slice_index c.counts s ≡ slice_index b.counts s + steps_at k s ys) same (h.counted s));
       drawn = all_append (IsDrawn a.number a.seen c.seen) ms ns (all_weaker (IsDrawn a.number a.seen b.seen) (IsDrawn a.number a.seen c.seen) ms (λ k. drawn_later a.number a.seen b.seen c.seen k h.seen) g.drawn) (all_weaker (IsDrawn a.number b.seen c.seen) (IsDrawn a.number a.seen c.seen) ns (λ k. drawn_earlier a.number a.seen b.seen c.seen k g.seen) drawn);
       rise = rise_append a.number a.seen b.seen c.seen ms ns g.drawn drawn g.rise h.rise;
       let_in = all_append (LetIn c.seen a.number) ts us (all_weaker (LetIn b.seen a.number) (LetIn c.seen a.number) ts (λ t. let_later b.seen c.seen a.number t h.seen) g.let_in) lets;
@@ -151,6 +171,7 @@ tells_step a b x r = record {
   stand = (record { entry = r.entry; key_is = r.key_is; pass_is = r.reports.own; call_is = r.call_is; reply_is = r.reply_is; stands = r.reports.stands }, tt);
   after = (r.reports.later, tt);
   ascend = (tt, tt);
+  counted = λ s. all_counted a b (x ∷ []) s (b, r, refl);
   drawn = tt;
   rise = tt;
   let_in = tt;
@@ -168,6 +189,7 @@ tells_entered a given txn ts longest max g e = record {
   stand = tt;
   after = tt;
   ascend = tt;
+  counted = count_none a g.pass e.more.counts;
   drawn = (drawn_next a.seen g.pass.seen a.number g.walk.asked.number e.drawn, tt);
   rise = (tt, tt);
   let_in = tt;
@@ -175,4 +197,4 @@ tells_entered a given txn ts longest max g e = record {
 
 -- a let that was found at a call
 pub tells_let : (a b : Seer) (xs : List runs.Step) (ts : List Wait) → Tells a b xs [] [] → AllByRecursion (LetIn b.seen a.number) ts → Tells a b xs [] ts
-tells_let a b xs ts t l = record { of = t.of; number = t.number; seen = t.seen; stand = t.stand; after = t.after; ascend = t.ascend; drawn = t.drawn; rise = t.rise; let_in = l }
+tells_let a b xs ts t l = record { of = t.of; number = t.number; seen = t.seen; stand = t.stand; after = t.after; ascend = t.ascend; counted = t.counted; drawn = t.drawn; rise = t.rise; let_in = l }

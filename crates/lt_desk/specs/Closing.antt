@@ -1,10 +1,11 @@
 -- What is handed to the close of a table, and what comes of it.
-use Rattle.std.specs.Prelude.{ℕ, ◌≡◌, ◌<◌, List, [], ◌∷◌, ◌++◌, Contains}
+use Rattle.std.specs.Prelude.{ℕ, ◌≡◌, ◌<◌, List, [], ◌∷◌, ◌++◌, map, Contains}
 use Rattle.std.specs.List.{AllByRecursion}
 use mathlib.Core.List.{IsPrefix}
 use Rattle.lt_words.specs.declared.event.Event.{Event}
 use Rattle.lt_words.specs.History.{part, IsLegalHistory}
 use Rattle.lt_words.specs.Row.{Seer}
+use Rattle.lt_table.specs.Closed.{counts_at}
 use Rattle.lt_table.specs.Reported.{GuardState}
 use Rattle.lt_desk.specs.declared.desk.Desk.{Desk}
 use Rattle.lt_desk.specs.declared.desk.Desk.TheVariants.{Free, Open}
@@ -17,6 +18,10 @@ use Rattle.lt_desk.specs.Standing.{Finals, final_of}
 -- The pass of each worker is handed over.
 abbrev pub AreHanded : List Seer → List Work → Type 0
 AreHanded ps ws = AllByRecursion (λ w. Contains ps (pass_of w.desk)) ws
+
+-- These passes made as many steps of each shard as those of the workers.
+abbrev pub CountAlike : List Seer → List Work → Type 0
+CountAlike ps ws = (s : ℕ) → counts_at s ps ≡ counts_at s (map (λ w. pass_of w.desk) ws)
 
 -- What the desk holds was put at the end of the passes, or of the guards.
 abbrev pub IsPut : Desk → List Seer → List GuardState → List Seer → List GuardState → Type 0

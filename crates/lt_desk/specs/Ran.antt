@@ -12,7 +12,7 @@ use Rattle.lt_desk.specs.declared.outcome.Ran.{Ran}
 use Rattle.lt_desk.specs.Machine.{Rules, Deed, Runs}
 use Rattle.lt_desk.specs.Worked.{HasEnded, answer_line, deed_line, lines_of}
 use Rattle.lt_desk.specs.Turns.{IsAmong}
-use Rattle.lt_desk.specs.Standing.{AllStand}
+use Rattle.lt_desk.specs.Standing.{AllStand, AreAll}
 use Rattle.lt_desk.specs.Closing.{finish_all}
 
 -- The pass is answered by its machine, from no request on, over a front of its lines; how it ended tells what of the rest.
@@ -35,8 +35,8 @@ abbrev pub joined : List (Vec Entry) → List Entry
 joined histories = flat_map (λ h. h.items) histories
 
 -- Each pass is answered as its machine says, over a front of its lines: over all of them, if the run is done. All that is
--- told stands in the final histories, of which there is one for each shard; they are legal for every key, and can stand in
--- a text of histories.
+-- told stands in the final histories, of which there is one for each shard and which hold nothing else; they are legal for
+-- every key, and can stand in a text of histories.
 pub record IsRan (rules : Rules) (always : Bool) (shards : ℕ) (commands : List Command) (ran : Ran) : Type 0 where
   pub deeds : List (List Deed)
   pub finishes : List Finish
@@ -45,5 +45,6 @@ pub record IsRan (rules : Rules) (always : Bool) (shards : ℕ) (commands : List
   pub finish : ran.finish ≡ finish_all finishes
   pub many : length ran.histories.items ≡ shards
   pub stand : AllStand shards (map (λ h. h.items) ran.histories.items) 1 deeds
+  pub all : AreAll shards (map (λ h. h.items) ran.histories.items) deeds
   pub legal : AreLegalKeys (joined ran.histories.items)
   pub in_range : AllByRecursion IsInRange (joined ran.histories.items)

@@ -1,10 +1,11 @@
 -- All that the passes of a script were told, in the final histories.
-use Rattle.std.specs.Prelude.{ℕ, ◌≡◌, ◌≢◌, ◌<◌, ◌+◌, List, [], ◌∷◌, ◌++◌, map, Some, slice_get, slice_index_or}
+use Rattle.std.specs.Prelude.{ℕ, ◌≡◌, ◌≢◌, ◌<◌, ◌+◌, List, [], ◌∷◌, ◌++◌, length, map, Some, slice_get, slice_index_or}
 use Rattle.std.specs.List.{flat_map, AllByRecursion}
 use Rattle.lt_ids.specs.Ids.{Wait}
 use Rattle.lt_history.specs.declared.entry.Entry.{Entry}
 use Rattle.lt_words.specs.History.{shard_of, Among}
 use Rattle.lt_table.specs.Machine.{Step}
+use Rattle.lt_table.specs.Reported.{steps_at}
 use Rattle.lt_desk.specs.Told.{StandsAt}
 use Rattle.lt_desk.specs.Machine.{Deed, deed_numbers, deed_lets}
 use Rattle.lt_desk.specs.Worked.{deed_steps}
@@ -41,6 +42,15 @@ IsApart shards m n = shard_of m.step.key shards ≡ shard_of n.step.key shards �
 abbrev pub Apart : ℕ → List Made → Type 0
 Apart shards [] = Unit {0}
 Apart shards (m ∷ ms) = AllByRecursion (IsApart shards m) ms × Apart shards ms
+
+-- how many steps of a shard the deeds of the passes made
+abbrev pub made_at : ℕ → ℕ → List (List Deed) → ℕ
+made_at shards s [] = 0
+made_at shards s (ds ∷ dss) = steps_at shards s (flat_map deed_steps ds) + made_at shards s dss
+
+-- The final histories hold no other steps: each is as long as the steps of its shard are many.
+abbrev pub AreAll : ℕ → Finals → List (List Deed) → Type 0
+AreAll shards finals dss = (s : ℕ) → s < shards → length (final_of finals s) ≡ made_at shards s dss
 
 abbrev pub Distinct : List ℕ → Type 0
 Distinct [] = Unit {0}

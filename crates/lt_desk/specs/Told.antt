@@ -1,5 +1,5 @@
 -- What a call of a table tells of its pass.
-use Rattle.std.specs.Prelude.{ℕ, ◌≡◌, ◌<◌, ◌≤◌, List, [], ◌∷◌, length, Some, slice_get}
+use Rattle.std.specs.Prelude.{ℕ, ◌≡◌, ◌+◌, ◌<◌, ◌≤◌, List, [], ◌∷◌, length, Some, slice_get, slice_index}
 use Rattle.std.specs.List.{AllByRecursion}
 use mathlib.Core.List.{IsPrefix}
 use Rattle.lt_ids.specs.Ids.{Wait}
@@ -8,6 +8,7 @@ use Rattle.lt_words.specs.declared.event.Event.{Event}
 use Rattle.lt_words.specs.History.{part, shard_of, draws_of, DrewIn, LetIn}
 use Rattle.lt_words.specs.Row.{Seer}
 use Rattle.lt_table.specs.Machine.{Step}
+use Rattle.lt_table.specs.Reported.{steps_at}
 
 -- The step stands at its place among these entries of its shard, as one of this pass.
 pub record StandsAt (pass : ℕ) (entries : List Entry) (x : Step) : Type 0 where
@@ -48,8 +49,9 @@ pub record IsDrawn (pass : ℕ) (old new : List Event) (number : ℕ) : Type 0 w
   pub above : draws_of old < number
   pub within : number ≤ draws_of new
 
--- The pass made these steps, drew these numbers and was let through with these tickets, in order: each step and each draw
--- stands in what the pass has then seen, as its own and after all that it had seen, and each ticket was let through there.
+-- The pass made these steps and no others, drew these numbers and was let through with these tickets, in order: each step and
+-- each draw stands in what the pass has then seen, as its own and after all that it had seen, the pass counts as many more
+-- steps of each shard, and each ticket was let through there.
 pub record Tells (old new : Seer) (steps : List Step) (numbers : List ℕ) (lets : List Wait) : Type 0 where
   pub of : new.of ≡ old.of
   pub number : new.number ≡ old.number
@@ -57,6 +59,7 @@ pub record Tells (old new : Seer) (steps : List Step) (numbers : List ℕ) (lets
   pub stand : AllByRecursion (StandsIn old.of.shards old.number new.seen) steps
   pub after : AllByRecursion (ComesAfter old.of.shards old.seen) steps
   pub ascend : Ascend old.of.shards steps
+  pub counted : (s : ℕ) → slice_index new.counts s ≡ slice_index old.counts s + steps_at old.of.shards s steps
   pub drawn : AllByRecursion (IsDrawn old.number old.seen new.seen) numbers
   pub rise : Rise numbers
   pub let_in : AllByRecursion (LetIn new.seen old.number) lets

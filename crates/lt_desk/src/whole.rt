@@ -4,7 +4,7 @@ ghost use Rattle.std.specs.List.{All, AllByRecursion};
 ghost use Rattle.lt_table.specs.Closed.{passes_of};
 ghost use Rattle.lt_desk.specs.Desks.{pass_of};
 ghost use Rattle.lt_desk.specs.Turns.{AreNumbered, AreWorked, IsAmong};
-ghost use Rattle.lt_desk.specs.Closing.{AreHanded, IsPut, finish_all, join};
+ghost use Rattle.lt_desk.specs.Closing.{AreHanded, CountAlike, IsPut, finish_all, join};
 ghost use Rattle.lt_desk.specs.Ran.{IsRan};
 
 use crate::answer::AnswerLine;
@@ -87,6 +87,7 @@ fn hand_over<N: Name>(alloc: Global, works: Vec<Work>) -> Result<Handed, OutOfMe
     ensures passes { IfOk result (λ h. AllByRecursion (λ p. p.of ≡ N.of) h.passes.items) }
     ensures guards { IfOk result (λ h. AllByRecursion (λ g. g.pass.of ≡ N.of) h.guards.items) }
     ensures handed { IfOk result (λ h. AreHanded (passes_of h.passes.items h.guards.items) works.items) }
+    ensures counted { IfOk result (λ h. CountAlike (passes_of h.passes.items h.guards.items) works.items) }
     ensures answers { IfOk result (λ h. h.answers.items ≡ map (λ w. w.answers) works.items) }
     ensures finish { IfOk result (λ h. h.finish ≡ finish_all (map (λ w. w.finish) works.items)) }
 {

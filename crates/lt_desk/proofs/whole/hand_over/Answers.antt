@@ -9,7 +9,7 @@ use Rattle.lt_desk.specs.declared.answer.AnswerLine.{AnswerLine}
 use Rattle.lt_desk.specs.declared.outcome.Finish.{Finish}
 use Rattle.lt_desk.specs.declared.outcome.Work.{Work}
 use Rattle.lt_desk.specs.Closing.{IsPut, finish_all, join}
-use Rattle.lt_desk.proofs.Closings.{put_passes, put_guards, put_handed, finish_more}
+use Rattle.lt_desk.proofs.Closings.{put_passes, put_guards, put_handed, put_counted, finish_more}
 use Rattle.lt_desk.proofs.whole.hand_over.Goals as goal
 
 pub loop-work-preserved : goal.loop-work-preserved
@@ -23,6 +23,7 @@ loop-work-preserved g c =
       passes = put_passes g.N.Name.of w.desk c.loop-work.passes.items c.put.new.passes.items c.loop-work.guards.items c.put.new.guards.items put of inv.passes;
       guards = put_guards g.N.Name.of w.desk c.loop-work.passes.items c.put.new.passes.items c.loop-work.guards.items c.put.new.guards.items put of inv.guards;
       handed = put_handed w.desk c.loop-work.passes.items c.put.new.passes.items c.loop-work.guards.items c.put.new.guards.items c.loop-work.yielded w refl put inv.handed;
+      counted = put_counted w.desk c.loop-work.passes.items c.put.new.passes.items c.loop-work.guards.items c.put.new.guards.items c.loop-work.yielded w refl put inv.counted;
       answers = c.push_reserved.ensures.items ∙ (ap (λ v. c.loop-work.answers.items ++ v ∷ []) c.into_parts-desk.ensures.answers ∙ ap (λ (vs : List (Vec AnswerLine)). vs ++ w.answers ∷ []) inv.answers ∙ sym (map-append (λ (x : Work). x.answers) c.loop-work.yielded (w ∷ [])));
       finish = c.join-finish.ensures ∙ (ap (λ (f : Finish). join c.loop-work.finish f) c.into_parts-desk.ensures.finish ∙ ap (λ (f : Finish). join f w.finish) inv.finish ∙ (sym (finish_more (map (λ (x : Work). x.finish) c.loop-work.yielded) w.finish) ∙ ap finish_all (sym (map-append (λ (x : Work). x.finish) c.loop-work.yielded (w ∷ [])))));
       room_for_passes = (omega (arith, c.put.ensures.passes.1, inv.room_for_passes.0, length-append c.loop-work.yielded (w ∷ [])), c.put.ensures.passes.0 ∙ inv.room_for_passes.1);

@@ -1,7 +1,7 @@
 use Rattle.std.proofs.Common.{◌≡◌, ◌≤◌, length, map, vec_capacity}
 use Rattle.std.specs.List.{AllByRecursion}
 use Rattle.lt_table.specs.Closed.{passes_of}
-use Rattle.lt_desk.specs.Closing.{AreHanded, finish_all}
+use Rattle.lt_desk.specs.Closing.{AreHanded, CountAlike, finish_all}
 use Rattle.lt_desk.proofs.whole.hand_over.Given as goal
 
 abbrev pub invariant-loop-work : goal.invariant-loop-work
@@ -9,6 +9,7 @@ invariant-loop-work g l = record {
   passes : AllByRecursion (λ p. p.of ≡ g.N.Name.of) l.passes.items;
   guards : AllByRecursion (λ x. x.pass.of ≡ g.N.Name.of) l.guards.items;
   handed : AreHanded (passes_of l.passes.items l.guards.items) l.yielded;
+  counted : CountAlike (passes_of l.passes.items l.guards.items) l.yielded;
   answers : l.answers.items ≡ map (λ w. w.answers) l.yielded;
   finish : l.finish ≡ finish_all (map (λ w. w.finish) l.yielded);
   room_for_passes : (length l.passes.items ≤ length l.yielded) × (vec_capacity l.passes ≡ vec_capacity l.initial.passes);

@@ -9,7 +9,7 @@ use Rattle.lt_desk.specs.Desks.{pass_of}
 use Rattle.lt_desk.specs.Machine.{Rules}
 use Rattle.lt_desk.specs.Turns.{AreWorked, IsAmong}
 use Rattle.lt_desk.specs.Ran.{IsRan}
-use Rattle.lt_desk.proofs.Closings.{is_ran, new_numbered, new_among, works_of}
+use Rattle.lt_desk.proofs.Closings.{is_ran, new_numbered, new_among, new_none, works_of}
 use Rattle.lt_desk.proofs.whole.run_named.Goals as goal
 
 pub run_lines-requires-clause-numbered : goal.run_lines-requires-clause-numbered
@@ -42,4 +42,4 @@ returns-in-Ok-close g c =
     (new_among of of.passes c.in-Ok.passes.items c.args.commands.now c.in-Ok.ensures.passes (subst (λ (n : ℕ). AllByRecursion (IsAmong n) c.args.commands.now) c.requires.passes c.requires.among))
     (recursion_from_All (λ (p : Seer). p.of ≡ of) c.in-Ok.passes.items c.in-Ok.ensures.of)
     (new_numbered of of.passes c.in-Ok.passes.items c.in-Ok.ensures.passes)
-    worked c.in-Ok-close.ensures.closed c.in_ok-passes.ensures.handed c.in_ok-passes.ensures.answers c.in_ok-passes.ensures.finish)
+    worked c.in-Ok-close.ensures.closed c.in_ok-passes.ensures.handed c.in_ok-passes.ensures.counted (new_none of of.passes c.in-Ok.passes.items c.in-Ok.ensures.passes) c.in_ok-passes.ensures.answers c.in_ok-passes.ensures.finish)
