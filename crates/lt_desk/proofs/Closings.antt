@@ -80,6 +80,7 @@ put_counted d ps qs gs hs ws w is put h s = by_desk d is put
   where
     mapped : counts_at s (map pass_in (ws ++ w ∷ [])) ≡ counts_at s (map pass_in ws) + slice_index (pass_of w.desk).counts s
     mapped = let all : counts_at s (map pass_in (ws ++ w ∷ [])) ≡ counts_at s (map pass_in ws ++ pass_in w ∷ []) = ap (counts_at s) (map-append pass_in ws (w ∷ [])) in omega (arith, all, counts_append s (map pass_in ws) (pass_in w ∷ []))
+
     by_desk : (d : Desk) → w.desk ≡ d → IsPut d ps gs qs hs → counts_at s (passes_of qs hs) ≡ counts_at s (map pass_in (ws ++ w ∷ []))
     by_desk (Free p) is put =
         let own : slice_index (pass_of w.desk).counts s ≡ slice_index p.counts s = ap (λ (d : Desk). slice_index (pass_of d).counts s) is in
