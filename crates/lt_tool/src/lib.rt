@@ -11,6 +11,8 @@
 //! [`read_words`] reads the words, and [`perform`] does what they ask for; [`status`] and [`complain`] are what the program
 //! `lockrun` ends with.
 //!
+//! [`laws::output_tells`] says in one place what the answer lines and the histories of an output say of one another.
+//!
 //! `specs/Output.antt` says what a run writes, over `lt_desk`'s `specs/Ran.antt`, and `specs/Answers.antt` how an answer is
 //! written; `specs/Check.antt` what a check tells, `specs/Words.antt` what the words ask for, and `specs/Options.antt` what the
 //! options of a run may say. `docs/FORMATS.md` has the same for readers.
@@ -19,6 +21,7 @@
 mod answer;
 mod check;
 mod input;
+pub mod laws;
 mod output;
 mod program;
 mod run;
