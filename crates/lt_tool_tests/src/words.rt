@@ -22,23 +22,7 @@ type Case = (
     &'static str,
 );
 
-const ENDS: [Case; 57] = [
-    (
-        "a script that is not there",
-        &["run", "no-such-file"],
-        "",
-        5,
-        "",
-        "lockrun: read\n",
-    ),
-    (
-        "histories that are not there",
-        &["check", "no-such-file"],
-        "",
-        5,
-        "",
-        "lockrun: read\n",
-    ),
+const TEXTS: [Case; 34] = [
     (
         "a script on standard input",
         &["run"],
@@ -46,38 +30,6 @@ const ENDS: [Case; 57] = [
         0,
         "1 1 taken\n1 6 freed\n2 2 request 1\n2 3 proceed\n3 4 request 2\n3 5 waiting a\nlocks 2\na 1 1 acquire 7 20.0 = taken\na 2 2 visit 1.1 8 19.4294967295 r = pass\na 3 3 visit 2.1 9 20.1 r = wait\na 4 1 finish 7 = freed let 2.1\n",
         "",
-    ),
-    (
-        "an option of a check",
-        &["check", "--shards", "1"],
-        "",
-        2,
-        "",
-        "lockrun: command line\n",
-    ),
-    (
-        "two scripts",
-        &["run", "a", "b"],
-        "",
-        2,
-        "",
-        "lockrun: command line\n",
-    ),
-    (
-        "an option that is none",
-        &["run", "--jump"],
-        "",
-        2,
-        "",
-        "lockrun: command line\n",
-    ),
-    (
-        "an option without its number",
-        &["run", "--steps"],
-        "",
-        2,
-        "",
-        "lockrun: command line\n",
     ),
     (
         "an older text",
@@ -168,38 +120,6 @@ const ENDS: [Case; 57] = [
         "lockrun: line 3: WrongReply\n",
     ),
     (
-        "histories to upgrade that are not there",
-        &["upgrade", "no-such-file"],
-        "",
-        5,
-        "",
-        "lockrun: read\n",
-    ),
-    (
-        "an option of an upgrade",
-        &["upgrade", "--shards", "1"],
-        "",
-        2,
-        "",
-        "lockrun: command line\n",
-    ),
-    (
-        "two texts to upgrade",
-        &["upgrade", "a", "b"],
-        "",
-        2,
-        "",
-        "lockrun: command line\n",
-    ),
-    (
-        "a command that is none",
-        &["downgrade"],
-        "locks 2\na 1 1 acquire 7 20.0 = taken\na 2 2 visit 1.1 8 20.0 r = wait\na 3 2 look 1 = first 7 held\n",
-        2,
-        "",
-        "lockrun: command line\n",
-    ),
-    (
         "a reader that waits",
         &["check"],
         "locks 2\na 1 1 acquire 7 20.0 = taken\na 2 2 visit 1.1 8 20.0 r = wait\na 3 2 look 1 = first 7 held\n",
@@ -278,46 +198,6 @@ const ENDS: [Case; 57] = [
         1,
         "",
         "lockrun: line 3: KeyOrder\n",
-    ),
-    (
-        "no turns",
-        &["run", "--turns", "0"],
-        "",
-        2,
-        "",
-        "lockrun: command line\n",
-    ),
-    (
-        "no steps of a shard",
-        &["run", "--steps", "0"],
-        "",
-        2,
-        "",
-        "lockrun: command line\n",
-    ),
-    (
-        "a long name of a file",
-        &["check", "/dev/././././././null"],
-        "locks 2\n",
-        1,
-        "",
-        "lockrun: line 1: Header\n",
-    ),
-    (
-        "a name of a file with a space",
-        &["run", "/dev/null "],
-        "",
-        5,
-        "",
-        "lockrun: read\n",
-    ),
-    (
-        "no shards",
-        &["run", "--shards", "0"],
-        "",
-        2,
-        "",
-        "lockrun: command line\n",
     ),
     (
         "the least numbers",
@@ -400,6 +280,145 @@ const ENDS: [Case; 57] = [
         "",
     ),
     (
+        "a bound of 0",
+        &["run"],
+        "1 open 7 1.0 max=0 a:r\n",
+        1,
+        "",
+        "lockrun: line 1: BadMax\n",
+    ),
+    (
+        "a refused script",
+        &["run"],
+        "1 acquire 7 20.0 a\n0 scan\n",
+        1,
+        "",
+        "lockrun: line 2: BadPass\n",
+    ),
+];
+
+const WORDS: [Case; 23] = [
+    (
+        "a script that is not there",
+        &["run", "no-such-file"],
+        "",
+        5,
+        "",
+        "lockrun: read\n",
+    ),
+    (
+        "histories that are not there",
+        &["check", "no-such-file"],
+        "",
+        5,
+        "",
+        "lockrun: read\n",
+    ),
+    (
+        "an option of a check",
+        &["check", "--shards", "1"],
+        "",
+        2,
+        "",
+        "lockrun: command line\n",
+    ),
+    (
+        "two scripts",
+        &["run", "a", "b"],
+        "",
+        2,
+        "",
+        "lockrun: command line\n",
+    ),
+    (
+        "an option that is none",
+        &["run", "--jump"],
+        "",
+        2,
+        "",
+        "lockrun: command line\n",
+    ),
+    (
+        "an option without its number",
+        &["run", "--steps"],
+        "",
+        2,
+        "",
+        "lockrun: command line\n",
+    ),
+    (
+        "histories to upgrade that are not there",
+        &["upgrade", "no-such-file"],
+        "",
+        5,
+        "",
+        "lockrun: read\n",
+    ),
+    (
+        "an option of an upgrade",
+        &["upgrade", "--shards", "1"],
+        "",
+        2,
+        "",
+        "lockrun: command line\n",
+    ),
+    (
+        "two texts to upgrade",
+        &["upgrade", "a", "b"],
+        "",
+        2,
+        "",
+        "lockrun: command line\n",
+    ),
+    (
+        "a command that is none",
+        &["downgrade"],
+        "locks 2\na 1 1 acquire 7 20.0 = taken\na 2 2 visit 1.1 8 20.0 r = wait\na 3 2 look 1 = first 7 held\n",
+        2,
+        "",
+        "lockrun: command line\n",
+    ),
+    (
+        "no turns",
+        &["run", "--turns", "0"],
+        "",
+        2,
+        "",
+        "lockrun: command line\n",
+    ),
+    (
+        "no steps of a shard",
+        &["run", "--steps", "0"],
+        "",
+        2,
+        "",
+        "lockrun: command line\n",
+    ),
+    (
+        "a long name of a file",
+        &["check", "/dev/././././././null"],
+        "locks 2\n",
+        1,
+        "",
+        "lockrun: line 1: Header\n",
+    ),
+    (
+        "a name of a file with a space",
+        &["run", "/dev/null "],
+        "",
+        5,
+        "",
+        "lockrun: read\n",
+    ),
+    (
+        "no shards",
+        &["run", "--shards", "0"],
+        "",
+        2,
+        "",
+        "lockrun: command line\n",
+    ),
+    (
         "a word that is none",
         &["jump"],
         "",
@@ -432,22 +451,6 @@ const ENDS: [Case; 57] = [
         "lockrun: line 1: Header\n",
     ),
     ("no words", &[], "1 scan\n", 0, "1 1 none\nlocks 2\n", ""),
-    (
-        "a bound of 0",
-        &["run"],
-        "1 open 7 1.0 max=0 a:r\n",
-        1,
-        "",
-        "lockrun: line 1: BadMax\n",
-    ),
-    (
-        "a refused script",
-        &["run"],
-        "1 acquire 7 20.0 a\n0 scan\n",
-        1,
-        "",
-        "lockrun: line 2: BadPass\n",
-    ),
     (
         "no name of a file",
         &["run", ""],
@@ -559,8 +562,15 @@ fn expect_end<H: Threads + Wait + Sync + Abort, F: Files>(
 }
 
 #[test]
-fn words_and_texts_end_as_the_rules_say(rt: HostRuntime) {
-    for case in &ENDS {
+fn texts_end_as_the_rules_say(rt: HostRuntime) {
+    for case in &TEXTS {
+        expect_end(&rt, rt.alloc(), &rt, case);
+    }
+}
+
+#[test]
+fn words_end_as_the_rules_say(rt: HostRuntime) {
+    for case in &WORDS {
         expect_end(&rt, rt.alloc(), &rt, case);
     }
 }
