@@ -3,8 +3,7 @@
 //!
 //! The commands are played as `lt_table_player` plays them, by [`playing`]. [`race`] lets two threads work on one table; [`closing`]
 //! closes a table without all its passes; [`keeping`] makes takes between the commands, [`emptied`] whenever a shard is
-//! full, and [`stream`] has a thread make them while four others work. [`refusals`] hold whichever one allocation is refused, and
-//! [`wanting`] tells what a call is told whose keys ([`scarce`]) are refused memory.
+//! full, and [`stream`] has a thread make them while four others work. [`refusals`] hold whichever one allocation is refused.
 #![tactic(auto)]
 
 #[cfg(test)]
@@ -32,12 +31,8 @@ mod refusals;
 #[cfg(test)]
 mod refusing;
 #[cfg(test)]
-mod scarce;
-#[cfg(test)]
 mod stream;
 #[cfg(test)]
 mod streams;
-#[cfg(test)]
-mod wanting;
 #[cfg(test)]
 mod worked;
