@@ -1,22 +1,18 @@
-//! Times calls of the lock table and its layers, and plays at them by chance. Without a word it says what it can do.
+//! Times calls of the lock table, and plays at it by chance. Without a word it says what it can do.
 //!
 //! - `load` times rounds of a store's transactions on a table, on one thread or many, that keeps its history whole, streams it,
 //!   or records none;
 //! - `sleep` measures the processor time of many requests that sleep at one key, and checks the order in which they go on;
-//! - `links` prints how many nanoseconds a call of the linked queues takes, for queues of several lengths;
-//! - `tables` prints how many nanoseconds the calls of both lock tables take, for several numbers of waiters;
 //! - `soak --seconds N` plays random requests on threads for so long, and checks the histories;
 //! - `texts --count N` runs and checks so many scripts and histories that were changed by chance.
 #![tactic(auto)]
 
 mod closing;
 mod drivers;
-mod links;
 mod load;
 mod memory;
 mod sleeping;
 mod soak;
-mod tables;
 mod taking;
 mod texts;
 mod words;
@@ -35,8 +31,6 @@ fn run<H: Threads + Wait + Clock + CpuClock + Sync>(
 ) -> anyhow::Result<()> {
     let alloc = rt.alloc();
     match words::asked(alloc, words)? {
-        Job::Links => links::report(rt, alloc),
-        Job::Tables => tables::report(rt, alloc),
         Job::Soak(soak) => soak::report(threads, rt, alloc, &soak),
         Job::Texts(count) => texts::report(threads, rt, alloc, count),
         Job::Load(load, trace) => {

@@ -11,8 +11,6 @@ use std::alloc::{AllocError, Global};
 /// What is asked for.
 #[derive(Drop)]
 pub enum Job {
-    Links,
-    Tables,
     Soak(Soak),
     /// So many texts.
     Texts(u64),
@@ -101,15 +99,11 @@ fn load<'a>(alloc: Global) -> Result<Command<'a>, AllocError> {
 }
 
 fn command<'a>(alloc: Global) -> Result<Command<'a>, AllocError> {
-    let links = Command::new(alloc, "links").about("Times calls of the linked queues");
-    let tables = Command::new(alloc, "tables").about("Times calls of both key tables");
     Command::new(alloc, "lockbench")
         .no_binary_name(true)
-        .about("Times the layers of the lock table, and plays at them by chance")
+        .about("Times the lock table, and plays at it by chance")
         .bin_name("lockbench")?
         .subcommand(load(alloc)?)?
-        .subcommand(links)?
-        .subcommand(tables)?
         .subcommand(sleep(alloc)?)?
         .subcommand(soak(alloc)?)?
         .subcommand(texts(alloc)?)
@@ -185,8 +179,6 @@ fn job_of(alloc: Global, matches: &ArgMatches<'_>) -> anyhow::Result<Job> {
         bail!("there is no word");
     };
     Ok(match name {
-        "links" => Job::Links,
-        "tables" => Job::Tables,
         "soak" => Job::Soak(soak_of(inner)?),
         "sleep" => Job::Sleep(sleep_of(inner)?),
         "texts" => Job::Texts(number_of(inner, "count", 100_000, 1 << 40)?),

@@ -4,6 +4,8 @@
 //! A [`watched::Watched`] is the table of a shard whose acquire of one key goes no further, while it holds the shard's
 //! lock, until another thread sets a flag. [`beside`] has the two runs: in each the other thread sets the flag once its
 //! own call has returned, so a call that waits for the lock is seen.
+//!
+//! A [`scarce::Scarce`] is a table that is refused memory once. [`wanting`] tells what a call is told then.
 #![tactic(auto)]
 
 #[cfg(test)]
@@ -11,6 +13,10 @@ mod beside;
 #[cfg(test)]
 mod flag;
 #[cfg(test)]
+mod scarce;
+#[cfg(test)]
 mod tests;
+#[cfg(test)]
+mod wanting;
 #[cfg(test)]
 mod watched;

@@ -1,18 +1,19 @@
 -- A table is closed over what the passes did.
-use Rattle.std.proofs.Common.{◌≡◌, ◌≢◌, ℕ, zero, suc, ◌+◌, ◌<◌, Bool, true, false, cond, nat_eq, List, [], ◌∷◌, ◌++◌, length, map, get_or, refl, sym, ap, subst, ◌∙◌, append_assoc, append-nil, length-append, arith}
+use Rattle.std.proofs.Common.{◌≡◌, ◌≢◌, ℕ, zero, suc, ◌+◌, ◌<◌, ◌≤◌, Bool, true, false, cond, nat_eq, List, [], ◌∷◌, ◌++◌, length, map, get_or, refl, sym, ap, subst, ◌∙◌, append_assoc, append-nil, length-append, arith}
 use Rattle.std.specs.Prelude.{Contains, slice_index}
 use Rattle.std.specs.Global.{Vec}
-use Rattle.std.specs.List.{flat_map, AllByRecursion}
+use Rattle.std.specs.List.{flat_map, All, AllByRecursion}
 use Rattle.std.specs.Str.{bytes_eq}
 use Rattle.std.proofs.lemmas.List.{map-append, get_or-replicate}
-use Rattle.std.proofs.lemmas.List.Elements.{Contains-append_left, Contains-append_right, Contains-push, filter-append}
+use Rattle.std.proofs.lemmas.List.Elements.{recursion_from_All, Contains-append_left, Contains-append_right, Contains-push, filter-append}
 use mathlib.Core.List.{IsPrefix}
 use Rattle.lt_history.specs.declared.entry.Entry.{Entry}
 use Rattle.lt_history.specs.Histories.{AreLegalKeys, IsInRange, event_of}
 use Rattle.lt_history.specs.Histories.{part as key_part}
 use Rattle.lt_history.proofs.Keys.{same_key}
 use Rattle.lt_plain.specs.Step.{IsLegal}
-use Rattle.lt_words.specs.History.{part, shard_of}
+use Rattle.lt_words.specs.declared.event.Event.{Event}
+use Rattle.lt_words.specs.History.{part, shard_of, draws_of}
 use Rattle.lt_words.specs.Row.{Opening, Seer, fresh, fresh_passes}
 use Rattle.lt_script.specs.declared.command.Command.{Command}
 use Rattle.lt_table.specs.Reported.{GuardState, steps_at}
@@ -26,14 +27,16 @@ use Rattle.lt_desk.specs.declared.outcome.Finish.TheVariants.{Done, TurnsOut}
 use Rattle.lt_desk.specs.declared.outcome.Ran.{Ran}
 use Rattle.lt_desk.specs.declared.outcome.Work.{Work}
 use Rattle.lt_desk.specs.Desks.{pass_of, request_of}
-use Rattle.lt_desk.specs.Machine.{Rules, Deed}
-use Rattle.lt_desk.specs.Standing.{made_at, AreAll}
+use Rattle.lt_desk.specs.Told.{IsDrawn}
+use Rattle.lt_desk.specs.Machine.{Rules, Deed, IsOutOnlyAt}
+use Rattle.lt_desk.specs.Standing.{made_at, AreAll, run_numbers}
 use Rattle.lt_desk.specs.Worked.{deed_steps, lines_of}
-use Rattle.lt_desk.specs.Turns.{AreNumbered, AreWorked, IsAmong}
+use Rattle.lt_desk.specs.Turns.{AreNumbered, AreRun, HaveRun, IsAmong}
 use Rattle.lt_desk.specs.Closing.{AreHanded, CountAlike, IsPut, IsWithin, AreWithin, finish_all, join}
 use Rattle.lt_desk.specs.Ran.{AreAnswered, IsAnswered, IsRan, joined}
-use Rattle.lt_desk.proofs.Telling.{all_append, all_more, all_weaker}
-use Rattle.lt_desk.proofs.Standings.{AreRun, AreOfShards, all_stand}
+use Rattle.lt_desk.proofs.Telling.{draws_later, all_append, all_more, all_weaker}
+use Rattle.lt_desk.proofs.Lines.{out_later}
+use Rattle.lt_desk.proofs.Standings.{AreOfShards, all_stand}
 
 -- ---- handing over
 
@@ -195,11 +198,13 @@ closed_good of ps shards draws c = are_good of.shards 0 shards (λ k d lt. let f
 
 -- ---- the run
 
-deeds_of : (rules : Rules) (always : Bool) (cs : List Command) (ps : List Seer) (ws : List Work) → AreWorked rules always cs ps ws → (dss : List (List Deed)) × AreRun rules always cs ps dss ws × (length dss ≡ length ps)
-deeds_of rules always cs [] [] a = ([], tt, refl)
-deeds_of rules always cs [] (w ∷ ws) a = absurd a
-deeds_of rules always cs (p ∷ ps) [] a = absurd a
-deeds_of rules always cs (p ∷ ps) (w ∷ ws) a = let rest = deeds_of rules always cs ps ws a.1 in (a.0.0 ∷ rest.0, (a.0.1, rest.1), ap (λ n. suc n) rest.2)
+run_many : (rules : Rules) (always : Bool) (cs : List Command) (ps : List Seer) (dss : List (List Deed)) (ws : List Work) → AreRun rules always cs ps dss ws → length dss ≡ length ps
+run_many rules always cs [] [] [] r = refl
+run_many rules always cs [] [] (w ∷ ws) r = absurd r
+run_many rules always cs [] (ds ∷ dss) ws r = absurd r
+run_many rules always cs (p ∷ ps) [] ws r = absurd r
+run_many rules always cs (p ∷ ps) (ds ∷ dss) [] r = absurd r
+run_many rules always cs (p ∷ ps) (ds ∷ dss) (w ∷ ws) r = ap (λ n. suc n) (run_many rules always cs ps dss ws r.1)
 
 answers_in : Work → Vec AnswerLine
 answers_in w = w.answers
@@ -241,23 +246,60 @@ are_all rules always of cs ps qs dss ws shards draws closed alike run same none 
     at_map entries_of shards s [] (λ (es : List Entry). length es ≡ made_at of.shards s dss) (omega (arith, closed.many))
     (λ d. (closed.each s d lt).counted ∙ (alike s ∙ counts_are_made rules always cs of.shards s ps dss ws run same (none s lt)))
 
-pub is_ran : (rules : Rules) (always : Bool) (of : Opening) (cs : List Command) (ps qs : List Seer) (ws : List Work) (draws : ℕ) (ran : Ran)
-    → 0 < of.shards → AllByRecursion (IsAmong (length ps)) cs → AllByRecursion (λ p. p.of ≡ of) ps → AreNumbered 0 ps → AreWorked rules always cs ps ws → IsClosed of qs ran.histories.items draws → AreHanded qs ws → CountAlike qs ws → ((s : ℕ) → s < of.shards → HaveNone s ps)
+-- what each pass has seen is a beginning of the one history
+works_seen : (whole : List Event) (qs : List Seer) (ws : List Work) → AllByRecursion (λ p. IsPrefix p.seen whole) qs → AreHanded qs ws → AllByRecursion (λ w. IsPrefix (pass_of w.desk).seen whole) ws
+works_seen whole qs ws seen handed = all_weaker (λ w. Contains qs (pass_of w.desk)) (λ w. IsPrefix (pass_of w.desk).seen whole) ws (λ w inside. contained (λ p. IsPrefix p.seen whole) qs (pass_of w.desk) seen inside) handed
+
+-- no number that is told is above the draws of the one history
+all_drawn : (rules : Rules) (always : Bool) (cs : List Command) (whole : List Event) (ps : List Seer) (dss : List (List Deed)) (ws : List Work) → AreRun rules always cs ps dss ws → AllByRecursion (λ w. IsPrefix (pass_of w.desk).seen whole) ws
+    → AllByRecursion (λ n. n ≤ draws_of whole) (flat_map run_numbers dss)
+all_drawn rules always cs whole [] [] [] r seen = tt
+all_drawn rules always cs whole [] [] (w ∷ ws) r seen = absurd r
+all_drawn rules always cs whole [] (ds ∷ dss) ws r seen = absurd r
+all_drawn rules always cs whole (p ∷ ps) [] ws r seen = absurd r
+all_drawn rules always cs whole (p ∷ ps) (ds ∷ dss) [] r seen = absurd r
+all_drawn rules always cs whole (p ∷ ps) (ds ∷ dss) (w ∷ ws) r seen =
+    all_append (λ n. n ≤ draws_of whole) (run_numbers ds) (flat_map run_numbers dss)
+    (all_weaker (IsDrawn p.number p.seen (pass_of w.desk).seen) (λ n. n ≤ draws_of whole) (run_numbers ds)
+    (λ n d.
+    let inside : n ≤ draws_of (pass_of w.desk).seen = d.within in
+    let more : draws_of (pass_of w.desk).seen ≤ draws_of whole = draws_later (pass_of w.desk).seen whole seen.0 in
+    omega arith) r.0.done.tells.drawn)
+    (all_drawn rules always cs whole ps dss ws r.1 seen.1)
+
+-- the numbers are told to be out only where so many were drawn
+all_out : (rules : Rules) (always : Bool) (cs : List Command) (whole : List Event) (ps : List Seer) (dss : List (List Deed)) (ws : List Work) → AreRun rules always cs ps dss ws → AllByRecursion (λ w. IsPrefix (pass_of w.desk).seen whole) ws
+    → AllByRecursion (AllByRecursion (λ d. IsOutOnlyAt rules.max_requests (draws_of whole) d.answer)) dss
+all_out rules always cs whole [] [] [] r seen = tt
+all_out rules always cs whole [] [] (w ∷ ws) r seen = absurd r
+all_out rules always cs whole [] (ds ∷ dss) ws r seen = absurd r
+all_out rules always cs whole (p ∷ ps) [] ws r seen = absurd r
+all_out rules always cs whole (p ∷ ps) (ds ∷ dss) [] r seen = absurd r
+all_out rules always cs whole (p ∷ ps) (ds ∷ dss) (w ∷ ws) r seen = (out_later rules.max_requests (pass_of w.desk).seen whole ds seen.0 r.0.done.numbers_out, all_out rules always cs whole ps dss ws r.1 seen.1)
+
+pub is_ran : (rules : Rules) (always : Bool) (of : Opening) (cs : List Command) (ps qs : List Seer) (ws : List Work) (ran : Ran)
+    → 0 < of.shards → AllByRecursion (IsAmong (length ps)) cs → AllByRecursion (λ p. p.of ≡ of) ps → AreNumbered 0 ps → HaveRun rules always of.shards cs ps ws → IsClosed of qs ran.histories.items ran.draws → All (λ es. length es.items ≤ rules.max_steps) ran.histories.items
+    → AreHanded qs ws → CountAlike qs ws → ((s : ℕ) → s < of.shards → HaveNone s ps)
     → ran.answers.items ≡ map (λ w. w.answers) ws → ran.finish ≡ finish_all (map (λ w. w.finish) ws) → IsRan rules always of.shards cs ran
-is_ran rules always of cs ps qs ws draws ran some among are_of num worked closed handed alike none answers_are finish_is =
-    let run = deeds_of rules always cs ps ws worked in
-    let within : AreWithin of.shards (map entries_of ran.histories.items) ws = are_within of qs ran.histories.items draws ws some closed handed in
+is_ran rules always of cs ps qs ws ran some among are_of num have closed limit handed alike none answers_are finish_is =
+    let run : AreRun rules always cs ps have.deeds ws = have.run in
+    let within : AreWithin of.shards (map entries_of ran.histories.items) ws = are_within of qs ran.histories.items ran.draws ws some closed handed in
     let shards : AreOfShards of.shards ps = all_weaker (λ p. p.of ≡ of) (λ p. p.of.shards ≡ of.shards) ps (λ p e. ap (λ (o : Opening). o.shards) e) are_of in
-    let good : AreGood of.shards 0 ran.histories.items = closed_good of qs ran.histories.items draws closed in
+    let good : AreGood of.shards 0 ran.histories.items = closed_good of qs ran.histories.items ran.draws closed in
+    let seen : AllByRecursion (λ w. IsPrefix (pass_of w.desk).seen closed.whole) ws = works_seen closed.whole qs ws closed.seen handed in
     record {
-      deeds = run.0;
+      deeds = have.deeds;
       finishes = map (λ w. w.finish) ws;
-      among = subst (λ (n : ℕ). AllByRecursion (IsAmong n) cs) (sym run.2) among;
-      answered = subst (λ (as' : List (Vec AnswerLine)). AreAnswered rules always cs 1 run.0 as' (map (λ w. w.finish) ws)) (sym answers_are) (answered rules always cs 0 ps run.0 ws run.1 num);
+      among = subst (λ (n : ℕ). AllByRecursion (IsAmong n) cs) (sym (run_many rules always cs ps have.deeds ws run)) among;
+      answered = subst (λ (as' : List (Vec AnswerLine)). AreAnswered rules always cs 1 have.deeds as' (map (λ w. w.finish) ws)) (sym answers_are) (answered rules always cs 0 ps have.deeds ws run num);
       finish = finish_is;
       many = closed.many;
-      stand = all_stand rules always cs of.shards within.whole (map entries_of ran.histories.items) 0 ps run.0 ws some within.legal shards run.1 num within.within;
-      all = are_all rules always of cs ps qs run.0 ws ran.histories.items draws closed alike run.1 shards none;
+      stand = all_stand rules always cs of.shards within.whole (map entries_of ran.histories.items) 0 ps have.deeds ws some within.legal shards run num within.within;
+      all = are_all rules always of cs ps qs have.deeds ws ran.histories.items ran.draws closed alike run shards none;
+      in_order = have.in_order;
+      drawn = subst (λ (n : ℕ). AllByRecursion (λ m. m ≤ n) (flat_map run_numbers have.deeds)) (sym closed.draws_are) (all_drawn rules always cs closed.whole ps have.deeds ws run seen);
+      numbers_out = subst (λ (n : ℕ). AllByRecursion (AllByRecursion (λ d. IsOutOnlyAt rules.max_requests n d.answer)) have.deeds) (sym closed.draws_are) (all_out rules always cs closed.whole ps have.deeds ws run seen);
+      limit = recursion_from_All (λ (es : Vec Entry). length es.items ≤ rules.max_steps) ran.histories.items limit;
       legal = λ key. legal_key of.shards 0 key ran.histories.items good;
       in_range = all_in_range of.shards 0 ran.histories.items good;
     }
@@ -289,9 +331,18 @@ fresh_none of s (suc n) lt = all_more (λ p. slice_index p.counts s ≡ 0) (fres
 pub new_none : (of : Opening) (n : ℕ) (ps : List Seer) → ps ≡ fresh_passes of n → (s : ℕ) → s < of.shards → HaveNone s ps
 new_none of n ps e s lt = subst (HaveNone s) (sym e) (fresh_none of s n lt)
 
+-- a new table has passes
+pub new_some : (of : Opening) (n : ℕ) (ps : List Seer) → ps ≡ fresh_passes of n → 0 < n → 0 < length ps
+new_some of n ps e lt = let many : length ps ≡ n = ap length e ∙ fresh_many of n in omega (arith, many)
+
 -- the passes of what was done are the table's
-pub works_of : (rules : Rules) (always : Bool) (cs : List Command) (of : Opening) (ps : List Seer) (ws : List Work) → AreWorked rules always cs ps ws → AllByRecursion (λ p. p.of ≡ of) ps → AllByRecursion (λ w. (pass_of w.desk).of ≡ of) ws
-works_of rules always cs of [] [] a h = tt
-works_of rules always cs of [] (w ∷ ws) a h = absurd a
-works_of rules always cs of (p ∷ ps) [] a h = absurd a
-works_of rules always cs of (p ∷ ps) (w ∷ ws) a h = (a.0.1.done.tells.of ∙ h.0, works_of rules always cs of ps ws a.1 h.1)
+run_of : (rules : Rules) (always : Bool) (cs : List Command) (of : Opening) (ps : List Seer) (dss : List (List Deed)) (ws : List Work) → AreRun rules always cs ps dss ws → AllByRecursion (λ p. p.of ≡ of) ps → AllByRecursion (λ w. (pass_of w.desk).of ≡ of) ws
+run_of rules always cs of [] [] [] r h = tt
+run_of rules always cs of [] [] (w ∷ ws) r h = absurd r
+run_of rules always cs of [] (ds ∷ dss) ws r h = absurd r
+run_of rules always cs of (p ∷ ps) [] ws r h = absurd r
+run_of rules always cs of (p ∷ ps) (ds ∷ dss) [] r h = absurd r
+run_of rules always cs of (p ∷ ps) (ds ∷ dss) (w ∷ ws) r h = (r.0.done.tells.of ∙ h.0, run_of rules always cs of ps dss ws r.1 h.1)
+
+pub works_of : (rules : Rules) (always : Bool) (cs : List Command) (of : Opening) (ps : List Seer) (ws : List Work) → HaveRun rules always of.shards cs ps ws → AllByRecursion (λ p. p.of ≡ of) ps → AllByRecursion (λ w. (pass_of w.desk).of ≡ of) ws
+works_of rules always cs of ps ws have h = run_of rules always cs of ps have.deeds ws have.run h

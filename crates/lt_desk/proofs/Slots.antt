@@ -1,15 +1,23 @@
 -- What the passes of a script have done, in a list.
-use Rattle.std.proofs.Common.{◌≡◌, ◌≢◌, ℕ, zero, suc, ◌+◌, ◌-◌, ◌<◌, ◌≤◌, ◌==◌, Bool, true, false, eq-eqb, List, [], ◌∷◌, ◌++◌, length, take, map, get_or, set, Option, Some, None, Result, Ok, refl, sym, ap, subst, ◌∙◌, arith}
-use Rattle.std.specs.List.{AllByRecursion}
-use Rattle.lt_words.specs.Row.{Opening, Seer}
+use Rattle.std.proofs.Common.{◌≡◌, ◌≢◌, ℕ, zero, suc, ◌+◌, ◌-◌, ◌<◌, ◌≤◌, ◌==◌, Bool, true, false, eq-eqb, List, [], ◌∷◌, ◌++◌, length, take, map, get_or, set, Option, Some, None, Result, Ok, refl, sym, ap, subst, ◌∙◌, append-nil, arith}
+use Rattle.std.specs.Prelude.{is_some}
+use Rattle.std.specs.List.{flat_map, AllByRecursion}
+use Rattle.std.proofs.lemmas.List.Elements.{filter-append}
+use mathlib.Core.List.{IsPrefix}
+use Rattle.lt_words.specs.declared.event.Event.{Event}
+use Rattle.lt_words.specs.Row.{Opening, Seer, Sight}
 use Rattle.lt_script.specs.declared.command.Command.{Command}
+use Rattle.lt_table.specs.Machine.{Step}
+use Rattle.lt_desk.specs.declared.desk.Desk.{Desk}
 use Rattle.lt_desk.specs.declared.outcome.Work.{Work}
 use Rattle.lt_desk.specs.declared.outcome.OutOfMemory.{OutOfMemory}
-use Rattle.lt_desk.specs.Machine.{Rules}
-use Rattle.lt_desk.specs.Worked.{IsWorked, IsBegun, GoesOn, lines_of}
-use Rattle.lt_desk.specs.Turns.{IsAmong, AreWorked, IsTriedOf, AreTried, AreNumbered, IsSlot, AreSlots, IsReady, slot_at, TakesTurn, HaveBegun, somes}
-use Rattle.lt_desk.proofs.Telling.{all_more, all_weaker}
-use Rattle.lt_desk.proofs.Lines.{goes_on, worked_none, mine, other, front_more}
+use Rattle.lt_desk.specs.Desks.{pass_of}
+use Rattle.lt_desk.specs.Machine.{Rules, Deed}
+use Rattle.lt_desk.specs.Told.{IsSeen, ComesAfter, Ascend}
+use Rattle.lt_desk.specs.Worked.{IsRun, IsBegun, GoesOn, deed_steps, lines_of}
+use Rattle.lt_desk.specs.Turns.{IsAmong, AreWorked, AreRun, HaveRun, HaveRunInOrder, IsTriedOf, AreTried, AreNumbered, IsTurn, AreTurns, AreOwn, AreInOrder, IsSlot, AreSlots, IsReady, Learns, TakesTurn, HaveBegun, slot_at, deeds_of, no_deeds, somes}
+use Rattle.lt_desk.proofs.Telling.{ascend_append, seen_later, all_append, all_more, all_weaker}
+use Rattle.lt_desk.proofs.Lines.{IsTurned, turn_steps, turned, run_learnt, run_none, flat_snoc, one_in, none_in, mine, other, front_more}
 
 pub set_twice : {A : Type 0} (xs : List A) (i : ℕ) (a b : A) → set (set xs i a) i b ≡ set xs i b
 set_twice [] i a b = refl
@@ -34,59 +42,195 @@ miss m n ne = grind (arith, ne)
 
 -- ---- slots
 
-slot_other : (rules : Rules) (always : Bool) (cs : List Command) (c : Command) (p : Seer) (s : Option Work) → c.pass ≢ p.number → IsSlot rules always cs p s → IsSlot rules always (cs ++ c ∷ []) p s
-slot_other rules always cs c p None ne h = absurd h
-slot_other rules always cs c p (Some w) ne h = subst (λ (ls : List Command). IsWorked rules always p ls w) (sym (other p.number cs c (miss c.pass p.number ne))) h
+slot_other : (rules : Rules) (always : Bool) (cs : List Command) (c : Command) (p : Seer) (ds : List Deed) (s : Option Work) → c.pass ≢ p.number → IsSlot rules always cs p ds s → IsSlot rules always (cs ++ c ∷ []) p ds s
+slot_other rules always cs c p ds None ne h = absurd h
+slot_other rules always cs c p ds (Some w) ne h = subst (λ (ls : List Command). IsRun rules always p ls ds w) (sym (other p.number cs c (miss c.pass p.number ne))) h
 
-slots_other : (rules : Rules) (always : Bool) (cs : List Command) (c : Command) (n : ℕ) (ps : List Seer) (ss : List (Option Work)) → AreNumbered n ps → c.pass ≤ n → AreSlots rules always cs ps ss → AreSlots rules always (cs ++ c ∷ []) ps ss
-slots_other rules always cs c n [] [] num le h = tt
-slots_other rules always cs c n [] (s ∷ ss) num le h = absurd h
-slots_other rules always cs c n (p ∷ ps) [] num le h = absurd h
-slots_other rules always cs c n (p ∷ ps) (s ∷ ss) num le h =
+slots_other : (rules : Rules) (always : Bool) (cs : List Command) (c : Command) (n : ℕ) (ps : List Seer) (dss : List (List Deed)) (ss : List (Option Work)) → AreNumbered n ps → c.pass ≤ n → AreSlots rules always cs ps dss ss → AreSlots rules always (cs ++ c ∷ []) ps dss ss
+slots_other rules always cs c n [] [] [] num le h = tt
+slots_other rules always cs c n [] [] (s ∷ ss) num le h = absurd h
+slots_other rules always cs c n [] (ds ∷ dss) ss num le h = absurd h
+slots_other rules always cs c n (p ∷ ps) [] ss num le h = absurd h
+slots_other rules always cs c n (p ∷ ps) (ds ∷ dss) [] num le h = absurd h
+slots_other rules always cs c n (p ∷ ps) (ds ∷ dss) (s ∷ ss) num le h =
     let is : p.number ≡ n + 1 = num.0 in
-    (slot_other rules always cs c p s (λ e. absurd (omega arith)) h.0, slots_other rules always cs c (n + 1) ps ss num.1 (omega arith) h.1)
+    (slot_other rules always cs c p ds s (λ e. absurd (omega arith)) h.0, slots_other rules always cs c (n + 1) ps dss ss num.1 (omega arith) h.1)
 
-slot_mine : (rules : Rules) (always : Bool) (cs : List Command) (c : Command) (p : Seer) (w after : Work) → c.pass ≡ p.number → IsSlot rules always cs p (Some w) → GoesOn rules always w.finish w c after → IsSlot rules always (cs ++ c ∷ []) p (Some after)
-slot_mine rules always cs c p w after e h g =
-    subst (λ (ls : List Command). IsWorked rules always p ls after) (sym (mine p.number cs c (hit c.pass p.number e))) (goes_on rules always p (lines_of p.number cs) c w.finish w after refl h g)
+-- more items behind those of the list at a place
+abbrev add_at : {A : Type 0} → List (List A) → ℕ → List A → List (List A)
+add_at [] i xs = []
+add_at (l ∷ ls) zero xs = (l ++ xs) ∷ ls
+add_at (l ∷ ls) (suc i) xs = l ∷ add_at ls i xs
 
-slots_turn : (rules : Rules) (always : Bool) (cs : List Command) (c : Command) (n i : ℕ) (ps : List Seer) (ss : List (Option Work)) (w after : Work) → AreNumbered n ps → c.pass ≡ n + i + 1 → get_or ss i None ≡ Some w
-    → GoesOn rules always w.finish w c after → AreSlots rules always cs ps ss → AreSlots rules always (cs ++ c ∷ []) ps (set ss i (Some after))
-slots_turn rules always cs c n i [] [] w after num e was g h = tt
-slots_turn rules always cs c n i [] (s ∷ ss) w after num e was g h = absurd h
-slots_turn rules always cs c n i (p ∷ ps) [] w after num e was g h = absurd h
-slots_turn rules always cs c n zero (p ∷ ps) (s ∷ ss) w after num e was g h =
+-- The slot at a place did this at its line, or nothing: its steps come after what its pass had seen.
+record AreTurned (rules : Rules) (always : Bool) (of : Opening) (cs : List Command) (c : Command) (i : ℕ) (ps : List Seer) (dss : List (List Deed)) (ss : List (Option Work)) (desk : Desk) (after : Work) : Type 0 where
+  turn : Option Deed
+  line_is : IsTurn c turn
+  slots : AreSlots rules always (cs ++ c ∷ []) ps (add_at dss i (somes (turn ∷ []))) (set ss i (Some after))
+  same : (pass_of after.desk).of ≡ of
+  seen : IsPrefix (pass_of desk).seen (pass_of after.desk).seen
+  comes : AllByRecursion (ComesAfter of.shards (pass_of desk).seen) (turn_steps turn)
+  within : AllByRecursion (IsSeen of.shards (pass_of after.desk).seen) (turn_steps turn)
+  ascend : Ascend of.shards (turn_steps turn)
+
+slot_turned : (rules : Rules) (always : Bool) (of : Opening) (cs : List Command) (c : Command) (n : ℕ) (p : Seer) (ps : List Seer) (ds : List Deed) (dss : List (List Deed)) (s : Option Work) (ss : List (Option Work)) (w after : Work) (desk : Desk) (seen : Sight)
+    → p.of ≡ of → AreNumbered (n + 1) ps → p.number ≡ n + 1 → c.pass ≡ n + 1 → s ≡ Some w → Learns seen w.desk desk → GoesOn rules always w.finish (record w { desk = desk }) c after
+    → IsSlot rules always cs p ds s → AreSlots rules always cs ps dss ss → AreTurned rules always of cs c 0 (p ∷ ps) (ds ∷ dss) (s ∷ ss) desk after
+slot_turned rules always of cs c n p ps ds dss s ss w after desk seen is_of num is at was l g h rest =
+    let w' : Work = record w { desk = desk } in
+    let here : IsRun rules always p (lines_of p.number cs) ds w = subst (λ (o : Option Work). IsSlot rules always cs p ds o) was h in
+    let run : IsRun rules always p (lines_of p.number cs) ds w' = run_learnt rules always p (lines_of p.number cs) ds w desk seen here l in
+    let t : IsTurned rules always p (lines_of p.number cs) c ds w' after = turned rules always p (lines_of p.number cs) c ds w.finish w' after refl run g in
+    let shards : p.of.shards ≡ of.shards = ap (λ (o : Opening). o.shards) is_of in
+    record {
+      turn = t.turn;
+      line_is = t.line_is;
+      slots = (
+        subst (λ (ls : List Command). IsRun rules always p ls (ds ++ somes (t.turn ∷ [])) after) (sym (mine p.number cs c (hit c.pass p.number (at ∙ sym is)))) t.run,
+        slots_other rules always cs c (n + 1) ps dss ss num (omega (arith, at)) rest,
+      );
+      same = t.of ∙ (run.done.tells.of ∙ is_of);
+      seen = t.seen;
+      comes = subst (λ (k : ℕ). AllByRecursion (ComesAfter k (pass_of desk).seen) (turn_steps t.turn)) shards t.after;
+      within = subst (λ (k : ℕ). AllByRecursion (IsSeen k (pass_of after.desk).seen) (turn_steps t.turn)) shards t.within;
+      ascend = subst (λ (k : ℕ). Ascend k (turn_steps t.turn)) shards t.ascend;
+    }
+
+slots_turned : (rules : Rules) (always : Bool) (of : Opening) (cs : List Command) (c : Command) (n i : ℕ) (ps : List Seer) (dss : List (List Deed)) (ss : List (Option Work)) (w after : Work) (desk : Desk) (seen : Sight)
+    → AllByRecursion (λ p. p.of ≡ of) ps → AreNumbered n ps → c.pass ≡ n + i + 1 → get_or ss i None ≡ Some w → Learns seen w.desk desk → GoesOn rules always w.finish (record w { desk = desk }) c after
+    → AreSlots rules always cs ps dss ss → AreTurned rules always of cs c i ps dss ss desk after
+slots_turned rules always of cs c n i [] [] [] w after desk seen ofs num e was l g h = absurd cc
+slots_turned rules always of cs c n i [] [] (s ∷ ss) w after desk seen ofs num e was l g h = absurd h
+slots_turned rules always of cs c n i [] (ds ∷ dss) ss w after desk seen ofs num e was l g h = absurd h
+slots_turned rules always of cs c n i (p ∷ ps) [] ss w after desk seen ofs num e was l g h = absurd h
+slots_turned rules always of cs c n i (p ∷ ps) (ds ∷ dss) [] w after desk seen ofs num e was l g h = absurd h
+slots_turned rules always of cs c n zero (p ∷ ps) (ds ∷ dss) (s ∷ ss) w after desk seen ofs num e was l g h =
+    slot_turned rules always of cs c n p ps ds dss s ss w after desk seen ofs.0 num.1 num.0 (omega (arith, e)) was l g h.0 h.1
+slots_turned rules always of cs c n (suc i) (p ∷ ps) (ds ∷ dss) (s ∷ ss) w after desk seen ofs num e was l g h =
     let is : p.number ≡ n + 1 = num.0 in
-    let here : IsSlot rules always cs p (Some w) = subst (λ (o : Option Work). IsSlot rules always cs p o) was h.0 in
-    (slot_mine rules always cs c p w after (omega arith) here g, slots_other rules always cs c (n + 1) ps ss num.1 (omega arith) h.1)
-slots_turn rules always cs c n (suc i) (p ∷ ps) (s ∷ ss) w after num e was g h =
-    let is : p.number ≡ n + 1 = num.0 in
-    (slot_other rules always cs c p s (λ x. absurd (omega arith)) h.0, slots_turn rules always cs c (n + 1) i ps ss w after num.1 (omega arith) was g h.1)
+    let t : AreTurned rules always of cs c i ps dss ss desk after = slots_turned rules always of cs c (n + 1) i ps dss ss w after desk seen ofs.1 num.1 (omega arith) was l g h.1 in
+    record {
+      turn = t.turn;
+      line_is = t.line_is;
+      slots = (slot_other rules always cs c p ds s (λ x. absurd (omega arith)) h.0, t.slots);
+      same = t.same;
+      seen = t.seen;
+      comes = t.comes;
+      within = t.within;
+      ascend = t.ascend;
+    }
 
-pub turn_taken : (rules : Rules) (always : Bool) (all : List Command) (i : ℕ) (c : Command) (ps : List Seer) (old new : List (Option Work)) → AreNumbered 0 ps → i < length all → c ≡ get_or all i c → 1 ≤ c.pass
-    → AreSlots rules always (take i all) ps old → TakesTurn rules always c old new → AreSlots rules always (take (i + 1) all) ps new
-turn_taken rules always all i c ps old new num lt is low h t =
-    let more : take (i + 1) all ≡ take i all ++ c ∷ [] = front_more all i c lt is in
-    let after : AreSlots rules always (take i all ++ c ∷ []) ps (set old (c.pass - 1) (Some t.after)) = slots_turn rules always (take i all) c 0 (c.pass - 1) ps old t.before t.after num (omega arith) t.was t.goes_on h in
-    subst (λ (ss : List (Option Work)). AreSlots rules always (take (i + 1) all) ps ss) (sym t.others) (subst (λ (cs : List Command). AreSlots rules always cs ps (set old (c.pass - 1) (Some t.after))) (sym more) after)
+-- ---- the order
 
-pub slots_length : (rules : Rules) (always : Bool) (cs : List Command) (ps : List Seer) (ss : List (Option Work)) → AreSlots rules always cs ps ss → length ss ≡ length ps
-slots_length rules always cs [] [] h = refl
-slots_length rules always cs [] (s ∷ ss) h = absurd h
-slots_length rules always cs (p ∷ ps) [] h = absurd h
-slots_length rules always cs (p ∷ ps) (s ∷ ss) h = ap (λ n. suc n) (slots_length rules always cs ps ss h.1)
+turns_more : (cs : List Command) (ts : List (Option Deed)) (c : Command) (t : Option Deed) → AreTurns cs ts → IsTurn c t → AreTurns (cs ++ c ∷ []) (ts ++ t ∷ [])
+turns_more [] [] c t h last = (last, tt)
+turns_more [] (u ∷ ts) c t h last = absurd h
+turns_more (d ∷ cs) [] c t h last = absurd h
+turns_more (d ∷ cs) (u ∷ ts) c t h last = (h.0, turns_more cs ts c t h.1 last)
 
-ready_slot : (rules : Rules) (always : Bool) (of : Opening) (cs : List Command) (p : Seer) (s : Option Work) → p.of ≡ of → IsSlot rules always cs p s → IsReady of s
-ready_slot rules always of cs p None o h = absurd h
-ready_slot rules always of cs p (Some w) o h = h.1.done.tells.of ∙ o
+somes_more : {A : Type 0} (xs : List (Option A)) (x : Option A) → somes (xs ++ x ∷ []) ≡ somes xs ++ somes (x ∷ [])
+somes_more [] x = refl
+somes_more (None ∷ xs) x = somes_more xs x
+somes_more {A} (Some y ∷ xs) x = ap (λ (l : List A). y ∷ l) (somes_more xs x)
 
-pub slots_ready : (rules : Rules) (always : Bool) (of : Opening) (cs : List Command) (ps : List Seer) (ss : List (Option Work)) (i : ℕ) → AllByRecursion (λ p. p.of ≡ of) ps → AreSlots rules always cs ps ss → i < length ps → IsReady of (slot_at ss i)
-slots_ready rules always of cs [] ss i o h lt = absurd (omega arith)
-slots_ready rules always of cs (p ∷ ps) [] i o h lt = absurd h
-slots_ready rules always of cs (p ∷ ps) (s ∷ ss) zero o h lt = ready_slot rules always of cs p s o.0 h.0
-slots_ready rules always of cs (p ∷ ps) (s ∷ ss) (suc i) o h lt = slots_ready rules always of cs ps ss i o.1 h.1 (omega arith)
+steps_more : (ds : List Deed) (t : Option Deed) → flat_map deed_steps (ds ++ somes (t ∷ [])) ≡ flat_map deed_steps ds ++ turn_steps t
+steps_more ds None = ap (flat_map deed_steps) (append-nil ds) ∙ sym (append-nil (flat_map deed_steps ds))
+steps_more ds (Some d) = flat_snoc deed_steps ds d
 
-slots_push : (rules : Rules) (always : Bool) (cs : List Command) (ps : List Seer) (ss : List (Option Work)) (p : Seer) (s : Option Work) → AreSlots rules always cs ps ss → IsSlot rules always cs p s → AreSlots rules always cs (ps ++ p ∷ []) (ss ++ s ∷ [])
+deeds_other : (n : ℕ) (all : List Deed) (c : Command) (t : Option Deed) → IsTurn c t → c.pass ≢ n → deeds_of n (all ++ somes (t ∷ [])) ≡ deeds_of n all
+deeds_other n all c None is ne = ap (deeds_of n) (append-nil all)
+deeds_other n all c (Some d) is ne =
+    let other : (d.line.pass == n) ≡ false = ap (λ (x : Command). x.pass == n) is ∙ miss c.pass n ne in
+    filter-append (λ (x : Deed). x.line.pass == n) all (d ∷ []) ∙ (ap (λ (l : List Deed). deeds_of n all ++ l) (none_in (d.line.pass == n) d other) ∙ append-nil (deeds_of n all))
+
+deeds_mine : (n : ℕ) (all : List Deed) (c : Command) (t : Option Deed) → IsTurn c t → c.pass ≡ n → deeds_of n (all ++ somes (t ∷ [])) ≡ deeds_of n all ++ somes (t ∷ [])
+deeds_mine n all c None is at = ap (deeds_of n) (append-nil all) ∙ sym (append-nil (deeds_of n all))
+deeds_mine n all c (Some d) is at =
+    let own : (d.line.pass == n) ≡ true = ap (λ (x : Command). x.pass == n) is ∙ hit c.pass n at in
+    filter-append (λ (x : Deed). x.line.pass == n) all (d ∷ []) ∙ ap (λ (l : List Deed). deeds_of n all ++ l) (one_in (d.line.pass == n) d own)
+
+own_others : (n : ℕ) (dss : List (List Deed)) (all : List Deed) (c : Command) (t : Option Deed) → IsTurn c t → c.pass < n → AreOwn n dss all → AreOwn n dss (all ++ somes (t ∷ []))
+own_others n [] all c t is lt h = tt
+own_others n (ds ∷ dss) all c t is lt h = (h.0 ∙ sym (deeds_other n all c t is (λ e. absurd (omega arith))), own_others (n + 1) dss all c t is (omega arith) h.1)
+
+own_turned : (n i : ℕ) (dss : List (List Deed)) (all : List Deed) (c : Command) (t : Option Deed) → IsTurn c t → c.pass ≡ n + i → AreOwn n dss all → AreOwn n (add_at dss i (somes (t ∷ []))) (all ++ somes (t ∷ []))
+own_turned n i [] all c t is at h = tt
+own_turned n zero (ds ∷ dss) all c t is at h =
+    let here : c.pass ≡ n = omega (arith, at) in
+    (ap (λ (l : List Deed). l ++ somes (t ∷ [])) h.0 ∙ sym (deeds_mine n all c t is here), own_others (n + 1) dss all c t is (omega (arith, here)) h.1)
+own_turned n (suc i) (ds ∷ dss) all c t is at h = (h.0 ∙ sym (deeds_other n all c t is (λ e. absurd (omega (arith, at)))), own_turned (n + 1) i dss all c t is (omega (arith, at)) h.1)
+
+-- The lines among these commands were run in their order, each after what the passes had seen before, which was seen.
+pub record RunInOrder (rules : Rules) (always : Bool) (of : Opening) (cs : List Command) (ps : List Seer) (ss : List (Option Work)) (seen : Sight) : Type 0 where
+  pub deeds : List (List Deed)
+  pub slots : AreSlots rules always cs ps deeds ss
+  pub order : AreInOrder of.shards cs deeds
+  pub within : AllByRecursion (IsSeen of.shards seen.seen) (flat_map deed_steps (somes order.turns))
+  pub same : seen.of ≡ of
+
+own_none : (n : ℕ) (ps : List Seer) → AreOwn n (no_deeds ps) []
+own_none n [] = tt
+own_none n (p ∷ ps) = (refl, own_none (n + 1) ps)
+
+pub none_in_order : (rules : Rules) (always : Bool) (of : Opening) (ps : List Seer) (ss : List (Option Work)) (seen : Sight) → HaveBegun ps ss → seen.of ≡ of → RunInOrder rules always of [] ps ss seen
+none_in_order rules always of ps ss seen h same = record {
+  deeds = no_deeds ps;
+  slots = h rules always;
+  order = record { turns = []; turns_are = tt; own = own_none 1 ps; ascend = tt };
+  within = tt;
+  same = same;
+}
+
+order_turned : (rules : Rules) (always : Bool) (of : Opening) (cs : List Command) (c : Command) (ps : List Seer) (ss new : List (Option Work)) (seen seen' : Sight) → AllByRecursion (λ p. p.of ≡ of) ps → AreNumbered 0 ps → 1 ≤ c.pass
+    → RunInOrder rules always of cs ps ss seen → TakesTurn rules always c seen ss new seen' → RunInOrder rules always of (cs ++ c ∷ []) ps new seen'
+order_turned rules always of cs c ps ss new seen seen' ofs num low h t =
+    let i : ℕ = c.pass - 1 in
+    let a : AreTurned rules always of cs c i ps h.deeds ss t.desk t.after = slots_turned rules always of cs c 0 i ps h.deeds ss t.before t.after t.desk seen ofs num (omega arith) t.was t.learns t.goes_on h.slots in
+    let old : List Step = flat_map deed_steps (somes h.order.turns) in
+    let before : List Event = (pass_of t.desk).seen in
+    let all : somes (h.order.turns ++ a.turn ∷ []) ≡ somes h.order.turns ++ somes (a.turn ∷ []) = somes_more h.order.turns a.turn in
+    let steps : flat_map deed_steps (somes (h.order.turns ++ a.turn ∷ [])) ≡ old ++ turn_steps a.turn = ap (flat_map deed_steps) all ∙ steps_more (somes h.order.turns) a.turn in
+    let learnt : AllByRecursion (IsSeen of.shards before) old = all_weaker (IsSeen of.shards seen.seen) (IsSeen of.shards before) old (λ x. seen_later of.shards seen.seen before x t.learns.that) h.within in
+    let then : AllByRecursion (IsSeen of.shards (pass_of t.after.desk).seen) old = all_weaker (IsSeen of.shards before) (IsSeen of.shards (pass_of t.after.desk).seen) old (λ x. seen_later of.shards before (pass_of t.after.desk).seen x a.seen) learnt in
+    record {
+      deeds = add_at h.deeds i (somes (a.turn ∷ []));
+      slots = subst (λ (l : List (Option Work)). AreSlots rules always (cs ++ c ∷ []) ps (add_at h.deeds i (somes (a.turn ∷ []))) l) (sym t.others) a.slots;
+      order = record {
+        turns = h.order.turns ++ a.turn ∷ [];
+        turns_are = turns_more cs h.order.turns c a.turn h.order.turns_are a.line_is;
+        own = subst (λ (l : List Deed). AreOwn 1 (add_at h.deeds i (somes (a.turn ∷ []))) l) (sym all) (own_turned 1 i h.deeds (somes h.order.turns) c a.turn a.line_is (omega arith) h.order.own);
+        ascend = subst (Ascend of.shards) (sym steps) (ascend_append of.shards before old (turn_steps a.turn) learnt a.comes h.order.ascend a.ascend);
+      };
+      within = subst (λ (x : List Event). AllByRecursion (IsSeen of.shards x) (flat_map deed_steps (somes (h.order.turns ++ a.turn ∷ [])))) (sym t.seen_is)
+          (subst (AllByRecursion (IsSeen of.shards (pass_of t.after.desk).seen)) (sym steps) (all_append (IsSeen of.shards (pass_of t.after.desk).seen) old (turn_steps a.turn) then a.within));
+      same = t.of ∙ a.same;
+    }
+
+pub turn_taken : (rules : Rules) (always : Bool) (of : Opening) (all : List Command) (i : ℕ) (c : Command) (ps : List Seer) (old new : List (Option Work)) (seen seen' : Sight) → AllByRecursion (λ p. p.of ≡ of) ps → AreNumbered 0 ps → i < length all → c ≡ get_or all i c → 1 ≤ c.pass
+    → RunInOrder rules always of (take i all) ps old seen → TakesTurn rules always c seen old new seen' → RunInOrder rules always of (take (i + 1) all) ps new seen'
+turn_taken rules always of all i c ps old new seen seen' ofs num lt is low h t =
+    subst (λ (cs : List Command). RunInOrder rules always of cs ps new seen') (sym (front_more all i c lt is)) (order_turned rules always of (take i all) c ps old new seen seen' ofs num low h t)
+
+pub slots_length : (rules : Rules) (always : Bool) (cs : List Command) (ps : List Seer) (dss : List (List Deed)) (ss : List (Option Work)) → AreSlots rules always cs ps dss ss → length ss ≡ length ps
+slots_length rules always cs [] [] [] h = refl
+slots_length rules always cs [] [] (s ∷ ss) h = absurd h
+slots_length rules always cs [] (ds ∷ dss) ss h = absurd h
+slots_length rules always cs (p ∷ ps) [] ss h = absurd h
+slots_length rules always cs (p ∷ ps) (ds ∷ dss) [] h = absurd h
+slots_length rules always cs (p ∷ ps) (ds ∷ dss) (s ∷ ss) h = ap (λ n. suc n) (slots_length rules always cs ps dss ss h.1)
+
+ready_slot : (rules : Rules) (always : Bool) (of : Opening) (cs : List Command) (p : Seer) (ds : List Deed) (s : Option Work) → p.of ≡ of → IsSlot rules always cs p ds s → IsReady of s
+ready_slot rules always of cs p ds None o h = absurd h
+ready_slot rules always of cs p ds (Some w) o h = h.done.tells.of ∙ o
+
+pub slots_ready : (rules : Rules) (always : Bool) (of : Opening) (cs : List Command) (ps : List Seer) (dss : List (List Deed)) (ss : List (Option Work)) (i : ℕ) → AllByRecursion (λ p. p.of ≡ of) ps → AreSlots rules always cs ps dss ss → i < length ps → IsReady of (slot_at ss i)
+slots_ready rules always of cs [] dss ss i o h lt = absurd (omega arith)
+slots_ready rules always of cs (p ∷ ps) [] ss i o h lt = absurd h
+slots_ready rules always of cs (p ∷ ps) (ds ∷ dss) [] i o h lt = absurd h
+slots_ready rules always of cs (p ∷ ps) (ds ∷ dss) (s ∷ ss) zero o h lt = ready_slot rules always of cs p ds s o.0 h.0
+slots_ready rules always of cs (p ∷ ps) (ds ∷ dss) (s ∷ ss) (suc i) o h lt = slots_ready rules always of cs ps dss ss i o.1 h.1 (omega arith)
+
+slots_push : (rules : Rules) (always : Bool) (cs : List Command) (ps : List Seer) (ss : List (Option Work)) (p : Seer) (s : Option Work) → AreSlots rules always cs ps (no_deeds ps) ss → IsSlot rules always cs p [] s → AreSlots rules always cs (ps ++ p ∷ []) (no_deeds (ps ++ p ∷ [])) (ss ++ s ∷ [])
 slots_push rules always cs [] [] p s h x = (x, tt)
 slots_push rules always cs [] (t ∷ ss) p s h x = absurd h
 slots_push rules always cs (q ∷ ps) [] p s h x = absurd h
@@ -94,14 +238,23 @@ slots_push rules always cs (q ∷ ps) (t ∷ ss) p s h x = (h.0, slots_push rule
 
 pub begun_more : (ps : List Seer) (ss new : List (Option Work)) (p : Seer) (w : Work) → HaveBegun ps ss → IsBegun p w → new ≡ ss ++ Some w ∷ [] → HaveBegun (ps ++ p ∷ []) new
 begun_more ps ss new p w h b e = λ rules always.
-    subst (λ (l : List (Option Work)). AreSlots rules always [] (ps ++ p ∷ []) l) (sym e) (slots_push rules always [] ps ss p (Some w) (h rules always) (worked_none rules always p w b))
+    subst (λ (l : List (Option Work)). AreSlots rules always [] (ps ++ p ∷ []) (no_deeds (ps ++ p ∷ [])) l) (sym e) (slots_push rules always [] ps ss p (Some w) (h rules always) (run_none rules always p w b))
 
-pub slots_worked : (rules : Rules) (always : Bool) (cs : List Command) (ps : List Seer) (ss : List (Option Work)) → AreSlots rules always cs ps ss → AreWorked rules always cs ps (somes ss)
-slots_worked rules always cs [] [] h = tt
-slots_worked rules always cs [] (s ∷ ss) h = absurd h
-slots_worked rules always cs (p ∷ ps) [] h = absurd h
-slots_worked rules always cs (p ∷ ps) (None ∷ ss) h = absurd h.0
-slots_worked rules always cs (p ∷ ps) (Some w ∷ ss) h = (h.0, slots_worked rules always cs ps ss h.1)
+slots_run : (rules : Rules) (always : Bool) (cs : List Command) (ps : List Seer) (dss : List (List Deed)) (ss : List (Option Work)) → AreSlots rules always cs ps dss ss → AreRun rules always cs ps dss (somes ss)
+slots_run rules always cs [] [] [] h = tt
+slots_run rules always cs [] [] (s ∷ ss) h = absurd h
+slots_run rules always cs [] (ds ∷ dss) ss h = absurd h
+slots_run rules always cs (p ∷ ps) [] ss h = absurd h
+slots_run rules always cs (p ∷ ps) (ds ∷ dss) [] h = absurd h
+slots_run rules always cs (p ∷ ps) (ds ∷ dss) (None ∷ ss) h = absurd h.0
+slots_run rules always cs (p ∷ ps) (ds ∷ dss) (Some w ∷ ss) h = (h.0, slots_run rules always cs ps dss ss h.1)
+
+pub all_run : (rules : Rules) (always : Bool) (of : Opening) (cs : List Command) (ps : List Seer) (ss : List (Option Work)) (seen : Sight) (ws : List Work) → RunInOrder rules always of cs ps ss seen → ws ≡ somes ss → HaveRunInOrder rules always of.shards cs ps ws
+all_run rules always of cs ps ss seen ws h e = record {
+  deeds = h.deeds;
+  run = subst (λ (l : List Work). AreRun rules always cs ps h.deeds l) (sym e) (slots_run rules always cs ps h.deeds ss h.slots);
+  in_order = h.order;
+}
 
 pub somes_none : (ss : List (Option Work)) (o : Option Work) → o ≡ None → somes (ss ++ o ∷ []) ≡ somes ss
 somes_none [] o e = rw e refl
@@ -114,6 +267,24 @@ somes_some (None ∷ ss) o w e = somes_some ss o w e
 somes_some (Some v ∷ ss) o w e = ap (λ (ws : List Work). v ∷ ws) (somes_some ss o w e)
 
 -- ---- threads
+
+-- what the passes have done, by name
+named : (rules : Rules) (always : Bool) (cs : List Command) (ps : List Seer) (ws : List Work) → AreWorked rules always cs ps ws → (dss : List (List Deed)) × AreRun rules always cs ps dss ws
+named rules always cs [] [] a = ([], tt)
+named rules always cs [] (w ∷ ws) a = absurd a
+named rules always cs (p ∷ ps) [] a = absurd a
+named rules always cs (p ∷ ps) (w ∷ ws) a = let rest = named rules always cs ps ws a.1 in (a.0.0 ∷ rest.0, (a.0.1, rest.1))
+
+have_turns : (turns : Option ℕ) → is_some turns ≡ true → turns ≡ None → ⊥
+have_turns None some e = cc some
+have_turns (Some n) some e = cc e
+
+-- with turns they run on threads, in any order
+pub on_threads : (rules : Rules) (always : Bool) (shards : ℕ) (cs : List Command) (ps : List Seer) (ws : List Work) → is_some rules.turns ≡ true → AreWorked rules always cs ps ws → HaveRun rules always shards cs ps ws
+on_threads rules always shards cs ps ws some a = let n = named rules always cs ps ws a in record { deeds = n.0; run = n.1; in_order = λ e. absurd (have_turns rules.turns some e) }
+
+pub in_turn : (rules : Rules) (always : Bool) (shards : ℕ) (cs : List Command) (ps : List Seer) (ws : List Work) → HaveRunInOrder rules always shards cs ps ws → HaveRun rules always shards cs ps ws
+in_turn rules always shards cs ps ws h = record { deeds = h.deeds; run = h.run; in_order = λ e. h.in_order }
 
 pub tried_each : (rules : Rules) (always : Bool) (cs : List Command) (ps : List Seer) (rs : List (Result Work OutOfMemory)) → length rs ≡ length ps
     → ((i : ℕ) (d : Result Work OutOfMemory) → i < length ps → (p : Seer) × ((e : Seer) → get_or ps i e ≡ p) × IsTriedOf rules always cs p (get_or rs i d)) → AreTried rules always cs ps rs

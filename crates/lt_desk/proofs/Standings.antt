@@ -19,16 +19,10 @@ use Rattle.lt_desk.specs.Told.{StandsIn, IsBefore, Ascend, Rise, IsDrawn}
 use Rattle.lt_desk.specs.Desks.{pass_of}
 use Rattle.lt_desk.specs.Machine.{Rules, Deed, deed_lets}
 use Rattle.lt_desk.specs.Worked.{IsRun, deed_steps, lines_of}
-use Rattle.lt_desk.specs.Turns.{AreNumbered}
+use Rattle.lt_desk.specs.Turns.{AreNumbered, AreRun}
 use Rattle.lt_desk.specs.Standing.{Finals, final_of, Made, made_by, made_from, IsFinal, IsApart, Apart, Distinct, run_numbers, IsLetThere, AllStand}
 use Rattle.lt_desk.specs.Closing.{IsWithin}
 use Rattle.lt_desk.proofs.Telling.{all_append, all_weaker, stands_at_later}
-
--- Each pass did these deeds of its lines.
-abbrev pub AreRun : Rules → Bool → List Command → List Seer → List (List Deed) → List Work → Type 0
-AreRun rules always cs [] [] [] = Unit {0}
-AreRun rules always cs (p ∷ ps) (ds ∷ dss) (w ∷ ws) = IsRun rules always p (lines_of p.number cs) ds w × AreRun rules always cs ps dss ws
-AreRun rules always cs _ _ _ = ⊥
 
 all_map : {A B : Type 0} (P : B → Type 0) (f : A → B) (xs : List A) → AllByRecursion (λ x. P (f x)) xs → AllByRecursion P (map f xs)
 all_map P f [] h = tt

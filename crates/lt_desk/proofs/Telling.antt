@@ -1,5 +1,5 @@
 -- Calls of a pass, one after the other.
-use Rattle.std.proofs.Common.{◌≡◌, ℕ, ◌+◌, ◌<◌, ◌≤◌, Bool, true, false, if◌then◌else◌, nat_eq, Option, List, [], ◌∷◌, ◌++◌, length, inl, inr, refl, ap, sym, subst, ◌∙◌, arith}
+use Rattle.std.proofs.Common.{◌≡◌, ℕ, ◌+◌, ◌<◌, ◌≤◌, Bool, true, false, if◌then◌else◌, nat_eq, Option, List, [], ◌∷◌, ◌++◌, length, inl, inr, refl, ap, sym, subst, ◌∙◌, append-nil, arith}
 use Rattle.std.specs.Prelude.{slice_index}
 use Rattle.std.specs.List.{AllByRecursion}
 use Rattle.std.proofs.lemmas.Option.{slice_get_within}
@@ -19,7 +19,7 @@ use Rattle.lt_table.specs.Machine as runs
 use Rattle.lt_table.specs.Entered.{IsEntered}
 use Rattle.lt_table.specs.Reported.{GuardState, Reported, AreReported, steps_at}
 use Rattle.lt_table.proofs.InPlace.{all_counted}
-use Rattle.lt_desk.specs.Told.{StandsAt, StandsIn, ComesAfter, IsBefore, Ascend, Rise, IsDrawn, Tells, part_of}
+use Rattle.lt_desk.specs.Told.{StandsAt, StandsIn, IsSeen, ComesAfter, IsBefore, Ascend, Rise, IsDrawn, Tells, part_of}
 
 pub all_append : {A : Type 0} (P : A → Type 0) (xs ys : List A) → AllByRecursion P xs → AllByRecursion P ys → AllByRecursion P (xs ++ ys)
 all_append P [] ys p q = q
@@ -32,7 +32,7 @@ pub all_weaker : {A : Type 0} (P Q : A → Type 0) (xs : List A) → ((x : A) �
 all_weaker P Q [] f p = tt
 all_weaker P Q (x ∷ xs) f p = (f x p.0, all_weaker P Q xs f p.1)
 
-prefix_self : {A : Type 0} (xs : List A) → IsPrefix xs xs
+pub prefix_self : {A : Type 0} (xs : List A) → IsPrefix xs xs
 prefix_self [] = ([], refl)
 prefix_self (x ∷ xs) = let p = prefix_self xs in (p.0, ap (λ l. x ∷ l) p.1)
 
@@ -46,18 +46,27 @@ stands_later shards pass h g x p s = stands_at_later pass (part_of shards h x) (
 after_earlier : (shards : ℕ) (h g : List Event) (x : runs.Step) → IsPrefix h g → ComesAfter shards g x → ComesAfter shards h x
 after_earlier shards h g x p a = let le : length (part_of shards h x) ≤ length (part_of shards g x) = part_length (shard_of x.key shards) h g p in omega arith
 
--- What stands comes before what comes after.
-is_before : (shards pass : ℕ) (h : List Event) (x y : runs.Step) → StandsIn shards pass h x → ComesAfter shards h y → IsBefore shards x y
-is_before shards pass h x y s a = λ same.
-    let lt : x.answer.at < length (part_of shards h x) = slice_get_within (part_of shards h x) x.answer.at s.entry s.stands in
+pub stands_seen : (shards pass : ℕ) (h : List Event) (x : runs.Step) → StandsIn shards pass h x → IsSeen shards h x
+stands_seen shards pass h x s = slice_get_within (part_of shards h x) x.answer.at s.entry s.stands
+
+pub seen_later : (shards : ℕ) (h g : List Event) (x : runs.Step) → IsPrefix h g → IsSeen shards h x → IsSeen shards g x
+seen_later shards h g x p s =
+    let lt : x.answer.at < length (part_of shards h x) = s in
+    let le : length (part_of shards h x) ≤ length (part_of shards g x) = part_length (shard_of x.key shards) h g p in
+    omega arith
+
+-- What was seen comes before what comes after.
+is_before : (shards : ℕ) (h : List Event) (x y : runs.Step) → IsSeen shards h x → ComesAfter shards h y → IsBefore shards x y
+is_before shards h x y s a = λ same.
+    let lt : x.answer.at < length (part_of shards h x) = s in
     let le : length (part (shard_of x.key shards) h) ≤ y.answer.at = subst (λ (n : ℕ). length (part n h) ≤ y.answer.at) (sym same) a in
     omega arith
 
-ascend_append : (shards pass : ℕ) (h : List Event) (xs ys : List runs.Step) → AllByRecursion (StandsIn shards pass h) xs → AllByRecursion (ComesAfter shards h) ys → Ascend shards xs → Ascend shards ys → Ascend shards (xs ++ ys)
-ascend_append shards pass h [] ys s a p q = q
-ascend_append shards pass h (x ∷ xs) ys s a p q = (
-  all_append (IsBefore shards x) xs ys p.0 (all_weaker (ComesAfter shards h) (IsBefore shards x) ys (λ y. is_before shards pass h x y s.0) a),
-  ascend_append shards pass h xs ys s.1 a p.1 q,
+pub ascend_append : (shards : ℕ) (h : List Event) (xs ys : List runs.Step) → AllByRecursion (IsSeen shards h) xs → AllByRecursion (ComesAfter shards h) ys → Ascend shards xs → Ascend shards ys → Ascend shards (xs ++ ys)
+ascend_append shards h [] ys s a p q = q
+ascend_append shards h (x ∷ xs) ys s a p q = (
+  all_append (IsBefore shards x) xs ys p.0 (all_weaker (ComesAfter shards h) (IsBefore shards x) ys (λ y. is_before shards h x y s.0) a),
+  ascend_append shards h xs ys s.1 a p.1 q,
 )
 
 -- ---- draws
@@ -156,12 +165,20 @@ tells_then a b c xs ys ms ns ts us g h =
       seen = prefix_trans a.seen b.seen c.seen g.seen h.seen;
       stand = all_append (StandsIn n a.number c.seen) xs ys (all_weaker (StandsIn n a.number b.seen) (StandsIn n a.number c.seen) xs (λ x. stands_later n a.number b.seen c.seen x h.seen) g.stand) stand;
       after = all_append (ComesAfter n a.seen) xs ys g.after (all_weaker (ComesAfter n b.seen) (ComesAfter n a.seen) ys (λ x. after_earlier n a.seen b.seen x g.seen) after);
-      ascend = ascend_append n a.number b.seen xs ys g.stand after g.ascend ascend;
+      ascend = ascend_append n b.seen xs ys (all_weaker (StandsIn n a.number b.seen) (IsSeen n b.seen) xs (stands_seen n a.number b.seen) g.stand) after g.ascend ascend;
       counted = λ s. count_then a b c n s xs ys (g.counted s) (subst (λ (k : ℕ). slice_index c.counts s ≡ slice_index b.counts s + steps_at k s ys) same (h.counted s));
       drawn = all_append (IsDrawn a.number a.seen c.seen) ms ns (all_weaker (IsDrawn a.number a.seen b.seen) (IsDrawn a.number a.seen c.seen) ms (λ k. drawn_later a.number a.seen b.seen c.seen k h.seen) g.drawn) (all_weaker (IsDrawn a.number b.seen c.seen) (IsDrawn a.number a.seen c.seen) ns (λ k. drawn_earlier a.number a.seen b.seen c.seen k g.seen) drawn);
       rise = rise_append a.number a.seen b.seen c.seen ms ns g.drawn drawn g.rise h.rise;
       let_in = all_append (LetIn c.seen a.number) ts us (all_weaker (LetIn b.seen a.number) (LetIn c.seen a.number) ts (λ t. let_later b.seen c.seen a.number t h.seen) g.let_in) lets;
     }
+
+-- it learnt more afterwards
+pub tells_learnt : (a b c : Seer) (xs : List runs.Step) (ns : List ℕ) (ts : List Wait) → Tells a b xs ns ts → SeesMore b c → Tells a c xs ns ts
+tells_learnt a b c xs ns ts t m =
+    subst (λ (l : List Wait). Tells a c xs ns l) (append-nil ts)
+    (subst (λ (l : List ℕ). Tells a c xs l (ts ++ [])) (append-nil ns)
+    (subst (λ (l : List runs.Step). Tells a c l (ns ++ []) (ts ++ [])) (append-nil xs)
+    (tells_then a b c xs [] ns [] ts [] t (tells_more b c m))))
 
 pub tells_step : (a b : Seer) (x : runs.Step) → Reported a b x → Tells a b (x ∷ []) [] []
 tells_step a b x r = record {

@@ -7,6 +7,7 @@ use Rattle.lt_ids.specs.declared.request.Access.{Access}
 use Rattle.lt_plain.specs.declared.call.Call.{Call}
 use Rattle.lt_plain.specs.declared.call.Call.TheVariants as calls
 use Rattle.lt_shard.specs.declared.answer.Answer.{Answer}
+use Rattle.lt_table.specs.declared.config.Config.{Config}
 use Rattle.lt_table.specs.declared.progress.Mode.{Mode}
 use Rattle.lt_table.specs.declared.progress.Mode.TheVariants.{Awaiting, Let}
 use Rattle.lt_table.specs.declared.scan.Scan.{Scan}
@@ -27,10 +28,17 @@ use Rattle.lt_desk.specs.declared.answer.LineAnswer.TheVariants as answers
 use Rattle.lt_desk.specs.declared.answer.Refusal.{Refusal}
 use Rattle.lt_desk.specs.declared.answer.Refusal.TheVariants as refusals
 
--- what is fixed for a run: how often a request may wait, and, with threads, how often a line `await` may poll
+-- what is fixed for a run: how often a request may wait, how many steps a shard's history may have, how many numbers may be
+-- drawn, and, with threads, how often a line `await` may poll
 pub record Rules : Type 0 where
   pub max_waits : ℕ
+  pub max_steps : ℕ
+  pub max_requests : ℕ
   pub turns : Option ℕ
+
+-- those of a table of this configuration
+abbrev pub rules_of : Config → Option ℕ → Rules
+rules_of config turns = record { max_waits = config.max_waits; max_steps = config.max_steps; max_requests = config.max_requests; turns = turns }
 
 -- ---- a pass without a request
 
@@ -186,6 +194,10 @@ IsDone rules (acts.Acquire txn ts key) before word answer steps after = IsMade k
 IsDone rules (acts.Update txn ts key) before word answer steps after = IsMade key (calls.Update txn ts) before word answer steps after
 IsDone rules (acts.Finish txn key) before word answer steps after = IsMade key (calls.Finish txn) before word answer steps after
 IsDone rules acts.Leave before word answer steps after = IsLeave before word answer steps after
+
+-- A line is told that the numbers are out only where so many were drawn.
+abbrev pub IsOutOnlyAt : ℕ → ℕ → LineAnswer → Type 0
+IsOutOnlyAt max_requests drawn answer = answer ≡ answers.Refused refusals.NumbersOut → max_requests ≤ drawn
 
 -- the number that an answer says was drawn
 abbrev pub numbers_of : LineAnswer → List ℕ

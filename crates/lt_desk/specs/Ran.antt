@@ -1,5 +1,5 @@
 -- What a run of a script promises.
-use Rattle.std.specs.Prelude.{ℕ, ◌≡◌, ◌+◌, Bool, List, [], ◌∷◌, ◌++◌, length, map, None, Option}
+use Rattle.std.specs.Prelude.{ℕ, ◌≡◌, ◌≤◌, ◌+◌, Bool, List, [], ◌∷◌, ◌++◌, length, map, None, Option}
 use Rattle.std.specs.Global.{Vec}
 use Rattle.std.specs.List.{flat_map, AllByRecursion}
 use Rattle.lt_history.specs.declared.entry.Entry.{Entry}
@@ -9,10 +9,10 @@ use Rattle.lt_table.specs.Machine.{WalkState}
 use Rattle.lt_desk.specs.declared.answer.AnswerLine.{AnswerLine}
 use Rattle.lt_desk.specs.declared.outcome.Finish.{Finish}
 use Rattle.lt_desk.specs.declared.outcome.Ran.{Ran}
-use Rattle.lt_desk.specs.Machine.{Rules, Deed, Runs}
+use Rattle.lt_desk.specs.Machine.{Rules, Deed, Runs, IsOutOnlyAt}
 use Rattle.lt_desk.specs.Worked.{HasEnded, answer_line, deed_line, lines_of}
-use Rattle.lt_desk.specs.Turns.{IsAmong}
-use Rattle.lt_desk.specs.Standing.{AllStand, AreAll}
+use Rattle.lt_desk.specs.Turns.{IsAmong, AreInOrder}
+use Rattle.lt_desk.specs.Standing.{AllStand, AreAll, run_numbers}
 use Rattle.lt_desk.specs.Closing.{finish_all}
 
 -- The pass is answered by its machine, from no request on, over a front of its lines; how it ended tells what of the rest.
@@ -34,9 +34,14 @@ AreAnswered rules always commands n _ _ _ = ⊥
 abbrev pub joined : List (Vec Entry) → List Entry
 joined histories = flat_map (λ h. h.items) histories
 
--- Each pass is answered as its machine says, over a front of its lines: over all of them, if the run is done. All that is
--- told stands in the final histories, of which there is one for each shard and which hold nothing else; they are legal for
--- every key, and can stand in a text of histories.
+-- the rules of a script's run: requests and waits have their greatest limits
+abbrev pub run_rules : ℕ → Option ℕ → Rules
+run_rules max_steps turns = record { max_waits = 16777215; max_steps = max_steps; max_requests = 1099511627775; turns = turns }
+
+-- Each pass is answered as its machine says, over a front of its lines: over all of them, if the run is done; on one thread
+-- the lines are run in their order. All that is told stands in the final histories, of which there is one for each shard and
+-- which hold nothing else; they are legal for every key, no longer than the rules say, and can stand in a text of histories.
+-- So many numbers were drawn, none of those that are told is above, and they are told to be out only where that is the limit.
 pub record IsRan (rules : Rules) (always : Bool) (shards : ℕ) (commands : List Command) (ran : Ran) : Type 0 where
   pub deeds : List (List Deed)
   pub finishes : List Finish
@@ -46,5 +51,9 @@ pub record IsRan (rules : Rules) (always : Bool) (shards : ℕ) (commands : List
   pub many : length ran.histories.items ≡ shards
   pub stand : AllStand shards (map (λ h. h.items) ran.histories.items) 1 deeds
   pub all : AreAll shards (map (λ h. h.items) ran.histories.items) deeds
+  pub in_order : rules.turns ≡ None → AreInOrder shards commands deeds
+  pub drawn : AllByRecursion (λ n. n ≤ ran.draws) (flat_map run_numbers deeds)
+  pub numbers_out : AllByRecursion (AllByRecursion (λ d. IsOutOnlyAt rules.max_requests ran.draws d.answer)) deeds
+  pub limit : AllByRecursion (λ h. length h.items ≤ rules.max_steps) ran.histories.items
   pub legal : AreLegalKeys (joined ran.histories.items)
   pub in_range : AllByRecursion IsInRange (joined ran.histories.items)

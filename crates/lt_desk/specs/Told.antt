@@ -26,6 +26,10 @@ part_of shards h x = part (shard_of x.key shards) h
 abbrev pub StandsIn : ℕ → ℕ → List Event → Step → Type 0
 StandsIn shards pass h x = StandsAt pass (part_of shards h x) x
 
+-- The step's place is one of those that were seen of its shard.
+abbrev pub IsSeen : ℕ → List Event → Step → Type 0
+IsSeen shards h x = x.answer.at < length (part_of shards h x)
+
 -- The step comes after all that was seen of its shard.
 abbrev pub ComesAfter : ℕ → List Event → Step → Type 0
 ComesAfter shards h x = length (part_of shards h x) ≤ x.answer.at

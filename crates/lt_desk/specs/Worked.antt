@@ -1,6 +1,7 @@
 -- The lines of a pass that a worker ran.
 use Rattle.std.specs.Prelude.{ℕ, ◌≡◌, ◌⊎◌, ◌==◌, Bool, true, false, List, [], ◌∷◌, ◌++◌, map, filter, None}
 use Rattle.std.specs.List.{flat_map, AllByRecursion}
+use Rattle.lt_words.specs.History.{draws_of}
 use Rattle.lt_words.specs.Row.{Seer}
 use Rattle.lt_table.specs.Machine.{Step}
 use Rattle.lt_script.specs.declared.command.Command.{Command}
@@ -15,7 +16,7 @@ use Rattle.lt_desk.specs.declared.outcome.Work.{Work}
 use Rattle.lt_desk.specs.Told.{Tells}
 use Rattle.lt_desk.specs.Desks.{request_of, pass_of}
 use Rattle.lt_desk.specs.Doing.{Does}
-use Rattle.lt_desk.specs.Machine.{Rules, Deed, Runs, IsDone, lets_of, deed_numbers, deed_lets}
+use Rattle.lt_desk.specs.Machine.{Rules, Deed, Runs, IsDone, IsOutOnlyAt, lets_of, deed_numbers, deed_lets}
 
 abbrev pub is_turns : LineAnswer → Bool
 is_turns Turns = true
@@ -41,6 +42,7 @@ pub record AreDone (rules : Rules) (old : Seer) (lines : List Command) (desk : D
   pub runs : Runs rules None deeds (request_of desk)
   pub answers_are : answers ≡ map answer_line deeds
   pub tells : Tells old (pass_of desk) (flat_map deed_steps deeds) (flat_map deed_numbers deeds) (flat_map deed_lets deeds)
+  pub numbers_out : AllByRecursion (λ d. IsOutOnlyAt rules.max_requests (draws_of (pass_of desk).seen) d.answer) deeds
 
 -- None of them used the turns up.
 abbrev pub NoTurns : List Deed → Type 0
@@ -82,6 +84,7 @@ pub record IsBegun (p : Seer) (w : Work) : Type 0 where
 pub record TakesLine (rules : Rules) (line : Command) (old : Desk) (answers : List AnswerLine) (new : Desk) (more : List AnswerLine) (out : Bool) : Type 0 where
   pub answer : LineAnswer
   pub does : Does (IsDone rules line.action) (lets_of line.action) old answer new
+  pub numbers_out : IsOutOnlyAt rules.max_requests (draws_of (pass_of new).seen) answer
   pub told : more ≡ answers ++ (record { line = line.line; answer = answer }) ∷ []
   pub out_is : out ≡ is_turns answer
 

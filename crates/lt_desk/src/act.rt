@@ -1,9 +1,10 @@
 //! One line of a script, done by calls of the table: a function for each kind of line.
 ghost use Rattle.std.specs.Prelude.{◌≡◌, ◌<◌, ℕ, IfOk, length, Ok};
+ghost use Rattle.lt_words.specs.History.{draws_of};
 ghost use Rattle.lt_plain.specs.declared.call.Call.TheVariants.{Acquire, Update, Finish};
 ghost use Rattle.lt_table.specs.declared.scan.Scan.TheVariants.{Waiting, TooLong};
 ghost use Rattle.lt_desk.specs.Desks.{pass_of};
-ghost use Rattle.lt_desk.specs.Machine.{IsOpened, IsScanned, IsScanAnswer, IsAwaited, IsLooked, IsMade, IsLeave, IsDone, let_read, let_gone_on, lets_of, poll_answer};
+ghost use Rattle.lt_desk.specs.Machine.{IsOpened, IsScanned, IsScanAnswer, IsAwaited, IsLooked, IsMade, IsLeave, IsDone, IsOutOnlyAt, rules_of, let_read, let_gone_on, lets_of, poll_answer};
 ghost use Rattle.lt_desk.specs.Doing.{Does, IsTold, Polls, no_lets};
 
 use crate::answer::{LineAnswer, Refusal};
@@ -43,7 +44,8 @@ fn enter<N: Name, T: KeyTable, R: Wait>(
     longest: u32,
 ) -> Result<Told, OutOfMemory>
     requires { pass.of ≡ N.of }
-    ensures { IfOk result (λ told. Does (IsOpened txn ts accesses.now longest) no_lets (Desk.Free pass) told.answer told.desk) }
+    ensures does { IfOk result (λ told. Does (IsOpened txn ts accesses.now longest) no_lets (Desk.Free pass) told.answer told.desk) }
+    ensures numbers_out { IfOk result (λ told. IsOutOnlyAt table.now.max_requests (draws_of (pass_of told.desk).seen) told.answer) }
 {
     match table.enter(rt, alloc, pass, txn, ts, accesses, longest) {
         Ok(guard) => {
@@ -83,7 +85,8 @@ fn open<N: Name, T: KeyTable, R: Wait>(
     longest: u32,
 ) -> Result<Told, OutOfMemory>
     requires { (pass_of desk).of ≡ N.of }
-    ensures { IfOk result (λ told. Does (IsOpened txn ts accesses.now longest) no_lets desk told.answer told.desk) }
+    ensures does { IfOk result (λ told. Does (IsOpened txn ts accesses.now longest) no_lets desk told.answer told.desk) }
+    ensures numbers_out { IfOk result (λ told. IsOutOnlyAt table.now.max_requests (draws_of (pass_of told.desk).seen) told.answer) }
 {
     match desk {
         Desk::Free(pass) => enter(rt, alloc, table, pass, txn, ts, accesses, longest),
@@ -384,7 +387,8 @@ pub(crate) fn act<N: Name, T: KeyTable, R: Wait>(
     action: &Action,
 ) -> Result<Told, OutOfMemory>
     requires { (pass_of desk).of ≡ N.of }
-    ensures { IfOk result (λ told. Does (IsDone (record { max_waits = table.now.max_waits; turns = turns }) action.now) (lets_of action.now) desk told.answer told.desk) }
+    ensures does { IfOk result (λ told. Does (IsDone (rules_of table.now turns) action.now) (lets_of action.now) desk told.answer told.desk) }
+    ensures numbers_out { IfOk result (λ told. IsOutOnlyAt table.now.max_requests (draws_of (pass_of told.desk).seen) told.answer) }
 {
     match action {
         Action::Open {

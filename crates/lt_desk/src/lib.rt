@@ -8,7 +8,8 @@
 //! over a front of its lines, over all of them where the run is done; and all that the answers tell stands in the final
 //! histories (`specs/Standing.antt`): each step at its place with its pass, key, call and reply, no two at one place, those
 //! of one pass and shard in the order of the lines; no number was drawn twice; and who went on after a wait was let through.
-//! The same holds on threads and in turn.
+//! The same holds on threads and in turn; in turn the steps of one shard stand in the order of the script, whichever passes
+//! made them (`specs/Turns.antt`).
 //!
 //! Look next at `specs/Machine.antt`, then at `src/act.rt`, which has one function for each kind of line, and
 //! `src/worker.rt`. The text of the answers is no business of this crate: `lt_tool` writes it.

@@ -99,6 +99,8 @@ pub struct Ran {
     pub finish: Finish,
     /// The final history of each shard.
     pub histories: Vec<Vec<Entry>>,
+    /// How many numbers were drawn.
+    pub draws: u64,
 }
 
 /// Why a run has no outcome.

@@ -1,7 +1,8 @@
 //! The lines of all passes: each pass on a thread of its own, or all in turn on one thread.
 ghost use Rattle.std.specs.Prelude.{◌≡◌, ◌≤◌, ◌-◌, IfOk, length, map, List, Ok};
 ghost use Rattle.std.specs.List.{All, AllByRecursion};
-ghost use Rattle.lt_desk.specs.Turns.{AreNumbered, AreTried, AreWorked, HaveBegun, IsAmong, IsReady, IsTriedOf, TakesTurn, slot_at, somes};
+ghost use Rattle.lt_desk.specs.Machine.{rules_of};
+ghost use Rattle.lt_desk.specs.Turns.{AreNumbered, AreTried, AreWorked, HaveBegun, HaveRunInOrder, IsAmong, IsReady, IsTriedOf, TakesTurn, slot_at, somes};
 
 use crate::gate::Gate;
 use crate::outcome::{OutOfMemory, Seat, Work};
@@ -9,7 +10,7 @@ use crate::worker::{begin, lines_by_pass, lines_of_pass, next_line, work};
 use lt_plain::KeyTable;
 use lt_script::Command;
 use lt_table::Table;
-use lt_words::{Name, Pass, abandon_all};
+use lt_words::{Front, Name, Pass, abandon_all};
 use std::alloc::Global;
 use std::sync::Wait;
 use std::thread::Threads;
@@ -42,14 +43,14 @@ fn start_all<N: Name + Send + Sync, T: KeyTable + Send, G: Gate + Sync, R: Threa
     commands: &[Command],
 ) -> Result<Vec<Result<Work, OutOfMemory>>, OutOfMemory>
     requires { All (λ p. p.of ≡ N.of) passes.items }
-    ensures { IfOk result (λ works. AreTried (record { max_waits = table.now.max_waits; turns = turns }) (G.always gate.now) commands.now passes.items works.items) }
+    ensures { IfOk result (λ works. AreTried (rules_of table.now turns) (G.always gate.now) commands.now passes.items works.items) }
 {
     let done = thread::map_vec(
         rt,
         passes,
         &|seat: Seat| -> Result<Work, OutOfMemory>
             requires { seat.of ≡ N.of }
-            ensures { IsTriedOf (record { max_waits = table.entry.now.max_waits; turns = turns }) (G.always gate.entry.now) commands.entry.now seat result }
+            ensures { IsTriedOf (rules_of table.entry.now turns) (G.always gate.entry.now) commands.entry.now seat result }
         { work(rt, alloc, table, gate, turns, seat.into_pass(), commands) },
     );
     match done {
@@ -88,33 +89,37 @@ pub(crate) fn run_on_threads<
     commands: &[Command],
 ) -> Result<Vec<Work>, OutOfMemory>
     requires { All (λ p. p.of ≡ N.of) passes.items }
-    ensures { IfOk result (λ works. AreWorked (record { max_waits = table.now.max_waits; turns = turns }) (G.always gate.now) commands.now passes.items works.items) }
+    ensures { IfOk result (λ works. AreWorked (rules_of table.now turns) (G.always gate.now) commands.now passes.items works.items) }
 {
     let done = start_all(rt, alloc, table, gate, turns, passes, commands)?;
     collect(alloc, done)
 }
 
-/// The pass of the command does its line.
+/// The pass of the command learns what was seen before, and does its line.
 fn take_turn<N: Name, T: KeyTable, G: Gate, R: Wait>(
     rt: &R,
     alloc: Global,
     table: &Table<N, T>,
     gate: &G,
     turns: Option<u64>,
+    seen: &mut Front,
     slots: &mut [Option<Work>],
     command: &Command,
 ) -> Result<(), OutOfMemory>
     requires low { 1 ≤ command.now.pass }
     requires high { command.now.pass ≤ length slots.old }
     requires ready { IsReady N.of (slot_at slots.old (command.now.pass - 1)) }
-    ensures { IfOk result (λ _. TakesTurn (record { max_waits = table.now.max_waits; turns = turns }) (G.always gate.now) command.now slots.old slots.new) }
+    requires seen { seen.old.of ≡ N.of }
+    ensures { IfOk result (λ _. TakesTurn (rules_of table.now turns) (G.always gate.now) command.now seen.old slots.old slots.new seen.new) }
 {
     let number = command.pass.number();
     let place = (number - 1) as usize;
-    let Some(before) = mem::replace(&mut slots[place], None) else {
+    let Some(mut before) = mem::replace(&mut slots[place], None) else {
         unreachable!()
     };
+    before.desk.learn(seen);
     let after = next_line(rt, alloc, table, gate, turns, before, number, command)?;
+    *seen = after.desk.seen();
     slots[place] = Some(after);
     Ok(())
 }
@@ -153,24 +158,28 @@ fn finish_all(alloc: Global, slots: Vec<Option<Work>>) -> Result<Vec<Work>, OutO
     Ok(works)
 }
 
-/// The lines are run in their order, on one thread.
+/// The lines are run in their order, on one thread: before its line each pass learns what the passes had seen before.
 pub(crate) fn run_in_turn<N: Name, T: KeyTable, G: Gate, R: Wait>(
     rt: &R,
     alloc: Global,
     table: &Table<N, T>,
     gate: &G,
     turns: Option<u64>,
+    mut seen: Front,
     passes: Vec<Seat>,
     commands: &[Command],
 ) -> Result<Vec<Work>, OutOfMemory>
     requires numbered { AreNumbered 0 passes.items }
     requires of { AllByRecursion (λ p. p.of ≡ N.of) passes.items }
     requires among { AllByRecursion (IsAmong (length passes.items)) commands.now }
-    ensures { IfOk result (λ works. AreWorked (record { max_waits = table.now.max_waits; turns = turns }) (G.always gate.now) commands.now passes.items works.items) }
+    requires seen { seen.of ≡ N.of }
+    ensures { IfOk result (λ works. HaveRunInOrder (rules_of table.now turns) (G.always gate.now) N.of.shards commands.now passes.items works.items) }
 {
     let mut slots = begin_all(alloc, passes, commands)?;
     for command in commands {
-        take_turn(rt, alloc, table, gate, turns, &mut slots, command)?;
+        take_turn(
+            rt, alloc, table, gate, turns, &mut seen, &mut slots, command,
+        )?;
     }
     finish_all(alloc, slots)
 }

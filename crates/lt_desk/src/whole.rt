@@ -3,9 +3,10 @@ ghost use Rattle.std.specs.Prelude.{◌≡◌, ◌≤◌, ◌<◌, ◌+◌, ◌^
 ghost use Rattle.std.specs.List.{All, AllByRecursion};
 ghost use Rattle.lt_table.specs.Closed.{passes_of};
 ghost use Rattle.lt_desk.specs.Desks.{pass_of};
-ghost use Rattle.lt_desk.specs.Turns.{AreNumbered, AreWorked, IsAmong};
+ghost use Rattle.lt_desk.specs.Machine.{rules_of};
+ghost use Rattle.lt_desk.specs.Turns.{AreNumbered, HaveRun, IsAmong};
 ghost use Rattle.lt_desk.specs.Closing.{AreHanded, CountAlike, IsPut, finish_all, join};
-ghost use Rattle.lt_desk.specs.Ran.{IsRan};
+ghost use Rattle.lt_desk.specs.Ran.{IsRan, run_rules};
 
 use crate::answer::AnswerLine;
 use crate::desk::Desk;
@@ -122,15 +123,18 @@ fn run_lines<N: Name + Send + Sync, T: KeyTable + Send, G: Gate + Sync, R: Threa
     passes: Vec<Pass>,
     commands: &[Command],
 ) -> Result<Vec<Work>, OutOfMemory>
+    requires some { 0 < length passes.items }
     requires numbered { AreNumbered 0 passes.items }
     requires of { AllByRecursion (λ p. p.of ≡ N.of) passes.items }
     requires among { AllByRecursion (IsAmong (length passes.items)) commands.now }
-    ensures { IfOk result (λ works. AreWorked (record { max_waits = table.now.max_waits; turns = turns }) (G.always gate.now) commands.now passes.items works.items) }
+    ensures { IfOk result (λ works. HaveRun (rules_of table.now turns) (G.always gate.now) N.of.shards commands.now passes.items works.items) }
 {
+    let seen = passes[0].seen();
     let seats = seats_of(alloc, passes)?;
-    match turns {
-        Some(_) => run_on_threads(rt, alloc, table, gate, turns, seats, commands),
-        None => run_in_turn(rt, alloc, table, gate, turns, seats, commands),
+    if turns.is_some() {
+        run_on_threads(rt, alloc, table, gate, turns, seats, commands)
+    } else {
+        run_in_turn(rt, alloc, table, gate, turns, seen, seats, commands)
     }
 }
 
@@ -146,8 +150,9 @@ fn run_named<N: Name + Send + Sync, G: Gate + Sync, R: Threads + Wait + Sync>(
     requires shards { ready.config.shards ≡ N.of.shards }
     requires passes { ready.config.passes ≡ N.of.passes }
     requires some { 0 < N.of.shards }
+    requires some_passes { 0 < N.of.passes }
     requires among { AllByRecursion (IsAmong ready.config.passes) commands.now }
-    ensures { IfOk result (λ ran. IsRan (record { max_waits = ready.config.max_waits; turns = turns }) (G.always gate.now) ready.config.shards commands.now ran) }
+    ensures { IfOk result (λ ran. IsRan (rules_of ready.config turns) (G.always gate.now) ready.config.shards commands.now ran) }
 {
     let Ok((table, passes)) = open::<N>(alloc, ready) else {
         return Err(RunFault::Memory);
@@ -164,6 +169,7 @@ fn run_named<N: Name + Send + Sync, G: Gate + Sync, R: Threads + Wait + Sync>(
             answers,
             finish,
             histories: histories.shards,
+            draws: histories.draws,
         }),
         Err(refused) => {
             let error = refused.error;
@@ -213,7 +219,7 @@ pub fn run<G: Gate + Sync, R: Threads + Wait + Sync>(
     requires few_shards { shards ≤ 64 }
     requires some_steps { 1 ≤ max_steps }
     requires few_steps { max_steps ≤ 2 ^ 32 }
-    ensures { IfOk result (λ ran. IsRan (record { max_waits = 16777215; turns = turns }) (G.always gate.now) shards commands.now ran) }
+    ensures { IfOk result (λ ran. IsRan (run_rules max_steps turns) (G.always gate.now) shards commands.now ran) }
 {
     let config = Config {
         shards,

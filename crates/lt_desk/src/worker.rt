@@ -1,6 +1,7 @@
 //! The lines of one pass, one after the other.
 ghost use Rattle.std.specs.Prelude.{◌≡◌, IfOk};
 ghost use Rattle.lt_desk.specs.Desks.{pass_of};
+ghost use Rattle.lt_desk.specs.Machine.{rules_of};
 ghost use Rattle.lt_desk.specs.Worked.{is_turns, finish_of, lines_of, IsBegun, IsWorked, TakesLine, TakesOn, GoesOn};
 
 use crate::act::act;
@@ -38,7 +39,7 @@ fn take_line<N: Name, T: KeyTable, R: Wait>(
     answers: &mut Vec<AnswerLine>,
 ) -> Result<(Desk, bool), OutOfMemory>
     requires { (pass_of desk).of ≡ N.of }
-    ensures { IfOk result (λ r. TakesLine (record { max_waits = table.now.max_waits; turns = turns }) command.now desk answers.old.items r.0 answers.new.items r.1) }
+    ensures { IfOk result (λ r. TakesLine (rules_of table.now turns) command.now desk answers.old.items r.0 answers.new.items r.1) }
 {
     let Told { desk, answer } = act(rt, alloc, table, turns, desk, &command.action)?;
     let out = is_turns(&answer);
@@ -68,7 +69,7 @@ fn live_line<N: Name, T: KeyTable, G: Gate, R: Wait>(
     command: &Command,
 ) -> Result<Work, OutOfMemory>
     requires { (pass_of desk).of ≡ N.of }
-    ensures { IfOk result (λ w. TakesOn (record { max_waits = table.now.max_waits; turns = turns }) (G.always gate.now) desk answers.items command.now w) }
+    ensures { IfOk result (λ w. TakesOn (rules_of table.now turns) (G.always gate.now) desk answers.items command.now w) }
 {
     if !gate.before(number, command.line) {
         return Ok(Work {
@@ -98,7 +99,7 @@ pub(crate) fn next_line<N: Name, T: KeyTable, G: Gate, R: Wait>(
     command: &Command,
 ) -> Result<Work, OutOfMemory>
     requires { (pass_of work.desk).of ≡ N.of }
-    ensures { IfOk result (λ w. GoesOn (record { max_waits = table.now.max_waits; turns = turns }) (G.always gate.now) work.finish work command.now w) }
+    ensures { IfOk result (λ w. GoesOn (rules_of table.now turns) (G.always gate.now) work.finish work command.now w) }
 {
     match work.finish {
         Finish::TurnsOut => Ok(work),
@@ -156,7 +157,7 @@ pub fn work<N: Name, T: KeyTable, G: Gate, R: Wait>(
     commands: &[Command],
 ) -> Result<Work, OutOfMemory>
     requires { pass.of ≡ N.of }
-    ensures { IfOk result (λ w. IsWorked (record { max_waits = table.now.max_waits; turns = turns }) (G.always gate.now) pass (lines_of pass.number commands.now) w) }
+    ensures { IfOk result (λ w. IsWorked (rules_of table.now turns) (G.always gate.now) pass (lines_of pass.number commands.now) w) }
 {
     let number = pass.number();
     let lines = lines_of_pass(&lines_by_pass(commands), &pass);

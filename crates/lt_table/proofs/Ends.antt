@@ -1,5 +1,5 @@
 -- A table on its way to be closed.
-use Rattle.std.proofs.Common.{◌≡◌, ℕ, zero, suc, Bool, true, false, nat_eq, Option, Some, None, IfNone, ◌+◌, ◌<◌, ◌≤◌, List, [], ◌∷◌, ◌++◌, length, map, take, drop, get_or, ap, refl, sym, subst, ◌∙◌, arith, add-one, length-append}
+use Rattle.std.proofs.Common.{◌≡◌, ℕ, zero, suc, true, false, nat_eq, Option, Some, None, IfNone, ◌+◌, ◌<◌, ◌≤◌, List, [], ◌∷◌, ◌++◌, length, map, take, drop, get_or, ap, refl, sym, subst, ◌∙◌, arith, add-one, length-append}
 use Rattle.std.proofs.Math.Seq.{get_or-append_seam}
 use Rattle.std.proofs.lemmas.Bool.Decides.{nat_tests}
 use Rattle.std.proofs.lemmas.List.{get_or-map, length-map}
@@ -25,6 +25,7 @@ use Rattle.lt_shard.proofs.Storing.{shown_on}
 use Rattle.lt_table.proofs.InPlace.{prefix_same}
 use Rattle.lt_table.specs.Configs.{AreNewShards}
 use Rattle.lt_table.specs.declared.config.Config.{Config}
+use Rattle.lt_table.specs.declared.closing.Wanted.{Wanted}
 use Rattle.lt_table.specs.declared.closing.CloseError.{CloseError}
 use Rattle.lt_table.specs.declared.closing.CloseError.TheVariants.{PassesOut, Memory, Counts}
 use Rattle.lt_table.specs.Closed.{counts_at, IsCounted, IsMiscount, IsUnclosed, IsMet, IsEnded, AreEnded, IsFinal, IsClosed, IsRest, IsClosedRest, AreWhole}
@@ -101,6 +102,7 @@ was_met of v w old new t kept same from entries met told more = record {
   held = sym same.held ∙ (kept.held ∙ (ap (λ n. drop n w.stored) same.before ∙ ap (drop v.before) same.stored));
   whole = λ e. sym same.before ∙ kept.whole e;
   unrecorded = λ e. sym same.held ∙ kept.unrecorded e;
+  limit = omega (arith, ap length entries, kept.room, same.max_steps);
 }
 
 met_later : (of : Opening) (old mid new : Seer) (s : ℕ) (es : List Entry) → IsMet of old mid s es → IsPrefix mid.seen new.seen → IsPrefix mid.shown new.shown → IsMet of old new s es
@@ -121,7 +123,7 @@ pub new_more : (of : Opening) (max_steps : ℕ) (vs : List View) (v : View) → 
 new_more of max_steps vs v each last = λ s d lt. at_each (λ k x. x ≡ new_shard of k max_steps) vs v (length vs) refl each last s d (omega (arith, lt, length-append vs (v ∷ [])))
 
 ended_at : (of : Opening) (old new old' new' : Seer) (s : ℕ) (v v' : View) (t : Rest) → v ≡ v' → (IsMet of old new s v.stored → IsMet of old' new' s v.stored) → IsEnded of old new s v t → IsEnded of old' new' s v' t
-ended_at of old new old' new' s v v' t same f m = subst (λ x. IsEnded of old' new' s x t) same (record { met = f m.met; from = m.from; entries = m.entries; within = m.within; held = m.held; whole = m.whole; unrecorded = m.unrecorded })
+ended_at of old new old' new' s v v' t same f m = subst (λ x. IsEnded of old' new' s x t) same (record { met = f m.met; from = m.from; entries = m.entries; within = m.within; held = m.held; whole = m.whole; unrecorded = m.unrecorded; limit = m.limit })
 
 pub met_more : (of : Opening) (old mid new : Seer) (vs : List View) (ts : List Rest) (v : View) (t : Rest) → AreEnded of old mid vs ts → IsPrefix old.seen mid.seen → IsPrefix mid.seen new.seen → IsPrefix mid.shown new.shown → IsEnded of mid new (length vs) v t
     → AreEnded of old new (vs ++ v ∷ []) (ts ++ t ∷ [])
@@ -142,8 +144,8 @@ each_shown_on : (ps : List Seer) (h h' : List Through) → IsPrefix h h' → All
 each_shown_on [] h h' more all = tt
 each_shown_on (p ∷ ps) h h' more all = (prefix_trans p.shown h h' all.0 more, each_shown_on ps h h' more all.1)
 
-rest_of : (of : Opening) (only_whole : Bool) (ps : List Seer) (one two three : Seer) (s : ℕ) (v : View) (t : Rest) → AllByRecursion (λ p. IsPrefix p.seen one.seen) ps → IsEnded of one two s v t → IsPrefix two.seen three.seen → IsPrefix two.shown three.shown → IsCounted only_whole ps s v → IsRest of ps three.seen three.shown s t.from t.entries.items
-rest_of of only_whole ps one two three s v t seen m second later counted = record {
+rest_of : (of : Opening) (wanted : Wanted) (ps : List Seer) (one two three : Seer) (s : ℕ) (v : View) (t : Rest) → AllByRecursion (λ p. IsPrefix p.seen one.seen) ps → IsEnded of one two s v t → IsPrefix two.seen three.seen → IsPrefix two.shown three.shown → IsCounted wanted ps s v → IsRest of ps three.seen three.shown s t.from t.entries.items
+rest_of of wanted ps one two three s v t seen m second later counted = record {
   all = v.stored;
   final = record {
     legal = m.met.legal;
@@ -160,10 +162,10 @@ rest_of of only_whole ps one two three s v t seen m second later counted = recor
   unrecorded = λ e. m.entries ∙ m.unrecorded e;
 }
 
-pub ends : (of : Opening) (only_whole : Bool) (ps : List Seer) (vs : List View) (ts : List Rest) (one two three : Seer) (draws : ℕ) → AllByRecursion (λ p. IsPrefix p.seen one.seen) ps → AllByRecursion (λ p. IsPrefix p.shown one.shown) ps → IsPrefix one.shown two.shown → IsPrefix two.shown three.shown → AreLet three.seen three.shown
+pub ends : (of : Opening) (wanted : Wanted) (ps : List Seer) (vs : List View) (ts : List Rest) (one two three : Seer) (draws : ℕ) → AllByRecursion (λ p. IsPrefix p.seen one.seen) ps → AllByRecursion (λ p. IsPrefix p.shown one.shown) ps → IsPrefix one.shown two.shown → IsPrefix two.shown three.shown → AreLet three.seen three.shown
     → AreEnded of one two vs ts → IsPrefix one.seen two.seen → IsPrefix two.seen three.seen
-    → IsLegalHistory of.shards three.seen → draws ≡ draws_of three.seen → length vs ≡ of.shards → ((s : ℕ) (v : View) → s < of.shards → IsCounted only_whole ps s (get_or vs s v)) → (v : View) → IsClosedRest of ps ts draws
-ends of only_whole ps vs ts one two three draws seen shown more later through met first second legal drawn many counted v = record {
+    → IsLegalHistory of.shards three.seen → draws ≡ draws_of three.seen → length vs ≡ of.shards → ((s : ℕ) (v : View) → s < of.shards → IsCounted wanted ps s (get_or vs s v)) → (v : View) → IsClosedRest of ps ts draws
+ends of wanted ps vs ts one two three draws seen shown more later through met first second legal drawn many counted v = record {
   whole = three.seen;
   legal = legal;
   seen = each_seen ps (λ h p. prefix_trans h one.seen three.seen p (prefix_trans one.seen two.seen three.seen first second)) seen;
@@ -172,12 +174,16 @@ ends of only_whole ps vs ts one two three draws seen shown more later through me
   shown = each_shown_on ps one.shown three.shown (prefix_trans one.shown two.shown three.shown more later) shown;
   draws_are = drawn;
   many = met.many ∙ many;
-  each = λ s d lt. rest_of of only_whole ps one two three s (get_or vs s v) (get_or ts s d) seen (met.each s v d (omega (arith, lt, many))) second later (counted s v lt);
+  each = λ s d lt. rest_of of wanted ps one two three s (get_or vs s v) (get_or ts s d) seen (met.each s v d (omega (arith, lt, many))) second later (counted s v lt);
 }
 
 -- nothing is gone of shards that have to hold all
-pub ends_whole : (of : Opening) (only_whole : Bool) (ps : List Seer) (vs : List View) (ts : List Rest) (one two : Seer) → AreEnded of one two vs ts → length vs ≡ of.shards → ((s : ℕ) (v : View) → s < of.shards → IsCounted only_whole ps s (get_or vs s v)) → (v : View) → only_whole ≡ true → AreWhole of ts
-ends_whole of only_whole ps vs ts one two met many counted v sure = λ s d lt. (met.each s v d (omega (arith, lt, many))).from ∙ (counted s v lt).whole sure
+pub ends_whole : (of : Opening) (wanted : Wanted) (ps : List Seer) (vs : List View) (ts : List Rest) (one two : Seer) → AreEnded of one two vs ts → length vs ≡ of.shards → ((s : ℕ) (v : View) → s < of.shards → IsCounted wanted ps s (get_or vs s v)) → (v : View) → wanted.whole ≡ true → AreWhole of ts
+ends_whole of wanted ps vs ts one two met many counted v sure = λ s d lt. (met.each s v d (omega (arith, lt, many))).from ∙ (counted s v lt).whole sure
+
+-- no more is left of a shard than it may hold
+pub ends_short : (of : Opening) (wanted : Wanted) (ps : List Seer) (vs : List View) (ts : List Rest) (one two : Seer) → AreEnded of one two vs ts → length vs ≡ of.shards → ((s : ℕ) (v : View) → s < of.shards → IsCounted wanted ps s (get_or vs s v)) → (v : View) → (s : ℕ) (d : Rest) → s < length ts → length (get_or ts s d).entries.items ≤ wanted.max_steps
+ends_short of wanted ps vs ts one two met many counted v = λ s d lt. let inside : s < length vs = omega (arith, lt, met.many) in omega (arith, (met.each s v d inside).limit, (counted s v (omega (arith, inside, many))).limit)
 
 -- what is left where nothing is gone is the histories
 all_left : (of : Opening) (ps : List Seer) (whole : List Event) (shown : List Through) (s from : ℕ) (es fs : List Entry) → IsRest of ps whole shown s from es → from ≡ 0 → es ≡ fs → IsFinal of ps whole s fs × AllByRecursion (λ e. AreShown shown e.lets) fs
@@ -206,26 +212,26 @@ whole_closed of ps ts hs draws draws' m none same drawn = record {
         all_left of ps m.whole m.whole_shown s (get_or ts s t).from (get_or ts s t).entries.items (get_or hs s d).items (m.each s t lt) (none s t lt) (sym (ap (λ x. x.items) at))
 
 -- a shard at its place with the steps of the passes and of the guards' passes
-pub counted_here : (only_whole : Bool) (ps qs : List Seer) (s left rest steps : ℕ) (v : View) → v.index ≡ s → steps ≡ length v.stored → left + counts_at s ps ≡ steps → rest + counts_at s qs ≡ left → rest ≡ 0 → (only_whole ≡ true → v.before ≡ 0) → IsCounted only_whole (ps ++ qs) s v
-counted_here only_whole ps qs s left rest steps v index all first second none whole = record { index = index; counted = omega (arith, all, first, second, none, counts_append s ps qs); whole = whole }
+pub counted_here : (wanted : Wanted) (ps qs : List Seer) (s left rest steps : ℕ) (v : View) → v.index ≡ s → steps ≡ length v.stored → left + counts_at s ps ≡ steps → rest + counts_at s qs ≡ left → rest ≡ 0 → v.max_steps ≡ wanted.max_steps → (wanted.whole ≡ true → v.before ≡ 0) → IsCounted wanted (ps ++ qs) s v
+counted_here wanted ps qs s left rest steps v index all first second none limit whole = record { index = index; counted = omega (arith, all, first, second, none, counts_append s ps qs); limit = limit; whole = whole }
 
 -- a shard of which some count is not that of the passes and of the guards' passes
-pub few_steps : (only_whole : Bool) (ps qs : List Seer) (s steps : ℕ) (v : View) → steps ≡ length v.stored → steps < counts_at s ps → IsCounted only_whole (ps ++ qs) s v → ⊥
-few_steps only_whole ps qs s steps v all less m = absurd (omega (arith, all, less, m.counted, counts_append s ps qs))
+pub few_steps : (wanted : Wanted) (ps qs : List Seer) (s steps : ℕ) (v : View) → steps ≡ length v.stored → steps < counts_at s ps → IsCounted wanted (ps ++ qs) s v → ⊥
+few_steps wanted ps qs s steps v all less m = absurd (omega (arith, all, less, m.counted, counts_append s ps qs))
 
-pub few_left : (only_whole : Bool) (ps qs : List Seer) (s left steps : ℕ) (v : View) → steps ≡ length v.stored → left + counts_at s ps ≡ steps → left < counts_at s qs → IsCounted only_whole (ps ++ qs) s v → ⊥
-few_left only_whole ps qs s left steps v all first less m = absurd (omega (arith, all, first, less, m.counted, counts_append s ps qs))
+pub few_left : (wanted : Wanted) (ps qs : List Seer) (s left steps : ℕ) (v : View) → steps ≡ length v.stored → left + counts_at s ps ≡ steps → left < counts_at s qs → IsCounted wanted (ps ++ qs) s v → ⊥
+few_left wanted ps qs s left steps v all first less m = absurd (omega (arith, all, first, less, m.counted, counts_append s ps qs))
 
-pub some_left : (only_whole : Bool) (ps qs : List Seer) (s left rest steps : ℕ) (v : View) → steps ≡ length v.stored → left + counts_at s ps ≡ steps → rest + counts_at s qs ≡ left → nat_eq rest 0 ≡ false → IsCounted only_whole (ps ++ qs) s v → ⊥
-some_left only_whole ps qs s left rest steps v all first second some m =
+pub some_left : (wanted : Wanted) (ps qs : List Seer) (s left rest steps : ℕ) (v : View) → steps ≡ length v.stored → left + counts_at s ps ≡ steps → rest + counts_at s qs ≡ left → nat_eq rest 0 ≡ false → IsCounted wanted (ps ++ qs) s v → ⊥
+some_left wanted ps qs s left rest steps v all first second some m =
     let more : 0 < rest = grind (arith, nat_tests) in
     absurd (omega (arith, all, first, second, more, m.counted, counts_append s ps qs))
 
 -- why a table is not closed whose counts are wrong at one of its shards
-pub is_unclosed : (only_whole : Bool) (ps : List Seer) (vs : List View) (e : CloseError) (handed : ℕ) (c : Config) → IsMiscount only_whole ps vs e → c.passes ≤ handed → length vs ≡ c.shards → IsUnclosed e handed c
-is_unclosed only_whole ps vs (Counts place) handed c m enough same = (enough, subst (λ n. place < n) same m.0)
-is_unclosed only_whole ps vs (PassesOut missing) handed c m enough same = absurd m
-is_unclosed only_whole ps vs Memory handed c m enough same = absurd m
+pub is_unclosed : (wanted : Wanted) (ps : List Seer) (vs : List View) (e : CloseError) (handed : ℕ) (c : Config) → IsMiscount wanted ps vs e → c.passes ≤ handed → length vs ≡ c.shards → IsUnclosed e handed c
+is_unclosed wanted ps vs (Counts place) handed c m enough same = (enough, subst (λ n. place < n) same m.0)
+is_unclosed wanted ps vs (PassesOut missing) handed c m enough same = absurd m
+is_unclosed wanted ps vs Memory handed c m enough same = absurd m
 
 -- a fact of each item of two lists
 pub all_of_both : {A : Type 0} (P : A → Type 0) (xs ys : List A) → ((k : ℕ) (d : A) → k < length xs → P (get_or xs k d)) → ((k : ℕ) (d : A) → k < length ys → P (get_or ys k d)) → (k : ℕ) (d : A) → k < length (xs ++ ys) → P (get_or (xs ++ ys) k d)

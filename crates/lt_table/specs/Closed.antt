@@ -1,5 +1,5 @@
 -- What is left by a leave, and of a table that is closed.
-use Rattle.std.specs.Prelude.{ℕ, Bool, true, ◌≡◌, ◌+◌, ◌<◌, ◌≤◌, ◌++◌, List, [], ◌∷◌, map, length, drop, slice_index, slice_index_or, Result, Ok, Err}
+use Rattle.std.specs.Prelude.{ℕ, true, ◌≡◌, ◌+◌, ◌<◌, ◌≤◌, ◌++◌, List, [], ◌∷◌, map, length, drop, slice_index, slice_index_or, Result, Ok, Err}
 use Rattle.std.specs.Global.{Vec}
 use Rattle.std.specs.List.{AllByRecursion}
 use mathlib.Core.List.{IsPrefix}
@@ -14,6 +14,7 @@ use Rattle.lt_words.specs.Row.{Opening, Seer}
 use Rattle.lt_shard.specs.declared.holding.Rest.{Rest}
 use Rattle.lt_shard.specs.Shards.{View}
 use Rattle.lt_table.specs.declared.config.Config.{Config}
+use Rattle.lt_table.specs.declared.closing.Wanted.{Wanted}
 use Rattle.lt_table.specs.declared.closing.CloseError.{CloseError}
 use Rattle.lt_table.specs.declared.closing.CloseError.TheVariants.{PassesOut, Memory, Counts}
 use Rattle.lt_table.specs.declared.leaving.Left.{Left}
@@ -100,21 +101,23 @@ IsUnclosed (Counts place) handed c = (c.passes ≤ handed) × (place < c.shards)
 
 -- ---- on the way
 
--- A shard stands at its place, with as many steps as these passes made there, and holds all of them where it has to.
-pub record IsCounted (only_whole : Bool) (ps : List Seer) (s : ℕ) (v : View) : Type 0 where
+-- A shard stands at its place, with as many steps as these passes made there; it may hold so many, and holds all of its steps
+-- where it has to.
+pub record IsCounted (wanted : Wanted) (ps : List Seer) (s : ℕ) (v : View) : Type 0 where
   pub index : v.index ≡ s
   pub counted : length v.stored ≡ counts_at s ps
-  pub whole : only_whole ≡ true → v.before ≡ 0
+  pub limit : v.max_steps ≡ wanted.max_steps
+  pub whole : wanted.whole ≡ true → v.before ≡ 0
 
 -- The first of these shards stand at their places, and are counted.
-abbrev pub AreCounted : Bool → List Seer → List View → ℕ → Type 0
-AreCounted only_whole ps vs n = (s : ℕ) (v : View) → s < n → IsCounted only_whole ps s (slice_index_or vs s v)
+abbrev pub AreCounted : Wanted → List Seer → List View → ℕ → Type 0
+AreCounted wanted ps vs n = (s : ℕ) (v : View) → s < n → IsCounted wanted ps s (slice_index_or vs s v)
 
 -- The fault names the first of these shards that is not counted.
-abbrev pub IsMiscount : Bool → List Seer → List View → CloseError → Type 0
-IsMiscount only_whole ps vs (Counts place) = (place < length vs) × AreCounted only_whole ps vs place × ((v : View) → IsCounted only_whole ps place (slice_index_or vs place v) → ⊥)
-IsMiscount only_whole ps vs (PassesOut missing) = ⊥
-IsMiscount only_whole ps vs Memory = ⊥
+abbrev pub IsMiscount : Wanted → List Seer → List View → CloseError → Type 0
+IsMiscount wanted ps vs (Counts place) = (place < length vs) × AreCounted wanted ps vs place × ((v : View) → IsCounted wanted ps place (slice_index_or vs place v) → ⊥)
+IsMiscount wanted ps vs (PassesOut missing) = ⊥
+IsMiscount wanted ps vs Memory = ⊥
 
 -- A pass met a shard: what it had seen of the shard begins the shard's history, which begins what it has then seen.
 pub record IsMet (of : Opening) (old new : Seer) (s : ℕ) (es : List Entry) : Type 0 where
@@ -135,6 +138,7 @@ pub record IsEnded (of : Opening) (old new : Seer) (s : ℕ) (v : View) (t : Res
   pub held : v.held ≡ drop v.before v.stored
   pub whole : of.keeping ≡ Whole → v.before ≡ 0
   pub unrecorded : of.keeping ≡ Unrecorded → v.held ≡ []
+  pub limit : length t.entries.items ≤ v.max_steps
 
 -- It met each of these shards, of which these are left.
 pub record AreEnded (of : Opening) (old new : Seer) (shards : List View) (rests : List Rest) : Type 0 where

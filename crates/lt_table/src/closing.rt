@@ -42,8 +42,8 @@ pub enum CloseError {
     PassesOut(usize),
     #[error("out of memory")]
     Memory,
-    /// The shard at this place is another, or the steps that it has are not the sum of the passes' counts there. No whole
-    /// table makes it, and no other that is closed by `close_rest`.
+    /// The shard at this place is another or may hold another number of steps, or the steps that it has are not the sum of
+    /// the passes' counts there. No whole table makes it, and no other that is closed by `close_rest`.
     #[error("the steps of a shard are not those of the passes: {0}")]
     Counts(usize),
 }
@@ -115,31 +115,43 @@ fn without_guards(steps: u64, place: usize, guards: &[Guard]) -> Option<u64>
     Some(left)
 }
 
-/// Whether steps are missing that have to be there.
-fn is_missing(only_whole: bool, before: u64) -> bool
-    ensures no { IsFalse result → only_whole ≡ true → before ≡ 0 }
-    ensures yes { IsTrue result → (only_whole ≡ true) × (before ≢ 0) }
-{
-    only_whole && before != 0
+/// What each shard has to be when its table is closed.
+#[derive(Clone, Copy)]
+struct Wanted {
+    /// It holds all its steps.
+    whole: bool,
+    /// It may hold so many.
+    max_steps: u64,
 }
 
-/// Whether the shard is the one of this place, its steps are those of the passes, and it holds all where it has to.
+/// Whether steps are missing that have to be there.
+fn is_missing(whole: bool, before: u64) -> bool
+    ensures no { IsFalse result → whole ≡ true → before ≡ 0 }
+    ensures yes { IsTrue result → (whole ≡ true) × (before ≢ 0) }
+{
+    whole && before != 0
+}
+
+/// Whether the shard is the one of this place, its steps are those of the passes, and it is what it has to be.
 fn is_counted<N: Name, T: KeyTable>(
     shard: &Shard<N, T>,
     place: usize,
-    only_whole: bool,
+    wanted: Wanted,
     passes: &[Pass],
     guards: &[Guard],
 ) -> bool
     requires passes { All (λ p. place < p.of.shards) passes.now }
     requires guards { All (λ g. place < g.pass.of.shards) guards.now }
-    ensures yes { IsTrue result → IsCounted only_whole (passes_of passes.now guards.now) place shard.now }
-    ensures no { IsFalse result → IsCounted only_whole (passes_of passes.now guards.now) place shard.now → ⊥ }
+    ensures yes { IsTrue result → IsCounted wanted (passes_of passes.now guards.now) place shard.now }
+    ensures no { IsFalse result → IsCounted wanted (passes_of passes.now guards.now) place shard.now → ⊥ }
 {
     if shard.index() != place {
         return false;
     }
-    if is_missing(only_whole, shard.before()) {
+    if shard.max_steps() != wanted.max_steps {
+        return false;
+    }
+    if is_missing(wanted.whole, shard.before()) {
         return false;
     }
     let Some(left) = without_passes(shard.count(), place, passes) else {
@@ -151,21 +163,21 @@ fn is_counted<N: Name, T: KeyTable>(
     rest == 0
 }
 
-/// Names the first shard that is another, or whose steps are not those of the passes, or of which steps are missing.
+/// Names the first shard that is another, whose steps are not those of the passes, or that is not what it has to be.
 fn count_fault<N: Name, T: KeyTable>(
     shards: &[Shard<N, T>],
-    only_whole: bool,
+    wanted: Wanted,
     passes: &[Pass],
     guards: &[Guard],
 ) -> Option<CloseError>
     requires many { length shards.now ≡ N.of.shards }
     requires passes { All (λ p. p.of ≡ N.of) passes.now }
     requires guards { All (λ g. g.pass.of ≡ N.of) guards.now }
-    ensures none { IfNone result (AreCounted only_whole (passes_of passes.now guards.now) shards.now N.of.shards) }
-    ensures some { IfSome result (IsMiscount only_whole (passes_of passes.now guards.now) shards.now) }
+    ensures none { IfNone result (AreCounted wanted (passes_of passes.now guards.now) shards.now N.of.shards) }
+    ensures some { IfSome result (IsMiscount wanted (passes_of passes.now guards.now) shards.now) }
 {
     for place in 0..shards.len() {
-        if !is_counted(&shards[place], place, only_whole, passes, guards) {
+        if !is_counted(&shards[place], place, wanted, passes, guards) {
             return Some(CloseError::Counts(place));
         }
     }
@@ -299,7 +311,7 @@ fn end<N: Name, T: KeyTable + Drop, R: Wait>(
     rt: &R,
     book: &Book,
     shards: Vec<Shard<N, T>>,
-    only_whole: bool,
+    wanted: Wanted,
     mut passes: Vec<Pass>,
     rests: Vec<Rest>,
 ) -> Rests
@@ -307,11 +319,12 @@ fn end<N: Name, T: KeyTable + Drop, R: Wait>(
     requires some { 0 < length passes.items }
     requires passes { All (λ p. p.of ≡ N.of) passes.items }
     requires many { length shards.items ≡ N.of.shards }
-    requires counted { AreCounted only_whole passes.items shards.items N.of.shards }
+    requires counted { AreCounted wanted passes.items shards.items N.of.shards }
     requires empty { rests.items ≡ [] }
     requires room { length shards.items ≤ vec_capacity rests }
     ensures closed { IsClosedRest N.of passes.items result.shards.items result.draws }
-    ensures whole { only_whole ≡ true → AreWhole N.of result.shards.items }
+    ensures whole { wanted.whole ≡ true → AreWhole N.of result.shards.items }
+    ensures limit { All (λ t. length t.entries.items ≤ wanted.max_steps) result.shards.items }
 {
     let Some(mut last) = passes.pop() else {
         unreachable!()
@@ -364,6 +377,7 @@ impl<N: Name, T: KeyTable + Drop, W: Waker + Drop> Table<N, T, W> {
         requires guards { All (λ g. g.pass.of ≡ N.of) guards.items }
         ensures closed { IfOk result (λ e. IsClosedRest N.of (passes_of passes.items guards.items) e.rests.shards.items e.rests.draws) }
         ensures whole { IfOk result (λ e. only_whole ≡ true → AreWhole N.of e.rests.shards.items) }
+        ensures limit { IfOk result (λ e. All (λ t. length t.entries.items ≤ self.max_steps) e.rests.shards.items) }
         ensures room { IfOk result (λ e. (e.histories.items ≡ []) × (length e.rests.shards.items ≤ vec_capacity e.histories)) }
         ensures enough { OnOk result (self.passes ≤ length passes.items + length guards.items) }
         ensures refused { IfErr result (λ e. IsUnclosed e.error (length passes.items + length guards.items) self) }
@@ -399,7 +413,11 @@ impl<N: Name, T: KeyTable + Drop, W: Waker + Drop> Table<N, T, W> {
             waker,
         } = self;
         let shards = each_into(shards, room.shards, |slot| slot.into_shard());
-        if let Some(error) = count_fault(&shards, only_whole, &passes, &guards) {
+        let wanted = Wanted {
+            whole: only_whole,
+            max_steps: config.max_steps,
+        };
+        if let Some(error) = count_fault(&shards, wanted, &passes, &guards) {
             return Err(CloseRefused {
                 table: Table {
                     config,
@@ -413,7 +431,7 @@ impl<N: Name, T: KeyTable + Drop, W: Waker + Drop> Table<N, T, W> {
             });
         }
         let passes = all_passes(passes, guards);
-        let rests = end(rt, &book, shards, only_whole, passes, room.rests);
+        let rests = end(rt, &book, shards, wanted, passes, room.rests);
         Ok(Ended {
             rests,
             histories: room.histories,
@@ -435,6 +453,7 @@ impl<N: Name, T: KeyTable + Drop, W: Waker + Drop> Table<N, T, W> {
         requires passes { All (λ p. p.of ≡ N.of) passes.items }
         requires guards { All (λ g. g.pass.of ≡ N.of) guards.items }
         ensures closed { IfOk result (λ h. IsClosed N.of (passes_of passes.items guards.items) h.shards.items h.draws) }
+        ensures limit { IfOk result (λ h. All (λ es. length es.items ≤ self.max_steps) h.shards.items) }
         ensures enough { OnOk result (self.passes ≤ length passes.items + length guards.items) }
         ensures refused { IfErr result (λ e. IsUnclosed e.error (length passes.items + length guards.items) self) }
         ensures table { IfErr result (λ e. e.table ≡ self) }
@@ -457,6 +476,7 @@ impl<N: Name, T: KeyTable + Drop, W: Waker + Drop> Table<N, T, W> {
         requires passes { All (λ p. p.of ≡ N.of) passes.items }
         requires guards { All (λ g. g.pass.of ≡ N.of) guards.items }
         ensures closed { IfOk result (λ r. IsClosedRest N.of (passes_of passes.items guards.items) r.shards.items r.draws) }
+        ensures limit { IfOk result (λ r. All (λ t. length t.entries.items ≤ self.max_steps) r.shards.items) }
         ensures enough { OnOk result (self.passes ≤ length passes.items + length guards.items) }
         ensures refused { IfErr result (λ e. IsUnclosed e.error (length passes.items + length guards.items) self) }
         ensures table { IfErr result (λ e. e.table ≡ self) }

@@ -4,7 +4,7 @@ use Rattle.lt_history.proofs.Verdicts.{all_of_latest}
 use Rattle.lt_script.specs.declared.command.Command.{Command}
 use Rattle.lt_desk.specs.declared.outcome.Finish.{Finish}
 use Rattle.lt_desk.specs.declared.outcome.Ran.{Ran}
-use Rattle.lt_desk.specs.Ran.{IsRan, joined}
+use Rattle.lt_desk.specs.Ran.{IsRan, joined, run_rules}
 use Rattle.lt_command_line.specs.declared.options.Options.{Options}
 use Rattle.lt_tool.specs.Output.{IsComposed, IsOutput, rules_of, turns_of}
 
@@ -32,8 +32,8 @@ written options always commands ran text finish is_ran composed = record {
 }
 
 pub is_output : (options : Options) (always : Bool) (commands given : List Command) (turns : Option ℕ) (ran : Ran) (text : List ℕ) (finish : Finish) → turns ≡ turns_of options → given ≡ commands
-    → IsRan (record { max_waits = 16777215; turns = turns }) always options.shards given ran → IsComposed ran text finish → IsOutput options always commands text finish
+    → IsRan (run_rules options.steps turns) always options.shards given ran → IsComposed ran text finish → IsOutput options always commands text finish
 is_output options always commands given turns ran text finish said same is_ran composed =
     written options always commands ran text finish
     (subst (λ (cs : List Command). IsRan (rules_of options) always options.shards cs ran) same
-    (subst (λ (t : Option ℕ). IsRan (record { max_waits = 16777215; turns = t }) always options.shards given ran) said is_ran)) composed
+    (subst (λ (t : Option ℕ). IsRan (run_rules options.steps t) always options.shards given ran) said is_ran)) composed

@@ -14,7 +14,7 @@ use Rattle.lt_desk.specs.declared.outcome.Ran.{Ran}
 use Rattle.lt_desk.specs.declared.outcome.RunFault.{RunFault}
 use Rattle.lt_desk.specs.declared.outcome.RunFault.TheVariants as faults
 use Rattle.lt_desk.specs.Machine.{Rules}
-use Rattle.lt_desk.specs.Ran.{IsRan, joined}
+use Rattle.lt_desk.specs.Ran.{IsRan, joined, run_rules}
 use Rattle.lt_tool.specs.declared.input.Unread.{Unread}
 use Rattle.lt_tool.specs.declared.input.Unread.TheVariants as inputs
 use Rattle.lt_command_line.specs.declared.options.Options.{Options}
@@ -28,7 +28,7 @@ turns_of options = if options.threads then Some options.turns else None
 
 -- what the options fix for a run
 abbrev pub rules_of : Options → Rules
-rules_of options = record { max_waits = 16777215; turns = turns_of options }
+rules_of options = run_rules options.steps (turns_of options)
 
 -- The text is that of what came of a run: its answers, and then its histories.
 pub record IsComposed (ran : Ran) (text : List ℕ) (finish : Finish) : Type 0 where

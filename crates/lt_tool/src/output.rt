@@ -37,6 +37,7 @@ fn composed(alloc: Global, ran: Ran) -> Result<Outcome, AllocError>
         answers,
         finish,
         histories,
+        draws: _,
     } = ran;
     let mut text = Vec::new(alloc);
     put_answers(&mut text, &answers)?;

@@ -6,8 +6,8 @@ use Rattle.lt_desk.proofs.Doings.{is_entered}
 use Rattle.lt_desk.proofs.Telling.{tells_entered}
 use Rattle.lt_desk.proofs.act.enter.Goals as goal
 
-pub returns-in-Ok : goal.returns-in-Ok
-returns-in-Ok g c =
+pub returns-in-Ok-clause-does : goal.returns-in-Ok-clause-does
+returns-in-Ok-clause-does g c =
     let e : IsEntered c.args.pass c.args.accesses.now c.args.txn c.args.ts c.args.longest c.args.table.now.max_requests c.in-Ok.guard = c.in-Ok.ensures.entered in
     record {
       word = 0;

@@ -1,11 +1,11 @@
 use Rattle.std.proofs.Common.{◌≡◌, length, arith}
-use Rattle.lt_desk.specs.Machine.{Rules}
+use Rattle.lt_desk.specs.Machine.{Rules, rules_of}
 use Rattle.lt_desk.proofs.Slots.{tried_each}
 use Rattle.lt_desk.proofs.running.start_all.Goals as goal
 
 pub returns-in-Ok : goal.returns-in-Ok
 returns-in-Ok g c =
-    let rules : Rules = record { max_waits = c.args.table.now.max_waits; turns = c.args.turns } in
+    let rules : Rules = rules_of c.args.table.now c.args.turns in
     let many : length c.in-Ok.works.items ≡ length c.args.passes.items = omega (arith, c.in-Ok.ensures.len, c.in-Ok.works.ok.0, c.args.passes.ok.0) in
     tried_each rules (g.G.Gate.always c.args.gate.now) c.args.commands.now c.args.passes.items c.in-Ok.works.items many
     (λ i d lt.

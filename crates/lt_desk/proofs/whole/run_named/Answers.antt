@@ -1,16 +1,20 @@
-use Rattle.std.proofs.Common.{◌≡◌, ℕ, Bool, ap, sym, subst}
-use Rattle.std.specs.List.{AllByRecursion}
+use Rattle.std.proofs.Common.{◌≡◌, ◌≤◌, ℕ, Bool, length, sym, subst}
+use Rattle.std.specs.List.{All, AllByRecursion}
 use Rattle.std.proofs.lemmas.List.Elements.{All-from_recursion, recursion_from_All}
 use Rattle.lt_words.specs.Row.{Opening, Seer}
 use Rattle.lt_table.specs.declared.config.Config.{Config}
 use Rattle.lt_table.specs.Closed.{passes_of}
+use Rattle.lt_desk.specs.declared.outcome.Ran.{Ran}
 use Rattle.lt_desk.specs.declared.outcome.Work.{Work}
 use Rattle.lt_desk.specs.Desks.{pass_of}
-use Rattle.lt_desk.specs.Machine.{Rules}
-use Rattle.lt_desk.specs.Turns.{AreWorked, IsAmong}
+use Rattle.lt_desk.specs.Machine.{Rules, rules_of}
+use Rattle.lt_desk.specs.Turns.{HaveRun, IsAmong}
 use Rattle.lt_desk.specs.Ran.{IsRan}
-use Rattle.lt_desk.proofs.Closings.{is_ran, new_numbered, new_among, new_none, works_of}
+use Rattle.lt_desk.proofs.Closings.{is_ran, new_some, new_numbered, new_among, new_none, works_of}
 use Rattle.lt_desk.proofs.whole.run_named.Goals as goal
+
+pub run_lines-requires-clause-some : goal.run_lines-requires-clause-some
+run_lines-requires-clause-some g c κs within = new_some g.N.Name.of g.N.Name.of.passes c.in-Ok.passes.items c.in-Ok.ensures.passes c.requires.some_passes
 
 pub run_lines-requires-clause-numbered : goal.run_lines-requires-clause-numbered
 run_lines-requires-clause-numbered g c κs within = new_numbered g.N.Name.of g.N.Name.of.passes c.in-Ok.passes.items c.in-Ok.ensures.passes
@@ -23,7 +27,7 @@ run_lines-requires-clause-among g c κs within = new_among g.N.Name.of g.N.Name.
 
 pub hand_over-requires : goal.hand_over-requires
 hand_over-requires g c =
-    let rules : Rules = record { max_waits = c.in-Ok.table.max_waits; turns = c.args.turns } in
+    let rules : Rules = rules_of c.in-Ok.table c.args.turns in
     All-from_recursion (λ (w : Work). (pass_of w.desk).of ≡ g.N.Name.of) c.in_ok-works.works.items
     (works_of rules (g.G.Gate.always c.args.gate.now) c.args.commands.now g.N.Name.of c.in-Ok.passes.items c.in_ok-works.works.items c.in_ok-works.ensures
     (recursion_from_All (λ (p : Seer). p.of ≡ g.N.Name.of) c.in-Ok.passes.items c.in-Ok.ensures.of))
@@ -32,14 +36,15 @@ pub returns-in-Ok-close : goal.returns-in-Ok-close
 returns-in-Ok-close g c =
     let of : Opening = g.N.Name.of in
     let always : Bool = g.G.Gate.always c.args.gate.now in
-    let rules : Rules = record { max_waits = c.args.ready.config.max_waits; turns = c.args.turns } in
-    let waits : c.in-Ok.table.max_waits ≡ c.args.ready.config.max_waits = ap (λ (k : Config). k.max_waits) c.in-Ok.ensures.config in
-    let worked : AreWorked rules always c.args.commands.now c.in-Ok.passes.items c.in_ok-works.works.items = subst (λ (n : ℕ). AreWorked (record { max_waits = n; turns = c.args.turns }) always c.args.commands.now c.in-Ok.passes.items c.in_ok-works.works.items) waits c.in_ok-works.ensures in
-    subst (λ (n : ℕ). IsRan rules always n c.args.commands.now (record { answers = c.in_ok-passes.field-0.answers; finish = c.in_ok-passes.field-0.finish; histories = c.in-Ok-close.histories.shards })) (sym c.requires.shards)
-    (is_ran rules always of c.args.commands.now c.in-Ok.passes.items (passes_of c.in_ok-passes.field-0.passes.items c.in_ok-passes.field-0.guards.items) c.in_ok-works.works.items c.in-Ok-close.histories.draws
-    (record { answers = c.in_ok-passes.field-0.answers; finish = c.in_ok-passes.field-0.finish; histories = c.in-Ok-close.histories.shards })
+    let rules : Rules = rules_of c.args.ready.config c.args.turns in
+    let same : c.in-Ok.table ≡ c.args.ready.config = c.in-Ok.ensures.config in
+    let run : HaveRun rules always of.shards c.args.commands.now c.in-Ok.passes.items c.in_ok-works.works.items = subst (λ (k : Config). HaveRun (rules_of k c.args.turns) always of.shards c.args.commands.now c.in-Ok.passes.items c.in_ok-works.works.items) same c.in_ok-works.ensures in
+    let limit : All (λ es. length es.items ≤ rules.max_steps) c.in-Ok-close.histories.shards.items = subst (λ (k : Config). All (λ es. length es.items ≤ k.max_steps) c.in-Ok-close.histories.shards.items) same c.in-Ok-close.ensures.limit in
+    let ran : Ran = record { answers = c.in_ok-passes.field-0.answers; finish = c.in_ok-passes.field-0.finish; histories = c.in-Ok-close.histories.shards; draws = c.in-Ok-close.histories.draws } in
+    subst (λ (n : ℕ). IsRan rules always n c.args.commands.now ran) (sym c.requires.shards)
+    (is_ran rules always of c.args.commands.now c.in-Ok.passes.items (passes_of c.in_ok-passes.field-0.passes.items c.in_ok-passes.field-0.guards.items) c.in_ok-works.works.items ran
     c.requires.some
     (new_among of of.passes c.in-Ok.passes.items c.args.commands.now c.in-Ok.ensures.passes (subst (λ (n : ℕ). AllByRecursion (IsAmong n) c.args.commands.now) c.requires.passes c.requires.among))
     (recursion_from_All (λ (p : Seer). p.of ≡ of) c.in-Ok.passes.items c.in-Ok.ensures.of)
     (new_numbered of of.passes c.in-Ok.passes.items c.in-Ok.ensures.passes)
-    worked c.in-Ok-close.ensures.closed c.in_ok-passes.ensures.handed c.in_ok-passes.ensures.counted (new_none of of.passes c.in-Ok.passes.items c.in-Ok.ensures.passes) c.in_ok-passes.ensures.answers c.in_ok-passes.ensures.finish)
+    run c.in-Ok-close.ensures.closed limit c.in_ok-passes.ensures.handed c.in_ok-passes.ensures.counted (new_none of of.passes c.in-Ok.passes.items c.in-Ok.ensures.passes) c.in_ok-passes.ensures.answers c.in_ok-passes.ensures.finish)

@@ -1,15 +1,15 @@
 use Rattle.std.proofs.Common.{Bool, sym, ◌∙◌}
-use Rattle.lt_desk.specs.Machine.{Rules}
+use Rattle.lt_desk.specs.Machine.{Rules, rules_of}
 use Rattle.lt_desk.proofs.Lines.{worked_none, worked_mine, worked_other, is_same, is_other}
 use Rattle.lt_desk.proofs.worker.work.Goals.{then-number+in_ok-work, else-number}
 use Rattle.lt_desk.proofs.worker.work.Goals as goal
 
 pub loop-command-init : goal.loop-command-init
-loop-command-init g c = worked_none (record { max_waits = c.args.table.now.max_waits; turns = c.args.turns }) (g.G.Gate.always c.args.gate.now) c.args.pass c.in_ok-begun.begun c.in_ok-begun.ensures
+loop-command-init g c = worked_none (rules_of c.args.table.now c.args.turns) (g.G.Gate.always c.args.gate.now) c.args.pass c.in_ok-begun.begun c.in_ok-begun.ensures
 
 pub loop-command-preserved : goal.loop-command-preserved
 loop-command-preserved g c =
-    let rules : Rules = record { max_waits = c.args.table.now.max_waits; turns = c.args.turns } in
+    let rules : Rules = rules_of c.args.table.now c.args.turns in
     let always : Bool = g.G.Gate.always c.args.gate.now in
     elim c.if-number.branch [
       | then-number+in_ok-work w ↦

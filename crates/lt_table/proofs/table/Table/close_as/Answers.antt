@@ -11,4 +11,4 @@ pub end-rests-requires-clause-counted : goal.end-rests-requires-clause-counted
 end-rests-requires-clause-counted g c = rw (c.all_passes-passes.ensures, ← c.deref.ensures.value, ← c.deref-2.ensures.value, ← c.deref-3.ensures.value) c.in_default.ensures.none
 
 pub returns-in-Some-clause-refused : goal.returns-in-Some-clause-refused
-returns-in-Some-clause-refused g c = is_unclosed c.args.only_whole _ _ c.in-Some.error _ _ c.in-Some.ensures.some (search rules) (search rules)
+returns-in-Some-clause-refused g c = is_unclosed _ _ _ c.in-Some.error _ _ c.in-Some.ensures.some (search rules) (search rules)
