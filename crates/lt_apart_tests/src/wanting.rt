@@ -209,12 +209,20 @@ fn refusal(before: u32) -> ScarceRow {
     }
 }
 
+/// The rows, with the refusal at this place.
+fn with_refusal(mut rows: Vec<ScarceRow>, place: usize, before: u32) -> Option<Vec<ScarceRow>> {
+    if rows.len() < place {
+        return None;
+    }
+    rows.insert(place, refusal(before)).ok()?;
+    Some(rows)
+}
+
 /// Want of memory is told as itself, changes nothing, and the same call is then made.
 #[test]
 fn want_of_memory_is_told_as_itself_and_changes_nothing(rt: HostRuntime) -> Result<(), Fail> {
     for (place, before) in [(0, 0), (2, 1), (4, 2)] {
-        let mut rows = rows(rt.alloc())?;
-        rows.insert(place, refusal(before))?;
+        let rows = with_refusal(rows(rt.alloc())?, place, before).ok_or("the rows")?;
         come_out(&rt, rt.alloc(), 4, before, &rows, 4)?;
     }
     Ok(())
