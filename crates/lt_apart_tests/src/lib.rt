@@ -5,7 +5,7 @@
 //! lock, until another thread sets a flag. [`beside`] has the two runs: in each the other thread sets the flag once its
 //! own call has returned, so a call that waits for the lock is seen.
 //!
-//! A [`scarce::Scarce`] is a table that is refused memory once. [`wanting`] tells what a call is told then.
+//! A [`scarce::Scarce`] is a table in which one call runs out of memory; [`out_of_memory`] checks what the callers are told.
 #![tactic(auto)]
 
 #[cfg(test)]
@@ -13,10 +13,10 @@ mod beside;
 #[cfg(test)]
 mod flag;
 #[cfg(test)]
+mod out_of_memory;
+#[cfg(test)]
 mod scarce;
 #[cfg(test)]
 mod tests;
-#[cfg(test)]
-mod wanting;
 #[cfg(test)]
 mod watched;

@@ -1,8 +1,7 @@
-//! A plain table that is refused memory once.
+//! A plain table in which one call runs out of memory.
 //!
-//! By the contract of a key table a call that takes no memory is never refused. So a call counts here where the key's state
-//! tells that it takes some: an acquire that takes the lock, a write without a bound that waits, and a leave that gives up a
-//! reservation.
+//! The contract of a key table says that a call which allocates nothing succeeds. So this table fails only calls that allocate by
+//! the key's state: an acquire that takes the lock, a write without a bound that waits, and a leave that gives up a reservation.
 ghost use Rattle.std.specs.Prelude.{◌≡◌, ℕ, IsTrue, None};
 ghost use Rattle.lt_plain.specs.Rules.{is_txn, leave};
 ghost use Rattle.lt_plain.specs.Visit.{visit};
@@ -53,21 +52,21 @@ fn is_reserved(state: &KeyState, number: u64) -> bool
     }
 }
 
-/// A plain table of which one call that counts is refused memory.
+/// A plain table in which one of the calls that allocate runs out of memory.
 #[derive(Drop)]
 pub struct Scarce {
     alloc: Global,
     table: PlainTable,
-    /// How many calls counted so far.
+    /// How many calls have allocated so far.
     counted: u32,
-    /// How many count before the one that is refused.
+    /// How many of them succeed before the one that fails.
     before: u32,
 }
 
 impl Scarce {
     ghost use Rattle.std.specs.FinMap as finmap;
 
-    /// An empty table that refuses the call behind so many.
+    /// An empty table that fails the call after this many that allocate.
     pub fn new(alloc: Global, before: u32) -> Self
         ensures { result.table ≡ finmap.empty }
     {
@@ -79,20 +78,20 @@ impl Scarce {
         }
     }
 
-    /// Counts a call that takes memory, and tells whether it is the one that is refused.
-    fn refuses(&mut self, takes_memory: bool, key: &Key) -> bool
+    /// Counts a call that allocates. True if it is the one that fails.
+    fn fails(&mut self, allocates: bool, key: &Key) -> bool
         ensures same { self.new.table ≡ self.old.table }
         ensures sound { AreSound self.new.table }
-        ensures only { IsTrue result → IsTrue takes_memory }
+        ensures only { IsTrue result → IsTrue allocates }
     {
         // Brings into the proof that the records are sound.
         let _ = self.table.look(key, 1);
-        if !takes_memory {
+        if !allocates {
             return false;
         }
-        let is_refused = self.counted == self.before;
+        let is_last = self.counted == self.before;
         self.counted = self.counted.wrapping_add(1);
-        is_refused
+        is_last
     }
 
     fn is_free(&self, key: &Key) -> bool
@@ -134,8 +133,8 @@ impl KeyTable for Scarce {
         wait: u32,
         lets: &mut Vec<Through>,
     ) -> Result<Reply, AllocError> {
-        let takes_memory = self.is_kept_out(key, request, &access);
-        if self.refuses(takes_memory, key) {
+        let allocates = self.is_kept_out(key, request, &access);
+        if self.fails(allocates, key) {
             return Err(AllocError);
         }
         self.table.visit(key, request, access, wait, lets)
@@ -148,8 +147,8 @@ impl KeyTable for Scarce {
         ts: Timestamp,
         lets: &mut Vec<Through>,
     ) -> Result<Reply, AllocError> {
-        let takes_memory = self.is_free(key);
-        if self.refuses(takes_memory, key) {
+        let allocates = self.is_free(key);
+        if self.fails(allocates, key) {
             return Err(AllocError);
         }
         self.table.acquire(key, txn, ts, lets)
@@ -180,8 +179,8 @@ impl KeyTable for Scarce {
         number: u64,
         lets: &mut Vec<Through>,
     ) -> Result<Reply, AllocError> {
-        let takes_memory = self.is_reserved(key, number);
-        if self.refuses(takes_memory, key) {
+        let allocates = self.is_reserved(key, number);
+        if self.fails(allocates, key) {
             return Err(AllocError);
         }
         self.table.leave(key, number, lets)

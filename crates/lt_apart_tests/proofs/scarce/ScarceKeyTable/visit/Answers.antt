@@ -8,4 +8,4 @@ pub returns-clause-ok : goal.returns-clause-ok
 returns-clause-ok c =
     subst
     (λ (m : Records). IfOk c.visit.result (λ reply. IsStep m c.args.key.now (λ r. visit r (queued_of c.args.request.now c.args.wait) c.args.request.now.longest c.args.access) reply c.visit.new.lets.items c.visit.new.self))
-    c.refuses.ensures.same c.visit.ensures.ok
+    c.fails.ensures.same c.visit.ensures.ok

@@ -1,5 +1,5 @@
-//! A table whose keys are refused memory once: what is told then, that nothing changed, and that the same call is made
-//! afterwards.
+//! What a table tells when one of its key tables runs out of memory: the error, that nothing has changed, and that the same call
+//! succeeds afterwards.
 ghost use Rattle.std.specs.Prelude.{◌≡◌, IfOk, length};
 ghost use Rattle.std.specs.List.{All};
 ghost use Rattle.std.specs.FinMap as finmap;
@@ -58,7 +58,7 @@ fn stand_of(sight: &Sight) -> Option<Stand> {
     }
 }
 
-/// So many empty tables, each of which refuses the call behind so many.
+/// Empty tables, each of which fails the call after this many that allocate.
 fn scarce_tables(alloc: Global, count: usize, before: u32) -> Result<Vec<Scarce>, AllocError>
     ensures many { IfOk result (λ tables. length tables.items ≡ count) }
     ensures empty { IfOk result (λ tables. All (λ t. t.table ≡ finmap.empty) tables.items) }
@@ -114,7 +114,7 @@ fn run_named<N: Name, R: Wait>(
     Some(Ended { came, histories })
 }
 
-/// Plays the rows on a table whose keys are refused memory once, behind so many calls that take some.
+/// Plays the rows on a table that runs out of memory once, after this many calls that allocate.
 fn run_scarce<R: Wait>(
     rt: &R,
     alloc: Global,
@@ -153,7 +153,7 @@ fn come_out<R: Abort + Wait>(
     let ended = run_scarce(rt, alloc, limits(max_steps), before, rows).ok_or("the run")?;
     assert_eq!(rt; ended.came.len(), rows.len());
     for (came, ((_, _, told), stand)) in ended.came.iter().zip(rows) {
-        assert_eq!(rt; *came, (*told, Some(*stand)), "refused behind {before}");
+        assert_eq!(rt; *came, (*told, Some(*stand)), "failing after {before}");
     }
     let history = ended.histories.shards.first().ok_or("the shard")?;
     assert_eq!(rt; (history.len(), ended.histories.draws), (steps, 1));
@@ -174,7 +174,7 @@ fn take() -> Command {
     }
 }
 
-/// The lock is taken, request 1 waits, has it reserved when it comes free, and leaves. No call is refused.
+/// Transaction 9 takes the lock; request 1 waits, gets the reservation when the lock is released, and leaves. No call fails.
 fn rows(alloc: Global) -> Result<Vec<ScarceRow>, AllocError> {
     let enter = Command::Enter {
         txn: Some(1),
@@ -194,8 +194,8 @@ fn rows(alloc: Global) -> Result<Vec<ScarceRow>, AllocError> {
     Ok(rows)
 }
 
-/// The acquire, the scan or the leave that is refused memory, before the same call is made.
-fn refusal(before: u32) -> ScarceRow {
+/// The acquire, the scan or the leave that runs out of memory.
+fn failure(before: u32) -> ScarceRow {
     match before {
         0 => ((1, take(), Told::NotStepped(StepError::Memory)), EMPTY),
         1 => (
@@ -209,28 +209,28 @@ fn refusal(before: u32) -> ScarceRow {
     }
 }
 
-/// The rows, with the refusal at this place.
-fn with_refusal(mut rows: Vec<ScarceRow>, place: usize, before: u32) -> Option<Vec<ScarceRow>> {
+/// The rows, with that call before the one that succeeds.
+fn with_failure(mut rows: Vec<ScarceRow>, place: usize, before: u32) -> Option<Vec<ScarceRow>> {
     if rows.len() < place {
         return None;
     }
-    rows.insert(place, refusal(before)).ok()?;
+    rows.insert(place, failure(before)).ok()?;
     Some(rows)
 }
 
-/// Want of memory is told as itself, changes nothing, and the same call is then made.
+/// Out of memory is told as such and changes nothing; the same call then succeeds.
 #[test]
-fn want_of_memory_is_told_as_itself_and_changes_nothing(rt: HostRuntime) -> Result<(), Fail> {
+fn out_of_memory_is_told_and_changes_nothing(rt: HostRuntime) -> Result<(), Fail> {
     for (place, before) in [(0, 0), (2, 1), (4, 2)] {
-        let rows = with_refusal(rows(rt.alloc())?, place, before).ok_or("the rows")?;
+        let rows = with_failure(rows(rt.alloc())?, place, before).ok_or("the rows")?;
         come_out(&rt, rt.alloc(), 4, before, &rows, 4)?;
     }
     Ok(())
 }
 
-/// A shard that is full tells that, also where the call would be refused memory.
+/// A full shard answers `HistoryFull` even if the call would run out of memory.
 #[test]
-fn a_full_history_is_told_before_want_of_memory(rt: HostRuntime) -> Result<(), Fail> {
+fn a_full_history_is_told_before_out_of_memory(rt: HostRuntime) -> Result<(), Fail> {
     let full = Told::NotLeft(StepError::HistoryFull);
     let mut rows = rows(rt.alloc())?;
     rows.pop().ok_or("the leave")?;
