@@ -31,7 +31,7 @@ use Rattle.lt_desk.specs.Told.{IsDrawn}
 use Rattle.lt_desk.specs.Machine.{Rules, Deed, IsOutOnlyAt}
 use Rattle.lt_desk.specs.Standing.{made_at, AreAll, run_numbers}
 use Rattle.lt_desk.specs.Worked.{deed_steps, lines_of}
-use Rattle.lt_desk.specs.Turns.{AreNumbered, AreRun, HaveRun, IsAmong}
+use Rattle.lt_desk.specs.Turns.{AreNumbered, IsRunOf, AreRun, HaveRun, IsAmong}
 use Rattle.lt_desk.specs.Closing.{AreHanded, CountAlike, IsPut, IsWithin, AreWithin, finish_all, join}
 use Rattle.lt_desk.specs.Ran.{AreAnswered, IsAnswered, IsRan, joined}
 use Rattle.lt_desk.proofs.Telling.{draws_later, all_append, all_more, all_weaker}
@@ -246,36 +246,28 @@ are_all rules always of cs ps qs dss ws shards draws closed alike run same none 
     at_map entries_of shards s [] (λ (es : List Entry). length es ≡ made_at of.shards s dss) (omega (arith, closed.many))
     (λ d. (closed.each s d lt).counted ∙ (alike s ∙ counts_are_made rules always cs of.shards s ps dss ws run same (none s lt)))
 
--- what each pass has seen is a beginning of the one history
+-- what each pass has seen is a prefix of the one history
 works_seen : (whole : List Event) (qs : List Seer) (ws : List Work) → AllByRecursion (λ p. IsPrefix p.seen whole) qs → AreHanded qs ws → AllByRecursion (λ w. IsPrefix (pass_of w.desk).seen whole) ws
 works_seen whole qs ws seen handed = all_weaker (λ w. Contains qs (pass_of w.desk)) (λ w. IsPrefix (pass_of w.desk).seen whole) ws (λ w inside. contained (λ p. IsPrefix p.seen whole) qs (pass_of w.desk) seen inside) handed
 
+-- a fact of the deeds of each pass, from what it did and that it has seen a prefix of the one history
+each_deeds : (Q : List Deed → Type 0) (rules : Rules) (always : Bool) (cs : List Command) (whole : List Event) (ps : List Seer) (dss : List (List Deed)) (ws : List Work)
+    → ((p : Seer) (ds : List Deed) (w : Work) → IsRunOf rules always cs p ds w → IsPrefix (pass_of w.desk).seen whole → Q ds) → AreRun rules always cs ps dss ws → AllByRecursion (λ w. IsPrefix (pass_of w.desk).seen whole) ws → AllByRecursion Q dss
+each_deeds Q rules always cs whole [] [] [] f r seen = tt
+each_deeds Q rules always cs whole [] [] (w ∷ ws) f r seen = absurd r
+each_deeds Q rules always cs whole [] (ds ∷ dss) ws f r seen = absurd r
+each_deeds Q rules always cs whole (p ∷ ps) [] ws f r seen = absurd r
+each_deeds Q rules always cs whole (p ∷ ps) (ds ∷ dss) [] f r seen = absurd r
+each_deeds Q rules always cs whole (p ∷ ps) (ds ∷ dss) (w ∷ ws) f r seen = (f p ds w r.0 seen.0, each_deeds Q rules always cs whole ps dss ws f r.1 seen.1)
+
 -- no number that is told is above the draws of the one history
-all_drawn : (rules : Rules) (always : Bool) (cs : List Command) (whole : List Event) (ps : List Seer) (dss : List (List Deed)) (ws : List Work) → AreRun rules always cs ps dss ws → AllByRecursion (λ w. IsPrefix (pass_of w.desk).seen whole) ws
-    → AllByRecursion (λ n. n ≤ draws_of whole) (flat_map run_numbers dss)
-all_drawn rules always cs whole [] [] [] r seen = tt
-all_drawn rules always cs whole [] [] (w ∷ ws) r seen = absurd r
-all_drawn rules always cs whole [] (ds ∷ dss) ws r seen = absurd r
-all_drawn rules always cs whole (p ∷ ps) [] ws r seen = absurd r
-all_drawn rules always cs whole (p ∷ ps) (ds ∷ dss) [] r seen = absurd r
-all_drawn rules always cs whole (p ∷ ps) (ds ∷ dss) (w ∷ ws) r seen =
-    all_append (λ n. n ≤ draws_of whole) (run_numbers ds) (flat_map run_numbers dss)
-    (all_weaker (IsDrawn p.number p.seen (pass_of w.desk).seen) (λ n. n ≤ draws_of whole) (run_numbers ds)
+drawn_within : (rules : Rules) (always : Bool) (cs : List Command) (whole : List Event) (p : Seer) (ds : List Deed) (w : Work) → IsRunOf rules always cs p ds w → IsPrefix (pass_of w.desk).seen whole → AllByRecursion (λ n. n ≤ draws_of whole) (run_numbers ds)
+drawn_within rules always cs whole p ds w r seen =
+    all_weaker (IsDrawn p.number p.seen (pass_of w.desk).seen) (λ n. n ≤ draws_of whole) (run_numbers ds)
     (λ n d.
     let inside : n ≤ draws_of (pass_of w.desk).seen = d.within in
-    let more : draws_of (pass_of w.desk).seen ≤ draws_of whole = draws_later (pass_of w.desk).seen whole seen.0 in
-    omega arith) r.0.done.tells.drawn)
-    (all_drawn rules always cs whole ps dss ws r.1 seen.1)
-
--- the numbers are told to be out only where so many were drawn
-all_out : (rules : Rules) (always : Bool) (cs : List Command) (whole : List Event) (ps : List Seer) (dss : List (List Deed)) (ws : List Work) → AreRun rules always cs ps dss ws → AllByRecursion (λ w. IsPrefix (pass_of w.desk).seen whole) ws
-    → AllByRecursion (AllByRecursion (λ d. IsOutOnlyAt rules.max_requests (draws_of whole) d.answer)) dss
-all_out rules always cs whole [] [] [] r seen = tt
-all_out rules always cs whole [] [] (w ∷ ws) r seen = absurd r
-all_out rules always cs whole [] (ds ∷ dss) ws r seen = absurd r
-all_out rules always cs whole (p ∷ ps) [] ws r seen = absurd r
-all_out rules always cs whole (p ∷ ps) (ds ∷ dss) [] r seen = absurd r
-all_out rules always cs whole (p ∷ ps) (ds ∷ dss) (w ∷ ws) r seen = (out_later rules.max_requests (pass_of w.desk).seen whole ds seen.0 r.0.done.numbers_out, all_out rules always cs whole ps dss ws r.1 seen.1)
+    let more : draws_of (pass_of w.desk).seen ≤ draws_of whole = draws_later (pass_of w.desk).seen whole seen in
+    omega arith) r.done.tells.drawn
 
 pub is_ran : (rules : Rules) (always : Bool) (of : Opening) (cs : List Command) (ps qs : List Seer) (ws : List Work) (ran : Ran)
     → 0 < of.shards → AllByRecursion (IsAmong (length ps)) cs → AllByRecursion (λ p. p.of ≡ of) ps → AreNumbered 0 ps → HaveRun rules always of.shards cs ps ws → IsClosed of qs ran.histories.items ran.draws → All (λ es. length es.items ≤ rules.max_steps) ran.histories.items
@@ -297,8 +289,11 @@ is_ran rules always of cs ps qs ws ran some among are_of num have closed limit h
       stand = all_stand rules always cs of.shards within.whole (map entries_of ran.histories.items) 0 ps have.deeds ws some within.legal shards run num within.within;
       all = are_all rules always of cs ps qs have.deeds ws ran.histories.items ran.draws closed alike run shards none;
       in_order = have.in_order;
-      drawn = subst (λ (n : ℕ). AllByRecursion (λ m. m ≤ n) (flat_map run_numbers have.deeds)) (sym closed.draws_are) (all_drawn rules always cs closed.whole ps have.deeds ws run seen);
-      numbers_out = subst (λ (n : ℕ). AllByRecursion (AllByRecursion (λ d. IsOutOnlyAt rules.max_requests n d.answer)) have.deeds) (sym closed.draws_are) (all_out rules always cs closed.whole ps have.deeds ws run seen);
+      drawn = subst (λ (n : ℕ). AllByRecursion (λ ds. AllByRecursion (λ m. m ≤ n) (run_numbers ds)) have.deeds) (sym closed.draws_are)
+          (each_deeds (λ ds. AllByRecursion (λ m. m ≤ draws_of closed.whole) (run_numbers ds)) rules always cs closed.whole ps have.deeds ws (drawn_within rules always cs closed.whole) run seen);
+      numbers_out = subst (λ (n : ℕ). AllByRecursion (AllByRecursion (λ d. IsOutOnlyAt rules.max_requests n d.answer)) have.deeds) (sym closed.draws_are)
+          (each_deeds (AllByRecursion (λ d. IsOutOnlyAt rules.max_requests (draws_of closed.whole) d.answer)) rules always cs closed.whole ps have.deeds ws
+          (λ p ds w r here. out_later rules.max_requests (pass_of w.desk).seen closed.whole ds here r.done.numbers_out) run seen);
       limit = recursion_from_All (λ (es : Vec Entry). length es.items ≤ rules.max_steps) ran.histories.items limit;
       legal = λ key. legal_key of.shards 0 key ran.histories.items good;
       in_range = all_in_range of.shards 0 ran.histories.items good;

@@ -24,7 +24,7 @@ use Rattle.lt_desk.specs.Told.{Tells, StandsIn, IsSeen, ComesAfter, Ascend}
 use Rattle.lt_desk.specs.Desks.{request_of, pass_of}
 use Rattle.lt_desk.specs.Machine.{Rules, Deed, Runs, IsDone, IsOutOnlyAt, deed_numbers, deed_lets}
 use Rattle.lt_desk.specs.Worked.{is_turns, answer_line, deed_line, deed_steps, finish_of, lines_of, AreDone, NoTurns, HasEnded, IsRun, IsWorked, IsBegun, TakesLine, TakesOn, GoesOn}
-use Rattle.lt_desk.specs.Turns.{IsTurn, Learns, somes}
+use Rattle.lt_desk.specs.Turns.{IsExecuted, Learns, somes}
 use Rattle.lt_desk.proofs.Telling.{tells_none, tells_then, tells_learnt, stands_seen, draws_later, prefix_self, all_more, all_weaker}
 
 pub flat_snoc : {A B : Type 0} (f : A → List B) (xs : List A) (x : A) → flat_map f (xs ++ x ∷ []) ≡ flat_map f xs ++ f x
@@ -117,7 +117,7 @@ turn_steps (Some d) = d.steps
 -- seen then.
 pub record IsTurned (rules : Rules) (always : Bool) (old : Seer) (ls : List Command) (line : Command) (deeds : List Deed) (w new : Work) : Type 0 where
   pub turn : Option Deed
-  pub line_is : IsTurn line turn
+  pub line_is : IsExecuted line turn
   pub run : IsRun rules always old (ls ++ line ∷ []) (deeds ++ somes (turn ∷ [])) new
   pub of : (pass_of new.desk).of ≡ (pass_of w.desk).of
   pub seen : IsPrefix (pass_of w.desk).seen (pass_of new.desk).seen

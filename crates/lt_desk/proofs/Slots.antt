@@ -1,5 +1,5 @@
 -- What the passes of a script have done, in a list.
-use Rattle.std.proofs.Common.{◌≡◌, ◌≢◌, ℕ, zero, suc, ◌+◌, ◌-◌, ◌<◌, ◌≤◌, ◌==◌, Bool, true, false, eq-eqb, List, [], ◌∷◌, ◌++◌, length, take, map, get_or, set, Option, Some, None, Result, Ok, refl, sym, ap, subst, ◌∙◌, append-nil, arith}
+use Rattle.std.proofs.Common.{◌≡◌, ◌≢◌, ℕ, zero, suc, ◌+◌, ◌-◌, ◌<◌, ◌≤◌, ◌==◌, Bool, true, false, List, [], ◌∷◌, ◌++◌, length, take, map, get_or, set, Option, Some, None, Result, Ok, refl, sym, ap, subst, ◌∙◌, append-nil, arith}
 use Rattle.std.specs.Prelude.{is_some}
 use Rattle.std.specs.List.{flat_map, AllByRecursion}
 use Rattle.std.proofs.lemmas.List.Elements.{filter-append}
@@ -15,9 +15,9 @@ use Rattle.lt_desk.specs.Desks.{pass_of}
 use Rattle.lt_desk.specs.Machine.{Rules, Deed}
 use Rattle.lt_desk.specs.Told.{IsSeen, ComesAfter, Ascend}
 use Rattle.lt_desk.specs.Worked.{IsRun, IsBegun, GoesOn, deed_steps, lines_of}
-use Rattle.lt_desk.specs.Turns.{IsAmong, AreWorked, AreRun, HaveRun, HaveRunInOrder, IsTriedOf, AreTried, AreNumbered, IsTurn, AreTurns, AreOwn, AreInOrder, IsSlot, AreSlots, IsReady, Learns, TakesTurn, HaveBegun, slot_at, deeds_of, no_deeds, somes}
+use Rattle.lt_desk.specs.Turns.{IsAmong, AreWorked, AreRun, HaveRun, HaveRunInOrder, IsTriedOf, AreTried, AreNumbered, IsExecuted, AreExecuted, AreOwn, AreInOrder, IsSlot, AreSlots, IsReady, Learns, TakesTurn, HaveBegun, slot_at, deeds_of, no_deeds, somes}
 use Rattle.lt_desk.proofs.Telling.{ascend_append, seen_later, all_append, all_more, all_weaker}
-use Rattle.lt_desk.proofs.Lines.{IsTurned, turn_steps, turned, run_learnt, run_none, flat_snoc, one_in, none_in, mine, other, front_more}
+use Rattle.lt_desk.proofs.Lines.{IsTurned, turn_steps, turned, run_learnt, run_none, flat_snoc, one_in, none_in, mine, other, front_more, is_same, is_other}
 
 pub set_twice : {A : Type 0} (xs : List A) (i : ℕ) (a b : A) → set (set xs i a) i b ≡ set xs i b
 set_twice [] i a b = refl
@@ -34,17 +34,11 @@ all_at P [] i x p lt e = absurd (omega arith)
 all_at P (y ∷ xs) zero x p lt e = subst P (sym e) p.0
 all_at P (y ∷ xs) (suc i) x p lt e = all_at P xs i x p.1 (omega arith) e
 
-hit : (m n : ℕ) → m ≡ n → (m == n) ≡ true
-hit m n e = eq-eqb m n e
-
-miss : (m n : ℕ) → m ≢ n → (m == n) ≡ false
-miss m n ne = grind (arith, ne)
-
 -- ---- slots
 
 slot_other : (rules : Rules) (always : Bool) (cs : List Command) (c : Command) (p : Seer) (ds : List Deed) (s : Option Work) → c.pass ≢ p.number → IsSlot rules always cs p ds s → IsSlot rules always (cs ++ c ∷ []) p ds s
 slot_other rules always cs c p ds None ne h = absurd h
-slot_other rules always cs c p ds (Some w) ne h = subst (λ (ls : List Command). IsRun rules always p ls ds w) (sym (other p.number cs c (miss c.pass p.number ne))) h
+slot_other rules always cs c p ds (Some w) ne h = subst (λ (ls : List Command). IsRun rules always p ls ds w) (sym (other p.number cs c (is_other c.pass p.number ne))) h
 
 slots_other : (rules : Rules) (always : Bool) (cs : List Command) (c : Command) (n : ℕ) (ps : List Seer) (dss : List (List Deed)) (ss : List (Option Work)) → AreNumbered n ps → c.pass ≤ n → AreSlots rules always cs ps dss ss → AreSlots rules always (cs ++ c ∷ []) ps dss ss
 slots_other rules always cs c n [] [] [] num le h = tt
@@ -65,7 +59,7 @@ add_at (l ∷ ls) (suc i) xs = l ∷ add_at ls i xs
 -- The slot at a place did this at its line, or nothing: its steps come after what its pass had seen.
 record AreTurned (rules : Rules) (always : Bool) (of : Opening) (cs : List Command) (c : Command) (i : ℕ) (ps : List Seer) (dss : List (List Deed)) (ss : List (Option Work)) (desk : Desk) (after : Work) : Type 0 where
   turn : Option Deed
-  line_is : IsTurn c turn
+  line_is : IsExecuted c turn
   slots : AreSlots rules always (cs ++ c ∷ []) ps (add_at dss i (somes (turn ∷ []))) (set ss i (Some after))
   same : (pass_of after.desk).of ≡ of
   seen : IsPrefix (pass_of desk).seen (pass_of after.desk).seen
@@ -86,7 +80,7 @@ slot_turned rules always of cs c n p ps ds dss s ss w after desk seen is_of num 
       turn = t.turn;
       line_is = t.line_is;
       slots = (
-        subst (λ (ls : List Command). IsRun rules always p ls (ds ++ somes (t.turn ∷ [])) after) (sym (mine p.number cs c (hit c.pass p.number (at ∙ sym is)))) t.run,
+        subst (λ (ls : List Command). IsRun rules always p ls (ds ++ somes (t.turn ∷ [])) after) (sym (mine p.number cs c (is_same c.pass p.number (at ∙ sym is)))) t.run,
         slots_other rules always cs c (n + 1) ps dss ss num (omega (arith, at)) rest,
       );
       same = t.of ∙ (run.done.tells.of ∙ is_of);
@@ -122,7 +116,7 @@ slots_turned rules always of cs c n (suc i) (p ∷ ps) (ds ∷ dss) (s ∷ ss) w
 
 -- ---- the order
 
-turns_more : (cs : List Command) (ts : List (Option Deed)) (c : Command) (t : Option Deed) → AreTurns cs ts → IsTurn c t → AreTurns (cs ++ c ∷ []) (ts ++ t ∷ [])
+turns_more : (cs : List Command) (ts : List (Option Deed)) (c : Command) (t : Option Deed) → AreExecuted cs ts → IsExecuted c t → AreExecuted (cs ++ c ∷ []) (ts ++ t ∷ [])
 turns_more [] [] c t h last = (last, tt)
 turns_more [] (u ∷ ts) c t h last = absurd h
 turns_more (d ∷ cs) [] c t h last = absurd h
@@ -137,35 +131,35 @@ steps_more : (ds : List Deed) (t : Option Deed) → flat_map deed_steps (ds ++ s
 steps_more ds None = ap (flat_map deed_steps) (append-nil ds) ∙ sym (append-nil (flat_map deed_steps ds))
 steps_more ds (Some d) = flat_snoc deed_steps ds d
 
-deeds_other : (n : ℕ) (all : List Deed) (c : Command) (t : Option Deed) → IsTurn c t → c.pass ≢ n → deeds_of n (all ++ somes (t ∷ [])) ≡ deeds_of n all
+deeds_other : (n : ℕ) (all : List Deed) (c : Command) (t : Option Deed) → IsExecuted c t → c.pass ≢ n → deeds_of n (all ++ somes (t ∷ [])) ≡ deeds_of n all
 deeds_other n all c None is ne = ap (deeds_of n) (append-nil all)
 deeds_other n all c (Some d) is ne =
-    let other : (d.line.pass == n) ≡ false = ap (λ (x : Command). x.pass == n) is ∙ miss c.pass n ne in
+    let other : (d.line.pass == n) ≡ false = ap (λ (x : Command). x.pass == n) is ∙ is_other c.pass n ne in
     filter-append (λ (x : Deed). x.line.pass == n) all (d ∷ []) ∙ (ap (λ (l : List Deed). deeds_of n all ++ l) (none_in (d.line.pass == n) d other) ∙ append-nil (deeds_of n all))
 
-deeds_mine : (n : ℕ) (all : List Deed) (c : Command) (t : Option Deed) → IsTurn c t → c.pass ≡ n → deeds_of n (all ++ somes (t ∷ [])) ≡ deeds_of n all ++ somes (t ∷ [])
+deeds_mine : (n : ℕ) (all : List Deed) (c : Command) (t : Option Deed) → IsExecuted c t → c.pass ≡ n → deeds_of n (all ++ somes (t ∷ [])) ≡ deeds_of n all ++ somes (t ∷ [])
 deeds_mine n all c None is at = ap (deeds_of n) (append-nil all) ∙ sym (append-nil (deeds_of n all))
 deeds_mine n all c (Some d) is at =
-    let own : (d.line.pass == n) ≡ true = ap (λ (x : Command). x.pass == n) is ∙ hit c.pass n at in
+    let own : (d.line.pass == n) ≡ true = ap (λ (x : Command). x.pass == n) is ∙ is_same c.pass n at in
     filter-append (λ (x : Deed). x.line.pass == n) all (d ∷ []) ∙ ap (λ (l : List Deed). deeds_of n all ++ l) (one_in (d.line.pass == n) d own)
 
-own_others : (n : ℕ) (dss : List (List Deed)) (all : List Deed) (c : Command) (t : Option Deed) → IsTurn c t → c.pass < n → AreOwn n dss all → AreOwn n dss (all ++ somes (t ∷ []))
+own_others : (n : ℕ) (dss : List (List Deed)) (all : List Deed) (c : Command) (t : Option Deed) → IsExecuted c t → c.pass < n → AreOwn n dss all → AreOwn n dss (all ++ somes (t ∷ []))
 own_others n [] all c t is lt h = tt
 own_others n (ds ∷ dss) all c t is lt h = (h.0 ∙ sym (deeds_other n all c t is (λ e. absurd (omega arith))), own_others (n + 1) dss all c t is (omega arith) h.1)
 
-own_turned : (n i : ℕ) (dss : List (List Deed)) (all : List Deed) (c : Command) (t : Option Deed) → IsTurn c t → c.pass ≡ n + i → AreOwn n dss all → AreOwn n (add_at dss i (somes (t ∷ []))) (all ++ somes (t ∷ []))
+own_turned : (n i : ℕ) (dss : List (List Deed)) (all : List Deed) (c : Command) (t : Option Deed) → IsExecuted c t → c.pass ≡ n + i → AreOwn n dss all → AreOwn n (add_at dss i (somes (t ∷ []))) (all ++ somes (t ∷ []))
 own_turned n i [] all c t is at h = tt
 own_turned n zero (ds ∷ dss) all c t is at h =
     let here : c.pass ≡ n = omega (arith, at) in
     (ap (λ (l : List Deed). l ++ somes (t ∷ [])) h.0 ∙ sym (deeds_mine n all c t is here), own_others (n + 1) dss all c t is (omega (arith, here)) h.1)
 own_turned n (suc i) (ds ∷ dss) all c t is at h = (h.0 ∙ sym (deeds_other n all c t is (λ e. absurd (omega (arith, at)))), own_turned (n + 1) i dss all c t is (omega (arith, at)) h.1)
 
--- The lines among these commands were run in their order, each after what the passes had seen before, which was seen.
+-- The lines among these commands were executed in their order, and their steps were seen.
 pub record RunInOrder (rules : Rules) (always : Bool) (of : Opening) (cs : List Command) (ps : List Seer) (ss : List (Option Work)) (seen : Sight) : Type 0 where
   pub deeds : List (List Deed)
   pub slots : AreSlots rules always cs ps deeds ss
   pub order : AreInOrder of.shards cs deeds
-  pub within : AllByRecursion (IsSeen of.shards seen.seen) (flat_map deed_steps (somes order.turns))
+  pub within : AllByRecursion (IsSeen of.shards seen.seen) (flat_map deed_steps (somes order.executed))
   pub same : seen.of ≡ of
 
 own_none : (n : ℕ) (ps : List Seer) → AreOwn n (no_deeds ps) []
@@ -176,7 +170,7 @@ pub none_in_order : (rules : Rules) (always : Bool) (of : Opening) (ps : List Se
 none_in_order rules always of ps ss seen h same = record {
   deeds = no_deeds ps;
   slots = h rules always;
-  order = record { turns = []; turns_are = tt; own = own_none 1 ps; ascend = tt };
+  order = record { executed = []; executed_are = tt; own = own_none 1 ps; ascend = tt };
   within = tt;
   same = same;
 }
@@ -186,22 +180,22 @@ order_turned : (rules : Rules) (always : Bool) (of : Opening) (cs : List Command
 order_turned rules always of cs c ps ss new seen seen' ofs num low h t =
     let i : ℕ = c.pass - 1 in
     let a : AreTurned rules always of cs c i ps h.deeds ss t.desk t.after = slots_turned rules always of cs c 0 i ps h.deeds ss t.before t.after t.desk seen ofs num (omega arith) t.was t.learns t.goes_on h.slots in
-    let old : List Step = flat_map deed_steps (somes h.order.turns) in
+    let old : List Step = flat_map deed_steps (somes h.order.executed) in
     let before : List Event = (pass_of t.desk).seen in
-    let all : somes (h.order.turns ++ a.turn ∷ []) ≡ somes h.order.turns ++ somes (a.turn ∷ []) = somes_more h.order.turns a.turn in
-    let steps : flat_map deed_steps (somes (h.order.turns ++ a.turn ∷ [])) ≡ old ++ turn_steps a.turn = ap (flat_map deed_steps) all ∙ steps_more (somes h.order.turns) a.turn in
+    let all : somes (h.order.executed ++ a.turn ∷ []) ≡ somes h.order.executed ++ somes (a.turn ∷ []) = somes_more h.order.executed a.turn in
+    let steps : flat_map deed_steps (somes (h.order.executed ++ a.turn ∷ [])) ≡ old ++ turn_steps a.turn = ap (flat_map deed_steps) all ∙ steps_more (somes h.order.executed) a.turn in
     let learnt : AllByRecursion (IsSeen of.shards before) old = all_weaker (IsSeen of.shards seen.seen) (IsSeen of.shards before) old (λ x. seen_later of.shards seen.seen before x t.learns.that) h.within in
     let then : AllByRecursion (IsSeen of.shards (pass_of t.after.desk).seen) old = all_weaker (IsSeen of.shards before) (IsSeen of.shards (pass_of t.after.desk).seen) old (λ x. seen_later of.shards before (pass_of t.after.desk).seen x a.seen) learnt in
     record {
       deeds = add_at h.deeds i (somes (a.turn ∷ []));
       slots = subst (λ (l : List (Option Work)). AreSlots rules always (cs ++ c ∷ []) ps (add_at h.deeds i (somes (a.turn ∷ []))) l) (sym t.others) a.slots;
       order = record {
-        turns = h.order.turns ++ a.turn ∷ [];
-        turns_are = turns_more cs h.order.turns c a.turn h.order.turns_are a.line_is;
-        own = subst (λ (l : List Deed). AreOwn 1 (add_at h.deeds i (somes (a.turn ∷ []))) l) (sym all) (own_turned 1 i h.deeds (somes h.order.turns) c a.turn a.line_is (omega arith) h.order.own);
+        executed = h.order.executed ++ a.turn ∷ [];
+        executed_are = turns_more cs h.order.executed c a.turn h.order.executed_are a.line_is;
+        own = subst (λ (l : List Deed). AreOwn 1 (add_at h.deeds i (somes (a.turn ∷ []))) l) (sym all) (own_turned 1 i h.deeds (somes h.order.executed) c a.turn a.line_is (omega arith) h.order.own);
         ascend = subst (Ascend of.shards) (sym steps) (ascend_append of.shards before old (turn_steps a.turn) learnt a.comes h.order.ascend a.ascend);
       };
-      within = subst (λ (x : List Event). AllByRecursion (IsSeen of.shards x) (flat_map deed_steps (somes (h.order.turns ++ a.turn ∷ [])))) (sym t.seen_is)
+      within = subst (λ (x : List Event). AllByRecursion (IsSeen of.shards x) (flat_map deed_steps (somes (h.order.executed ++ a.turn ∷ [])))) (sym t.seen_is)
           (subst (AllByRecursion (IsSeen of.shards (pass_of t.after.desk).seen)) (sym steps) (all_append (IsSeen of.shards (pass_of t.after.desk).seen) old (turn_steps a.turn) then a.within));
       same = t.of ∙ a.same;
     }

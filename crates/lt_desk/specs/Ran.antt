@@ -38,10 +38,10 @@ joined histories = flat_map (λ h. h.items) histories
 abbrev pub run_rules : ℕ → Option ℕ → Rules
 run_rules max_steps turns = record { max_waits = 16777215; max_steps = max_steps; max_requests = 1099511627775; turns = turns }
 
--- Each pass is answered as its machine says, over a front of its lines: over all of them, if the run is done; on one thread
--- the lines are run in their order. All that is told stands in the final histories, of which there is one for each shard and
--- which hold nothing else; they are legal for every key, no longer than the rules say, and can stand in a text of histories.
--- So many numbers were drawn, none of those that are told is above, and they are told to be out only where that is the limit.
+-- The machine of each pass answers a prefix of its lines: all of them, if the run is done. On one thread the lines are executed
+-- in their order. The final histories, one for each shard, hold all steps that the answers tell and no others; they are legal
+-- for every key, no longer than the limit, and can stand in a text of histories. No number that is told is above the count of
+-- the numbers drawn, and `NumbersOut` is told only if that count has reached its limit.
 pub record IsRan (rules : Rules) (always : Bool) (shards : ℕ) (commands : List Command) (ran : Ran) : Type 0 where
   pub deeds : List (List Deed)
   pub finishes : List Finish
@@ -52,7 +52,7 @@ pub record IsRan (rules : Rules) (always : Bool) (shards : ℕ) (commands : List
   pub stand : AllStand shards (map (λ h. h.items) ran.histories.items) 1 deeds
   pub all : AreAll shards (map (λ h. h.items) ran.histories.items) deeds
   pub in_order : rules.turns ≡ None → AreInOrder shards commands deeds
-  pub drawn : AllByRecursion (λ n. n ≤ ran.draws) (flat_map run_numbers deeds)
+  pub drawn : AllByRecursion (λ ds. AllByRecursion (λ n. n ≤ ran.draws) (run_numbers ds)) deeds
   pub numbers_out : AllByRecursion (AllByRecursion (λ d. IsOutOnlyAt rules.max_requests ran.draws d.answer)) deeds
   pub limit : AllByRecursion (λ h. length h.items ≤ rules.max_steps) ran.histories.items
   pub legal : AreLegalKeys (joined ran.histories.items)

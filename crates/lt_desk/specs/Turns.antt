@@ -53,46 +53,46 @@ pub record IsAmong (passes : ℕ) (c : Command) : Type 0 where
 
 -- ---- in turn
 
--- what a line did: nothing, where its pass had ended or the gate ended it there
-abbrev pub IsTurn : Command → Option Deed → Type 0
-IsTurn c None = Unit {0}
-IsTurn c (Some d) = d.line ≡ c
+-- How the line was executed; not at all, if its pass had ended or the gate stopped it there.
+abbrev pub IsExecuted : Command → Option Deed → Type 0
+IsExecuted c None = Unit {0}
+IsExecuted c (Some d) = d.line ≡ c
 
 -- the same of each line
-abbrev pub AreTurns : List Command → List (Option Deed) → Type 0
-AreTurns [] [] = Unit {0}
-AreTurns (c ∷ cs) (t ∷ ts) = IsTurn c t × AreTurns cs ts
-AreTurns _ _ = ⊥
+abbrev pub AreExecuted : List Command → List (Option Deed) → Type 0
+AreExecuted [] [] = Unit {0}
+AreExecuted (c ∷ cs) (t ∷ ts) = IsExecuted c t × AreExecuted cs ts
+AreExecuted _ _ = ⊥
 
 abbrev pub somes : {A : Type 0} → List (Option A) → List A
 somes [] = []
 somes (None ∷ xs) = somes xs
 somes (Some x ∷ xs) = x ∷ somes xs
 
--- those of these deeds that this pass did
+-- the deeds of one pass
 abbrev pub deeds_of : ℕ → List Deed → List Deed
 deeds_of pass deeds = filter (λ d. d.line.pass == pass) deeds
 
--- The passes from this number on did these deeds, each its own of all.
+-- Of all deeds, these are those of the passes from this number on, pass by pass.
 abbrev pub AreOwn : ℕ → List (List Deed) → List Deed → Type 0
 AreOwn n [] all = Unit {0}
 AreOwn n (ds ∷ dss) all = (ds ≡ deeds_of n all) × AreOwn (n + 1) dss all
 
--- The deeds of the passes were done in the order of the lines: of one shard each step has a later place than those of the
--- lines before it, whichever passes they are of.
+-- The lines were executed in their order: in one shard, each step has a later place than the steps of all earlier lines, of
+-- whatever pass.
 pub record AreInOrder (shards : ℕ) (commands : List Command) (deeds : List (List Deed)) : Type 0 where
-  pub turns : List (Option Deed)
-  pub turns_are : AreTurns commands turns
-  pub own : AreOwn 1 deeds (somes turns)
-  pub ascend : Ascend shards (flat_map deed_steps (somes turns))
+  pub executed : List (Option Deed)
+  pub executed_are : AreExecuted commands executed
+  pub own : AreOwn 1 deeds (somes executed)
+  pub ascend : Ascend shards (flat_map deed_steps (somes executed))
 
--- Each pass ran its lines; without turns they were run in their order.
+-- Each pass ran its lines; without turns the lines were executed in their order.
 pub record HaveRun (rules : Rules) (always : Bool) (shards : ℕ) (commands : List Command) (ps : List Seer) (ws : List Work) : Type 0 where
   pub deeds : List (List Deed)
   pub run : AreRun rules always commands ps deeds ws
   pub in_order : rules.turns ≡ None → AreInOrder shards commands deeds
 
--- The same in their order, with turns or without.
+-- The same, in their order in any case.
 pub record HaveRunInOrder (rules : Rules) (always : Bool) (shards : ℕ) (commands : List Command) (ps : List Seer) (ws : List Work) : Type 0 where
   pub deeds : List (List Deed)
   pub run : AreRun rules always commands ps deeds ws
@@ -116,13 +116,14 @@ IsReady of (Some w) = (pass_of w.desk).of ≡ of
 abbrev pub slot_at : List (Option Work) → ℕ → Option Work
 slot_at ss i = slice_index_or ss i None
 
--- The pass has then seen what was seen before, too; its request is as it was.
+-- The pass has learnt all that was seen before; its request is unchanged.
 pub record Learns (seen : Sight) (old new : Desk) : Type 0 where
   pub request : request_of new ≡ request_of old
   pub more : SeesMore (pass_of old) (pass_of new)
   pub that : IsPrefix seen.seen (pass_of new).seen
 
--- The pass of the command learnt what was seen before and did its line; the others did nothing. What it has then seen is seen.
+-- The pass of the command learnt all that was seen before, and executed its line; the other passes did nothing. What this pass
+-- has then seen is what the next one learns.
 pub record TakesTurn (rules : Rules) (always : Bool) (c : Command) (seen : Sight) (old new : List (Option Work)) (seen_then : Sight) : Type 0 where
   pub before : Work
   pub desk : Desk
