@@ -11,7 +11,7 @@ The programs must have been built, as `rt ci` does. Each part prints what it tri
   docs/FORMATS.md says: status 4 or 5 with its message and, but for a failed write, nothing written; a front of the
   output after a failed write; or just what it writes otherwise.
 - Scripts and histories of examples/, cut at every byte, are told as docs/FORMATS.md says.
-- `lockbench texts` tries scripts and histories that were changed by chance, N of them.
+- tools/changed_texts.py has `lockrun` run and check N scripts and histories that were changed by chance.
 - `lockbench soak` plays random requests on threads for S seconds, a third of them on tables that keep their history whole, a third
   on streamed ones, and a third on one that records nothing and may not grow. `lockrun check` reads the histories that are left.
 - The tests of waits run N times each, on processors that are busy with the others. `lockbench load --wait` has more sleeping
@@ -36,14 +36,14 @@ CRATES = os.path.join(os.path.dirname(HERE), 'crates')
 # Tests that hold whichever one allocation is refused, by crate: those whose names begin so.
 TESTS = [
     ('lt_links', 'links::tests::after_refused_memory'),
-    ('lt_lock_tests', 'tests::the_'),
+    ('lt_rules_tests', 'linked::the_'),
     ('lt_words_tests', 'tests::a_refused_open'),
     ('lt_words_tests', 'tests::a_book_is_used_by_its_name'),
     ('lt_schedules_tests', 'tests::schedules_come_out_alike'),
     ('lt_table_tests', 'refusals::'),
-    ('lt_texts_tests', 'histories::'),
-    ('lt_texts_tests', 'scripts::'),
-    ('lt_texts_tests', 'names::a_short_key_and_a_long_one'),
+    ('lt_tool_tests', 'texts::histories::'),
+    ('lt_tool_tests', 'texts::scripts::'),
+    ('lt_tool_tests', 'texts::names::a_short_key_and_a_long_one'),
     ('lt_tool_tests', 'checks::'),
     ('lt_tool_tests', 'scripts::'),
     ('lt_tool_tests', 'words::'),
@@ -359,7 +359,7 @@ def wait_again(report, lanes, folder, times):
 def main():
     parser = argparse.ArgumentParser(description=__doc__, formatter_class=argparse.RawDescriptionHelpFormatter)
     parser.add_argument('--seconds', type=int, default=600)
-    parser.add_argument('--texts', type=int, default=1000000)
+    parser.add_argument('--texts', type=int, default=100000)
     parser.add_argument('--runs', type=int, default=2000)
     parser.add_argument('--waits', type=int, default=10)
     given = parser.parse_args()
@@ -369,7 +369,8 @@ def main():
         refuse_in_tests(report, shim, lanes)
         refuse_in_program(report, shim, lanes)
         cut_everywhere(report, lanes)
-        ends_with_none_wrong(report, [built('lockbench'), 'texts', '--count', str(given.texts)], folder)
+        change = [sys.executable, os.path.join(HERE, 'changed_texts.py'), '--count', str(given.texts)]
+        ends_with_none_wrong(report, change, os.path.dirname(HERE))
         soak(report, folder, given.seconds)
         wait_again(report, lanes, folder, given.waits)
         compare = [sys.executable, os.path.join(HERE, 'random_runs.py'), '--runs', str(given.runs)]

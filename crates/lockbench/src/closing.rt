@@ -1,10 +1,10 @@
 //! A table is closed, however it kept its steps, and what was taken of it is put together with what is left.
 use crate::taking::Piece;
-use lt_history::Entry;
+use lt_entry::Entry;
 use lt_plain::KeyTable;
 use lt_table::{Histories, Keeping, Rest, Rests, Table};
-use lt_table_player::run::{close_all, gather};
-use lt_table_player::seat::Seat;
+use lt_test_kit::run::{close_all, gather};
+use lt_test_kit::seat::Seat;
 use lt_words::Name;
 use std::alloc::Global;
 use std::sync::Wait;

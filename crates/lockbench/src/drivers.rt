@@ -25,8 +25,8 @@ use lt_plain::KeyTable;
 use lt_table::{
     Answer, EnterRefused, Guard, LeaveStopped, Left, Poll, Scan, ScanError, StepError, Table,
 };
-use lt_table_player::holds::Holds;
-use lt_table_player::seat::Seat;
+use lt_test_kit::holds::Holds;
+use lt_test_kit::seat::Seat;
 use lt_words::{Name, Pass};
 use std::alloc::Global;
 use std::sync::Wait;

@@ -3,8 +3,7 @@
 //! - `load` times rounds of a store's transactions on a table, on one thread or many, that keeps its history whole, streams it,
 //!   or records none;
 //! - `sleep` measures the processor time of many requests that sleep at one key, and checks the order in which they go on;
-//! - `soak --seconds N` plays random requests on threads for so long, and checks the histories;
-//! - `texts --count N` runs and checks so many scripts and histories that were changed by chance.
+//! - `soak --seconds N` plays random requests on threads for so long, and checks the histories.
 #![tactic(auto)]
 
 mod closing;
@@ -14,7 +13,6 @@ mod memory;
 mod sleeping;
 mod soak;
 mod taking;
-mod texts;
 mod words;
 
 use crate::words::Job;
@@ -32,7 +30,6 @@ fn run<H: Threads + Wait + Clock + CpuClock + Sync>(
     let alloc = rt.alloc();
     match words::asked(alloc, words)? {
         Job::Soak(soak) => soak::report(threads, rt, alloc, &soak),
-        Job::Texts(count) => texts::report(threads, rt, alloc, count),
         Job::Load(load, trace) => {
             let name = trace.as_ref().map(|name| name.as_str());
             load::report(threads, rt, alloc, &load, name)

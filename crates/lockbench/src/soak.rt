@@ -2,7 +2,7 @@
 //!
 //! A round opens a table of linked queues with a pass for each thread. Each thread plays the calls of one request after
 //! another, by chance among those that make sense, until its shards are full, its numbers are used up, or it has made enough
-//! calls. Then the table is closed, the histories are written to a file, and the file is checked as `lockrun check` does.
+//! calls. Then the table is closed, and the text of its histories is checked, and left in a file.
 //! What is wrong is counted: an answer that the rules of a request (`docs/RULES.md`) exclude, histories with another number
 //! of steps or of draws than the calls told of, and a check that says something else.
 //!
@@ -15,22 +15,20 @@ use crate::closing::{Ending, close};
 use crate::memory::resident;
 use crate::taking::{Piece, Taker, take_until};
 use anyhow::bail;
-use lt_history::{Entry, Report, compose};
+use lt_history::{Entry, Report, check, compose};
 use lt_ids::Access;
-use lt_lock::LinkedTable;
 use lt_plain::{KeyTable, Reply};
-use lt_rules_tests::random::Random;
 use lt_table::{
     Config, Keeping, Poll, Ready, Scan, ScanError, StepError, Table, open, prepare_with,
 };
-use lt_table_player::command::{Command, Told};
-use lt_table_player::desk::{Line, play};
-use lt_table_player::run::seated;
-use lt_table_player::seat::Seat;
-use lt_tool::check_text;
+use lt_test_kit::command::{Command, Told};
+use lt_test_kit::desk::{Line, play};
+use lt_test_kit::random::Random;
+use lt_test_kit::run::seated;
+use lt_test_kit::seat::Seat;
 use lt_words::Name;
 use std::alloc::{AllocError, Global};
-use std::fs::{File, Files, write};
+use std::fs::{Files, write};
 use std::marker::Brand;
 use std::rt::Runtime;
 use std::sync::Wait;
@@ -528,9 +526,7 @@ fn report_of<F: Files>(
 ) -> anyhow::Result<Report> {
     let text = compose(alloc, histories)?;
     write(files, FILE, text.as_slice())?;
-    let mut reader = File::open(files, FILE)?;
-    let mut told = Vec::new(alloc);
-    Ok(check_text(alloc, &mut reader, &mut told)?)
+    Ok(check(alloc, text.as_slice())?)
 }
 
 /// How many steps the check of the histories tells of. An unrecorded table has none to check, and its own count stands.

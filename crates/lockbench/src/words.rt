@@ -12,8 +12,6 @@ use std::alloc::{AllocError, Global};
 #[derive(Drop)]
 pub enum Job {
     Soak(Soak),
-    /// So many texts.
-    Texts(u64),
     /// The file is for a trace.
     Load(Load, Option<String>),
     Sleep(Sleep),
@@ -67,12 +65,6 @@ fn trace<'a>(alloc: Global) -> Arg<'a> {
         )
 }
 
-fn texts<'a>(alloc: Global) -> Result<Command<'a>, AllocError> {
-    Command::new(alloc, "texts")
-        .about("Runs and checks scripts and histories that were changed by chance")
-        .arg(number(alloc, "count", "So many; 100000 if left out"))
-}
-
 fn load<'a>(alloc: Global) -> Result<Command<'a>, AllocError> {
     Command::new(alloc, "load")
         .about("Times rounds of enter, scan, acquire, finish and leave on a table")
@@ -105,8 +97,7 @@ fn command<'a>(alloc: Global) -> Result<Command<'a>, AllocError> {
         .bin_name("lockbench")?
         .subcommand(load(alloc)?)?
         .subcommand(sleep(alloc)?)?
-        .subcommand(soak(alloc)?)?
-        .subcommand(texts(alloc)?)
+        .subcommand(soak(alloc)?)
 }
 
 /// The number of an option, at most so great; where it is left out, the default.
@@ -181,7 +172,6 @@ fn job_of(alloc: Global, matches: &ArgMatches<'_>) -> anyhow::Result<Job> {
     Ok(match name {
         "soak" => Job::Soak(soak_of(inner)?),
         "sleep" => Job::Sleep(sleep_of(inner)?),
-        "texts" => Job::Texts(number_of(inner, "count", 100_000, 1 << 40)?),
         _ => load_job(alloc, inner)?,
     })
 }

@@ -5,13 +5,14 @@ ghost use Rattle.std.specs.FinMap as finmap;
 
 use crate::watched::{Stop, Stopping, Watched};
 use lt_ids::{Access, Key, Timestamp, TxnId};
-use lt_plain::{KeyTable, Reply};
-use lt_table::{
-    Config, EnterRefused, Poll, Ready, Scan, Table, Waker, open_waking, open_with, prepare,
+use lt_plain::{KeyTable, PlainTable, Reply};
+use lt_table_core::{
+    Config, EnterRefused, Poll, Ready, Scan, Table, Waker, empty_tables, open_waking_with,
+    open_with, prepare,
 };
-use lt_table_player::run::seated;
-use lt_table_player::seat::Seat;
-use lt_table_player::tables::empty_tables;
+use lt_test_kit::plain::plain_tables;
+use lt_test_kit::run::seated;
+use lt_test_kit::seat::Seat;
 use lt_words::Name;
 use std::alloc::{AllocError, Global};
 use std::marker::Brand;
@@ -413,7 +414,13 @@ fn wake_named<N: Name + Send + Sync, R: Threads + Wait + Sync>(
 {
     let stop = Stop::at(keys.0);
     let waker = Stopping { stop: &stop };
-    let (table, passes) = open_waking::<N, Stopping<'_>>(alloc, ready, waker).ok()?;
+    let Ok(tables) = plain_tables(alloc, ready.config().shards) else {
+        ready.abandon();
+        return None;
+    };
+    let (table, passes) = open_waking_with::<N, PlainTable, Stopping<'_>>(
+        alloc, ready, tables, waker,
+    ).ok()?;
     let seats = seated::<N>(alloc, passes)?;
     wake_on(rt, alloc, &table, &stop, seats, keys)
 }

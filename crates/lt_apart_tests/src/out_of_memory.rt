@@ -7,13 +7,14 @@ ghost use Rattle.std.specs.FinMap as finmap;
 use crate::scarce::Scarce;
 use lt_ids::Access;
 use lt_plain::{KeyState, KeyTable, Reply};
-use lt_table::{Config, Histories, Ready, Scan, ScanError, StepError, Table, open_with, prepare};
-use lt_table_player::asking::{Question, Sight, ask_through};
-use lt_table_player::command::{Command, Row, Told};
-use lt_table_player::desk::play;
-use lt_table_player::run::{close_all, seated};
-use lt_table_player::seat::Seat;
-use lt_table_player::tables::empty_tables;
+use lt_table_core::{
+    Config, Histories, Ready, Scan, ScanError, StepError, Table, empty_tables, open_with, prepare,
+};
+use lt_test_kit::asking::{Question, Sight, ask_through};
+use lt_test_kit::command::{Command, Row, Told};
+use lt_test_kit::desk::play;
+use lt_test_kit::run::{close_all, seated};
+use lt_test_kit::seat::Seat;
 use lt_words::Name;
 use std::alloc::{AllocError, Global};
 use std::marker::Brand;

@@ -1,6 +1,6 @@
 use crate::beside::{Apart, Polled, Woken, poll, two_acquires, wake};
 use lt_plain::Reply;
-use lt_table::{Poll, Scan};
+use lt_table_core::{Poll, Scan};
 use std::test::Fail;
 
 /// Of four shards no two share a lock: at each two of them, one acquire is made while another is inside.

@@ -2,7 +2,7 @@
 use crate::flag::Flag;
 use lt_ids::{Access, Key, Request, Through, Ticket, Timestamp, TxnId};
 use lt_plain::{KeyState, KeyTable, PlainTable, Reply};
-use lt_table::Waker;
+use lt_table_core::Waker;
 use std::alloc::{AllocError, Global};
 
 /// The acquire of one key stops here, or a waker.

@@ -7,18 +7,19 @@ use Rattle.std.specs.Str.{bytes_eq}
 use Rattle.std.proofs.lemmas.List.{map-append, get_or-replicate}
 use Rattle.std.proofs.lemmas.List.Elements.{recursion_from_All, Contains-append_left, Contains-append_right, Contains-push, filter-append}
 use mathlib.Core.List.{IsPrefix}
-use Rattle.lt_history.specs.declared.entry.Entry.{Entry}
-use Rattle.lt_history.specs.Histories.{AreLegalKeys, IsInRange, event_of}
-use Rattle.lt_history.specs.Histories.{part as key_part}
-use Rattle.lt_history.proofs.Keys.{same_key}
+use Rattle.lt_entry.specs.declared.entry.Entry.{Entry}
+use Rattle.lt_entry.specs.Legal.{AreLegalKeys, event_of}
+use Rattle.lt_entry.specs.Ranges.{IsInRange}
+use Rattle.lt_entry.specs.Legal.{part as key_part}
+use Rattle.lt_entry.proofs.SameKeys.{same_key}
 use Rattle.lt_plain.specs.Step.{IsLegal}
 use Rattle.lt_words.specs.declared.event.Event.{Event}
 use Rattle.lt_words.specs.History.{part, shard_of, draws_of}
 use Rattle.lt_words.specs.Row.{Opening, Seer, fresh, fresh_passes}
 use Rattle.lt_script.specs.declared.command.Command.{Command}
-use Rattle.lt_table.specs.Reported.{GuardState, steps_at}
-use Rattle.lt_table.specs.Closed.{IsClosed, counts_at, passes_of}
-use Rattle.lt_table.proofs.Ends.{counts_append}
+use Rattle.lt_table_core.specs.Reported.{GuardState, steps_at}
+use Rattle.lt_table_core.specs.Closed.{IsClosed, counts_at, passes_of}
+use Rattle.lt_table_core.proofs.Ends.{counts_append}
 use Rattle.lt_desk.specs.declared.answer.AnswerLine.{AnswerLine}
 use Rattle.lt_desk.specs.declared.desk.Desk.{Desk}
 use Rattle.lt_desk.specs.declared.desk.Desk.TheVariants.{Free, Open}

@@ -12,10 +12,10 @@ use Rattle.lt_words.specs.Row.{Seer}
 use Rattle.lt_shard.specs.declared.answer.Answer.{Answer}
 use Rattle.lt_shard.specs.declared.answer.StepError.{StepError}
 use Rattle.lt_shard.specs.declared.answer.StepError.TheVariants as steps
-use Rattle.lt_table.specs.declared.progress.Progress.{Progress}
-use Rattle.lt_table.specs.Entered.{at_start}
-use Rattle.lt_table.specs.Machine.{WalkState, Step}
-use Rattle.lt_table.specs.Reported.{GuardState, Reported}
+use Rattle.lt_table_core.specs.declared.progress.Progress.{Progress}
+use Rattle.lt_table_core.specs.Entered.{at_start}
+use Rattle.lt_table_core.specs.Machine.{WalkState, Step}
+use Rattle.lt_table_core.specs.Reported.{GuardState, Reported}
 use Rattle.lt_desk.specs.declared.desk.Desk.{Desk}
 use Rattle.lt_desk.specs.declared.desk.Desk.TheVariants.{Free, Open}
 use Rattle.lt_desk.specs.declared.desk.Told.{Told}

@@ -4,14 +4,14 @@ use Rattle.std.specs.Prelude.{slice_get}
 use Rattle.lt_ids.specs.declared.timestamp.Timestamp.{Timestamp}
 use Rattle.lt_ids.specs.declared.request.Access.{Access}
 use Rattle.lt_plain.specs.declared.call.Call.{Call}
-use Rattle.lt_table.specs.Machine.{Step, Asked, heard, scan_start, polled, WalkState, IsScanBegun}
-use Rattle.lt_table.specs.declared.progress.Progress.{Progress}
-use Rattle.lt_table.specs.declared.scan.Scan.{Scan}
-use Rattle.lt_table.specs.declared.scan.Scan.TheVariants as scans
-use Rattle.lt_table.specs.declared.scan.ScanError.{ScanError}
-use Rattle.lt_table.specs.declared.scan.ScanError.TheVariants as refused
-use Rattle.lt_table.specs.declared.scan.Poll.{Poll}
-use Rattle.lt_table.specs.declared.scan.Poll.TheVariants as polls
+use Rattle.lt_table_core.specs.Machine.{Step, Asked, heard, scan_start, polled, WalkState, IsScanBegun}
+use Rattle.lt_table_core.specs.declared.progress.Progress.{Progress}
+use Rattle.lt_table_core.specs.declared.scan.Scan.{Scan}
+use Rattle.lt_table_core.specs.declared.scan.Scan.TheVariants as scans
+use Rattle.lt_table_core.specs.declared.scan.ScanError.{ScanError}
+use Rattle.lt_table_core.specs.declared.scan.ScanError.TheVariants as refused
+use Rattle.lt_table_core.specs.declared.scan.Poll.{Poll}
+use Rattle.lt_table_core.specs.declared.scan.Poll.TheVariants as polls
 use Rattle.lt_script.specs.declared.command.Action.{Action}
 use Rattle.lt_script.specs.declared.command.Action.TheVariants as acts
 use Rattle.lt_desk.specs.declared.answer.LineAnswer.{LineAnswer}

@@ -11,7 +11,7 @@ use Rattle.lt_words.specs.declared.event.Event.{Event}
 use Rattle.lt_words.specs.History.{draws_of}
 use Rattle.lt_words.specs.Row.{Opening, Seer, Sight}
 use Rattle.lt_script.specs.declared.command.Command.{Command}
-use Rattle.lt_table.specs.Machine.{WalkState, Step}
+use Rattle.lt_table_core.specs.Machine.{WalkState, Step}
 use Rattle.lt_desk.specs.declared.desk.Desk.{Desk}
 use Rattle.lt_desk.specs.declared.desk.Desk.TheVariants.{Free}
 use Rattle.lt_desk.specs.declared.answer.LineAnswer.{LineAnswer}

@@ -6,16 +6,16 @@ use Rattle.lt_ids.specs.declared.request.Access.{Access}
 use Rattle.lt_plain.specs.declared.call.Call.{Call}
 use Rattle.lt_plain.specs.declared.call.Call.TheVariants as calls
 use Rattle.lt_plain.specs.declared.call.Reply.{Reply}
-use Rattle.lt_table.specs.Machine.{Step, heard, polled, polled_in, WalkState}
-use Rattle.lt_table.specs.declared.progress.Mode.{Mode}
-use Rattle.lt_table.specs.declared.progress.Mode.TheVariants as modes
-use Rattle.lt_table.specs.declared.scan.Scan.{Scan}
-use Rattle.lt_table.specs.declared.scan.Scan.TheVariants as scans
-use Rattle.lt_table.specs.declared.scan.ScanError.{ScanError}
-use Rattle.lt_table.specs.declared.scan.ScanError.TheVariants as refused
-use Rattle.lt_table.specs.declared.scan.Poll.{Poll}
-use Rattle.lt_table.specs.declared.scan.Poll.TheVariants as polls
-use Rattle.lt_table.specs.Reported.{wait_of}
+use Rattle.lt_table_core.specs.Machine.{Step, heard, polled, polled_in, WalkState}
+use Rattle.lt_table_core.specs.declared.progress.Mode.{Mode}
+use Rattle.lt_table_core.specs.declared.progress.Mode.TheVariants as modes
+use Rattle.lt_table_core.specs.declared.scan.Scan.{Scan}
+use Rattle.lt_table_core.specs.declared.scan.Scan.TheVariants as scans
+use Rattle.lt_table_core.specs.declared.scan.ScanError.{ScanError}
+use Rattle.lt_table_core.specs.declared.scan.ScanError.TheVariants as refused
+use Rattle.lt_table_core.specs.declared.scan.Poll.{Poll}
+use Rattle.lt_table_core.specs.declared.scan.Poll.TheVariants as polls
+use Rattle.lt_table_core.specs.Reported.{wait_of}
 use Rattle.lt_script.specs.declared.command.Action.{Action}
 use Rattle.lt_script.specs.declared.command.Action.TheVariants as acts
 use Rattle.lt_desk.specs.declared.answer.LineAnswer.{LineAnswer}

@@ -8,17 +8,17 @@ use Rattle.lt_plain.specs.declared.call.Call.{Call}
 use Rattle.lt_words.specs.History.{LetIn}
 use Rattle.lt_shard.specs.declared.answer.StepError.{StepError}
 use Rattle.lt_shard.specs.declared.answer.StepError.TheVariants as steps
-use Rattle.lt_table.specs.declared.progress.Mode.{Mode}
-use Rattle.lt_table.specs.declared.progress.Mode.TheVariants.{Free, Awaiting, Let, Stopped, Leaving}
-use Rattle.lt_table.specs.declared.progress.Progress.{Progress}
-use Rattle.lt_table.specs.declared.scan.Scan.{Scan}
-use Rattle.lt_table.specs.declared.scan.Scan.TheVariants as scans
-use Rattle.lt_table.specs.declared.scan.ScanError.{ScanError}
-use Rattle.lt_table.specs.declared.scan.ScanError.TheVariants as refused
-use Rattle.lt_table.specs.declared.scan.Poll.{Poll}
-use Rattle.lt_table.specs.declared.scan.Poll.TheVariants as polls
-use Rattle.lt_table.specs.Machine.{heard, mode_heard, polled, polled_in, scan_start_in, scan_end, is_awaiting, is_stopped, next_visit, WalkState, Step, Ends, IsScanBegun, of_step}
-use Rattle.lt_table.specs.Reported.{GuardState, IsScan, IsPoll, wait_of}
+use Rattle.lt_table_core.specs.declared.progress.Mode.{Mode}
+use Rattle.lt_table_core.specs.declared.progress.Mode.TheVariants.{Free, Awaiting, Let, Stopped, Leaving}
+use Rattle.lt_table_core.specs.declared.progress.Progress.{Progress}
+use Rattle.lt_table_core.specs.declared.scan.Scan.{Scan}
+use Rattle.lt_table_core.specs.declared.scan.Scan.TheVariants as scans
+use Rattle.lt_table_core.specs.declared.scan.ScanError.{ScanError}
+use Rattle.lt_table_core.specs.declared.scan.ScanError.TheVariants as refused
+use Rattle.lt_table_core.specs.declared.scan.Poll.{Poll}
+use Rattle.lt_table_core.specs.declared.scan.Poll.TheVariants as polls
+use Rattle.lt_table_core.specs.Machine.{heard, mode_heard, polled, polled_in, scan_start_in, scan_end, is_awaiting, is_stopped, next_visit, WalkState, Step, Ends, IsScanBegun, of_step}
+use Rattle.lt_table_core.specs.Reported.{GuardState, IsScan, IsPoll, wait_of}
 use Rattle.lt_desk.specs.Told.{Tells}
 use Rattle.lt_desk.specs.declared.answer.LineAnswer.{LineAnswer}
 use Rattle.lt_desk.specs.declared.answer.LineAnswer.TheVariants as answers

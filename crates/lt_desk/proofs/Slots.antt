@@ -7,7 +7,7 @@ use mathlib.Core.List.{IsPrefix}
 use Rattle.lt_words.specs.declared.event.Event.{Event}
 use Rattle.lt_words.specs.Row.{Opening, Seer, Sight}
 use Rattle.lt_script.specs.declared.command.Command.{Command}
-use Rattle.lt_table.specs.Machine.{Step}
+use Rattle.lt_table_core.specs.Machine.{Step}
 use Rattle.lt_desk.specs.declared.desk.Desk.{Desk}
 use Rattle.lt_desk.specs.declared.outcome.Work.{Work}
 use Rattle.lt_desk.specs.declared.outcome.OutOfMemory.{OutOfMemory}

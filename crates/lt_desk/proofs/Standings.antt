@@ -4,7 +4,7 @@ use Rattle.std.specs.Prelude.{slice_get}
 use Rattle.std.specs.List.{flat_map, sum, AllByRecursion}
 use Rattle.std.proofs.lemmas.Nat.{mod_below}
 use Rattle.lt_ids.specs.Ids.{Wait}
-use Rattle.lt_history.specs.declared.entry.Entry.{Entry}
+use Rattle.lt_entry.specs.declared.entry.Entry.{Entry}
 use Rattle.lt_words.specs.declared.event.Event.{Event}
 use Rattle.lt_words.specs.declared.event.Event.TheVariants.{Opened, Draw, Step}
 use Rattle.lt_words.specs.History.{part, shard_of, Among, LetIn, DrewIn, StepsAtHome, IsLegalHistory}
@@ -13,7 +13,7 @@ use Rattle.lt_words.proofs.Draws.{draws_stay, numbers_are_of_one_pass}
 use Rattle.lt_words.proofs.Prefixes.{prefix_get}
 use Rattle.lt_words.proofs.Parts.{beginnings_are_legal}
 use Rattle.lt_script.specs.declared.command.Command.{Command}
-use Rattle.lt_table.specs.Machine as runs
+use Rattle.lt_table_core.specs.Machine as runs
 use Rattle.lt_desk.specs.declared.outcome.Work.{Work}
 use Rattle.lt_desk.specs.Told.{StandsIn, IsBefore, Ascend, Rise, IsDrawn}
 use Rattle.lt_desk.specs.Desks.{pass_of}

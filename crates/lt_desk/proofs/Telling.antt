@@ -7,7 +7,7 @@ use mathlib.Core.List.{IsPrefix}
 use Rattle.lt_ids.specs.Ids.{Wait}
 use Rattle.lt_ids.specs.declared.timestamp.Timestamp.{Timestamp}
 use Rattle.lt_ids.specs.declared.request.Access.{Access}
-use Rattle.lt_history.specs.declared.entry.Entry.{Entry}
+use Rattle.lt_entry.specs.declared.entry.Entry.{Entry}
 use Rattle.lt_words.specs.declared.event.Event.{Event}
 use Rattle.lt_words.specs.declared.event.Event.TheVariants.{Opened, Draw, Step}
 use Rattle.lt_words.specs.History.{part, shard_of, draws_of, DrewIn, LetIn}
@@ -15,10 +15,10 @@ use Rattle.lt_words.specs.Row.{Opening, Seer, SeesMore, GoesTo}
 use Rattle.lt_words.proofs.Prefixes.{prefix_trans, prefix_get}
 use Rattle.lt_words.proofs.Histories.{part_length, part_prefix, let_later}
 use Rattle.lt_words.proofs.Draws.{draws_stay}
-use Rattle.lt_table.specs.Machine as runs
-use Rattle.lt_table.specs.Entered.{IsEntered}
-use Rattle.lt_table.specs.Reported.{GuardState, Reported, AreReported, steps_at}
-use Rattle.lt_table.proofs.InPlace.{all_counted}
+use Rattle.lt_table_core.specs.Machine as runs
+use Rattle.lt_table_core.specs.Entered.{IsEntered}
+use Rattle.lt_table_core.specs.Reported.{GuardState, Reported, AreReported, steps_at}
+use Rattle.lt_table_core.proofs.InPlace.{all_counted}
 use Rattle.lt_desk.specs.Told.{StandsAt, StandsIn, IsSeen, ComesAfter, IsBefore, Ascend, Rise, IsDrawn, Tells, part_of}
 
 pub all_append : {A : Type 0} (P : A → Type 0) (xs ys : List A) → AllByRecursion P xs → AllByRecursion P ys → AllByRecursion P (xs ++ ys)

@@ -5,8 +5,8 @@ use mathlib.Core.List.{IsPrefix}
 use Rattle.lt_words.specs.declared.event.Event.{Event}
 use Rattle.lt_words.specs.History.{part, IsLegalHistory}
 use Rattle.lt_words.specs.Row.{Seer}
-use Rattle.lt_table.specs.Closed.{counts_at}
-use Rattle.lt_table.specs.Reported.{GuardState}
+use Rattle.lt_table_core.specs.Closed.{counts_at}
+use Rattle.lt_table_core.specs.Reported.{GuardState}
 use Rattle.lt_desk.specs.declared.desk.Desk.{Desk}
 use Rattle.lt_desk.specs.declared.desk.Desk.TheVariants.{Free, Open}
 use Rattle.lt_desk.specs.declared.outcome.Finish.{Finish}

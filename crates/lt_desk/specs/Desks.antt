@@ -1,7 +1,7 @@
 -- What a pass has between two of its lines.
 use Rattle.std.specs.Prelude.{Option, Some, None}
 use Rattle.lt_words.specs.Row.{Seer}
-use Rattle.lt_table.specs.Machine.{WalkState}
+use Rattle.lt_table_core.specs.Machine.{WalkState}
 use Rattle.lt_desk.specs.declared.desk.Desk.{Desk}
 use Rattle.lt_desk.specs.declared.desk.Desk.TheVariants.{Free, Open}
 

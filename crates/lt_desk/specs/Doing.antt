@@ -4,9 +4,9 @@ use Rattle.lt_ids.specs.Ids.{Wait}
 use Rattle.lt_shard.specs.declared.answer.Answer.{Answer}
 use Rattle.lt_shard.specs.declared.answer.StepError.{StepError}
 use Rattle.lt_shard.specs.declared.answer.StepError.TheVariants as steps
-use Rattle.lt_table.specs.declared.scan.Poll.{Poll}
-use Rattle.lt_table.specs.Machine.{polled, WalkState, Step}
-use Rattle.lt_table.specs.Reported.{GuardState}
+use Rattle.lt_table_core.specs.declared.scan.Poll.{Poll}
+use Rattle.lt_table_core.specs.Machine.{polled, WalkState, Step}
+use Rattle.lt_table_core.specs.Reported.{GuardState}
 use Rattle.lt_desk.specs.declared.desk.Desk.{Desk}
 use Rattle.lt_desk.specs.declared.desk.Told.{Told}
 use Rattle.lt_desk.specs.declared.outcome.OutOfMemory.{OutOfMemory}

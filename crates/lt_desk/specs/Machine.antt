@@ -7,19 +7,19 @@ use Rattle.lt_ids.specs.declared.request.Access.{Access}
 use Rattle.lt_plain.specs.declared.call.Call.{Call}
 use Rattle.lt_plain.specs.declared.call.Call.TheVariants as calls
 use Rattle.lt_shard.specs.declared.answer.Answer.{Answer}
-use Rattle.lt_table.specs.declared.config.Config.{Config}
-use Rattle.lt_table.specs.declared.progress.Mode.{Mode}
-use Rattle.lt_table.specs.declared.progress.Mode.TheVariants.{Awaiting, Let}
-use Rattle.lt_table.specs.declared.scan.Scan.{Scan}
-use Rattle.lt_table.specs.declared.scan.Scan.TheVariants as scans
-use Rattle.lt_table.specs.declared.scan.ScanError.{ScanError}
-use Rattle.lt_table.specs.declared.scan.ScanError.TheVariants as refused
-use Rattle.lt_table.specs.declared.scan.Poll.{Poll}
-use Rattle.lt_table.specs.declared.scan.Poll.TheVariants as polls
-use Rattle.lt_table.specs.Keys.{IsKeyList}
-use Rattle.lt_table.specs.Machine.{heard, polled, WalkState, Step, IsWalkScan, IsLeft, IsRefusedLeave}
-use Rattle.lt_table.specs.Entered.{at_start}
-use Rattle.lt_table.specs.Reported.{wait_of}
+use Rattle.lt_table_core.specs.declared.config.Config.{Config}
+use Rattle.lt_table_core.specs.declared.progress.Mode.{Mode}
+use Rattle.lt_table_core.specs.declared.progress.Mode.TheVariants.{Awaiting, Let}
+use Rattle.lt_table_core.specs.declared.scan.Scan.{Scan}
+use Rattle.lt_table_core.specs.declared.scan.Scan.TheVariants as scans
+use Rattle.lt_table_core.specs.declared.scan.ScanError.{ScanError}
+use Rattle.lt_table_core.specs.declared.scan.ScanError.TheVariants as refused
+use Rattle.lt_table_core.specs.declared.scan.Poll.{Poll}
+use Rattle.lt_table_core.specs.declared.scan.Poll.TheVariants as polls
+use Rattle.lt_table_core.specs.Keys.{IsKeyList}
+use Rattle.lt_table_core.specs.Machine.{heard, polled, WalkState, Step, IsWalkScan, IsLeft, IsRefusedLeave}
+use Rattle.lt_table_core.specs.Entered.{at_start}
+use Rattle.lt_table_core.specs.Reported.{wait_of}
 use Rattle.lt_script.specs.declared.command.Action.{Action}
 use Rattle.lt_script.specs.declared.command.Action.TheVariants as acts
 use Rattle.lt_script.specs.declared.command.Command.{Command}

@@ -2,10 +2,11 @@
 use Rattle.std.specs.Prelude.{ℕ, ◌≡◌, ◌≤◌, ◌+◌, Bool, List, [], ◌∷◌, ◌++◌, length, map, None, Option}
 use Rattle.std.specs.Global.{Vec}
 use Rattle.std.specs.List.{flat_map, AllByRecursion}
-use Rattle.lt_history.specs.declared.entry.Entry.{Entry}
-use Rattle.lt_history.specs.Histories.{AreLegalKeys, IsInRange}
+use Rattle.lt_entry.specs.declared.entry.Entry.{Entry}
+use Rattle.lt_entry.specs.Legal.{AreLegalKeys}
+use Rattle.lt_entry.specs.Ranges.{IsInRange}
 use Rattle.lt_script.specs.declared.command.Command.{Command}
-use Rattle.lt_table.specs.Machine.{WalkState}
+use Rattle.lt_table_core.specs.Machine.{WalkState}
 use Rattle.lt_desk.specs.declared.answer.AnswerLine.{AnswerLine}
 use Rattle.lt_desk.specs.declared.outcome.Finish.{Finish}
 use Rattle.lt_desk.specs.declared.outcome.Ran.{Ran}

@@ -2,10 +2,10 @@
 use Rattle.std.specs.Prelude.{ℕ, ◌≡◌, ◌≢◌, ◌<◌, ◌+◌, List, [], ◌∷◌, ◌++◌, length, map, Some, slice_get, slice_index_or}
 use Rattle.std.specs.List.{flat_map, AllByRecursion}
 use Rattle.lt_ids.specs.Ids.{Wait}
-use Rattle.lt_history.specs.declared.entry.Entry.{Entry}
+use Rattle.lt_entry.specs.declared.entry.Entry.{Entry}
 use Rattle.lt_words.specs.History.{shard_of, Among}
-use Rattle.lt_table.specs.Machine.{Step}
-use Rattle.lt_table.specs.Reported.{steps_at}
+use Rattle.lt_table_core.specs.Machine.{Step}
+use Rattle.lt_table_core.specs.Reported.{steps_at}
 use Rattle.lt_desk.specs.Told.{StandsAt}
 use Rattle.lt_desk.specs.Machine.{Deed, deed_numbers, deed_lets}
 use Rattle.lt_desk.specs.Worked.{deed_steps}

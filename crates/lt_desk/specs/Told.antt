@@ -3,12 +3,12 @@ use Rattle.std.specs.Prelude.{ℕ, ◌≡◌, ◌+◌, ◌<◌, ◌≤◌, List,
 use Rattle.std.specs.List.{AllByRecursion}
 use mathlib.Core.List.{IsPrefix}
 use Rattle.lt_ids.specs.Ids.{Wait}
-use Rattle.lt_history.specs.declared.entry.Entry.{Entry}
+use Rattle.lt_entry.specs.declared.entry.Entry.{Entry}
 use Rattle.lt_words.specs.declared.event.Event.{Event}
 use Rattle.lt_words.specs.History.{part, shard_of, draws_of, DrewIn, LetIn}
 use Rattle.lt_words.specs.Row.{Seer}
-use Rattle.lt_table.specs.Machine.{Step}
-use Rattle.lt_table.specs.Reported.{steps_at}
+use Rattle.lt_table_core.specs.Machine.{Step}
+use Rattle.lt_table_core.specs.Reported.{steps_at}
 
 -- The step stands at its place among these entries of its shard, as one of this pass.
 pub record StandsAt (pass : ℕ) (entries : List Entry) (x : Step) : Type 0 where

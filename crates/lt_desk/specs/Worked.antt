@@ -3,7 +3,7 @@ use Rattle.std.specs.Prelude.{ℕ, ◌≡◌, ◌⊎◌, ◌==◌, Bool, true, f
 use Rattle.std.specs.List.{flat_map, AllByRecursion}
 use Rattle.lt_words.specs.History.{draws_of}
 use Rattle.lt_words.specs.Row.{Seer}
-use Rattle.lt_table.specs.Machine.{Step}
+use Rattle.lt_table_core.specs.Machine.{Step}
 use Rattle.lt_script.specs.declared.command.Command.{Command}
 use Rattle.lt_desk.specs.declared.desk.Desk.{Desk}
 use Rattle.lt_desk.specs.declared.desk.Desk.TheVariants.{Free}

@@ -2,7 +2,7 @@
 ghost use Rattle.std.specs.Prelude.{◌≡◌, ◌<◌, ℕ, IfOk, length, Ok};
 ghost use Rattle.lt_words.specs.History.{draws_of};
 ghost use Rattle.lt_plain.specs.declared.call.Call.TheVariants.{Acquire, Update, Finish};
-ghost use Rattle.lt_table.specs.declared.scan.Scan.TheVariants.{Waiting, TooLong};
+ghost use Rattle.lt_table_core.specs.declared.scan.Scan.TheVariants.{Waiting, TooLong};
 ghost use Rattle.lt_desk.specs.Desks.{pass_of};
 ghost use Rattle.lt_desk.specs.Machine.{IsOpened, IsScanned, IsScanAnswer, IsAwaited, IsLooked, IsMade, IsLeave, IsDone, IsOutOnlyAt, rules_of, let_read, let_gone_on, lets_of, poll_answer};
 ghost use Rattle.lt_desk.specs.Doing.{Does, IsTold, Polls, no_lets};
@@ -14,7 +14,7 @@ use crate::outcome::OutOfMemory;
 use lt_ids::{Access, Key, Timestamp, TxnId};
 use lt_plain::KeyTable;
 use lt_script::Action;
-use lt_table::{
+use lt_table_core::{
     Answer, EnterError, EnterRefused, Guard, LeaveStopped, Left, Poll, Scan, ScanError, StepError,
     Table,
 };

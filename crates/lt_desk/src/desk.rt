@@ -3,7 +3,7 @@ ghost use Rattle.lt_desk.specs.Desks.{pass_of};
 ghost use Rattle.lt_desk.specs.Turns.{Learns};
 
 use crate::answer::LineAnswer;
-use lt_table::Guard;
+use lt_table_core::Guard;
 use lt_words::{Front, Pass};
 
 /// What a pass has between two of its lines: a request, or none.

@@ -1,6 +1,6 @@
 use crate::answer::AnswerLine;
 use crate::desk::Desk;
-use lt_history::Entry;
+use lt_entry::Entry;
 use lt_words::Pass;
 use std::marker::Model;
 

@@ -9,7 +9,7 @@ use crate::outcome::{OutOfMemory, Seat, Work};
 use crate::worker::{begin, lines_by_pass, lines_of_pass, next_line, work};
 use lt_plain::KeyTable;
 use lt_script::Command;
-use lt_table::Table;
+use lt_table_core::Table;
 use lt_words::{Front, Name, Pass, abandon_all};
 use std::alloc::Global;
 use std::sync::Wait;

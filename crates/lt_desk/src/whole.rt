@@ -1,7 +1,8 @@
 //! A whole run: a table is opened, the lines are run, and the table is closed.
 ghost use Rattle.std.specs.Prelude.{◌≡◌, ◌≤◌, ◌<◌, ◌+◌, ◌^◌, ◌⊎◌, [], IfOk, length, map, vec_capacity};
 ghost use Rattle.std.specs.List.{All, AllByRecursion};
-ghost use Rattle.lt_table.specs.Closed.{passes_of};
+ghost use Rattle.std.specs.FinMap as finmap;
+ghost use Rattle.lt_table_core.specs.Closed.{passes_of};
 ghost use Rattle.lt_desk.specs.Desks.{pass_of};
 ghost use Rattle.lt_desk.specs.Machine.{rules_of};
 ghost use Rattle.lt_desk.specs.Turns.{AreNumbered, HaveRun, IsAmong};
@@ -15,7 +16,7 @@ use crate::outcome::{Finish, OutOfMemory, Ran, RunFault, Work};
 use crate::running::{run_in_turn, run_on_threads, seats_of};
 use lt_plain::KeyTable;
 use lt_script::Command;
-use lt_table::{CloseError, Config, Guard, Ready, Table, open, prepare};
+use lt_table_core::{CloseError, Config, Guard, Ready, Table, open_with, prepare};
 use lt_words::{Name, Pass, abandon_all};
 use std::alloc::Global;
 use std::marker::Brand;
@@ -138,23 +139,31 @@ fn run_lines<N: Name + Send + Sync, T: KeyTable + Send, G: Gate + Sync, R: Threa
     }
 }
 
-fn run_named<N: Name + Send + Sync, G: Gate + Sync, R: Threads + Wait + Sync>(
+fn run_named<
+    N: Name + Send + Sync,
+    T: KeyTable + Drop + Send,
+    G: Gate + Sync,
+    R: Threads + Wait + Sync,
+>(
     rt: &R,
     alloc: Global,
     ready: Ready,
+    tables: Vec<T>,
     gate: &G,
     turns: Option<u64>,
     commands: &[Command],
 ) -> Result<Ran, RunFault>
     requires named { ready.of ≡ N.of }
     requires shards { ready.config.shards ≡ N.of.shards }
+    requires many { length tables.items ≡ N.of.shards }
+    requires empty { All (λ t. T.records t ≡ finmap.empty) tables.items }
     requires passes { ready.config.passes ≡ N.of.passes }
     requires some { 0 < N.of.shards }
     requires some_passes { 0 < N.of.passes }
     requires among { AllByRecursion (IsAmong ready.config.passes) commands.now }
     ensures { IfOk result (λ ran. IsRan (rules_of ready.config turns) (G.always gate.now) ready.config.shards commands.now ran) }
 {
-    let Ok((table, passes)) = open::<N>(alloc, ready) else {
+    let Ok((table, passes)) = open_with::<N, T>(alloc, ready, tables) else {
         return Err(RunFault::Memory);
     };
     let works = run_lines(rt, alloc, &table, gate, turns, passes, commands)?;
@@ -203,26 +212,28 @@ fn most_passes(commands: &[Command]) -> usize
     most
 }
 
-/// Runs the commands over the public calls of a table that is opened for them, with so many shards and so many steps for
-/// each, and closes it. With turns each pass runs its lines on a thread of its own, and a line `await` polls so often; else
-/// the lines run in their order on one thread, and `await` polls once. The gate is asked before each line.
-pub fn run<G: Gate + Sync, R: Threads + Wait + Sync>(
+/// Runs the commands over the public calls of a table that is opened for them, over these tables, one for each of its shards,
+/// and with so many steps for each, and closes it. With turns each pass runs its lines on a thread of its own, and a line
+/// `await` polls so often; else the lines run in their order on one thread, and `await` polls once. The gate is asked before
+/// each line.
+pub fn run<T: KeyTable + Drop + Send, G: Gate + Sync, R: Threads + Wait + Sync>(
     rt: &R,
     alloc: Global,
-    shards: usize,
+    tables: Vec<T>,
     max_steps: u64,
     turns: Option<u64>,
     gate: &G,
     commands: &[Command],
 ) -> Result<Ran, RunFault>
-    requires some_shards { 1 ≤ shards }
-    requires few_shards { shards ≤ 64 }
+    requires some_shards { 1 ≤ length tables.items }
+    requires few_shards { length tables.items ≤ 64 }
+    requires empty { All (λ t. T.records t ≡ finmap.empty) tables.items }
     requires some_steps { 1 ≤ max_steps }
     requires few_steps { max_steps ≤ 2 ^ 32 }
-    ensures { IfOk result (λ ran. IsRan (run_rules max_steps turns) (G.always gate.now) shards commands.now ran) }
+    ensures { IfOk result (λ ran. IsRan (run_rules max_steps turns) (G.always gate.now) (length tables.items) commands.now ran) }
 {
     let config = Config {
-        shards,
+        shards: tables.len(),
         passes: most_passes(commands),
         max_steps,
         max_requests: 1099511627775,
@@ -231,5 +242,5 @@ pub fn run<G: Gate + Sync, R: Threads + Wait + Sync>(
     let Ok(ready) = prepare(alloc, config) else {
         return Err(RunFault::Memory);
     };
-    run_named::<Brand, G, R>(rt, alloc, ready, gate, turns, commands)
+    run_named::<Brand, T, G, R>(rt, alloc, ready, tables, gate, turns, commands)
 }

@@ -11,7 +11,7 @@ use crate::gate::Gate;
 use crate::outcome::{Finish, OutOfMemory, Work};
 use lt_plain::KeyTable;
 use lt_script::Command;
-use lt_table::Table;
+use lt_table_core::Table;
 use lt_words::{Name, Pass};
 use std::alloc::Global;
 use std::sync::Wait;

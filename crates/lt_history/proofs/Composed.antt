@@ -9,7 +9,7 @@ use Rattle.lt_text.specs.Compose.{spaced}
 use Rattle.lt_text.specs.Fields.{ticket_word}
 use Rattle.lt_text.specs.Calls.{call_words}
 use Rattle.lt_text.specs.Replies.{reply_words}
-use Rattle.lt_history.specs.declared.entry.Entry.{Entry}
+use Rattle.lt_entry.specs.declared.entry.Entry.{Entry}
 use Rattle.lt_history.specs.Lines.{lets_words, line_text}
 use Rattle.lt_history.specs.Histories.{parts_of_entry}
 

@@ -5,11 +5,12 @@ use Rattle.std.specs.Str.{bytes_eq}
 use Rattle.std.proofs.lemmas.Bool.{false≢true, ne_eqb}
 use Rattle.std.proofs.lemmas.List.{length-append}
 use Rattle.std.proofs.lemmas.List.Sums.{sum_by-append, sum_by-cons}
-use Rattle.lt_history.specs.declared.entry.Entry.{Entry}
+use Rattle.lt_entry.specs.declared.entry.Entry.{Entry}
 use Rattle.lt_history.specs.Lines.{Parts}
 use Rattle.lt_history.specs.Text.{key_count}
-use Rattle.lt_history.specs.Histories.{part, precedes, Rise, AreKeysOf, parts_of_entry, lines_from, lines_of}
-use Rattle.lt_history.proofs.Keys.{same_key, key_itself}
+use Rattle.lt_history.specs.Histories.{precedes, Rise, AreKeysOf, parts_of_entry, lines_from, lines_of}
+use Rattle.lt_entry.specs.Legal.{part}
+use Rattle.lt_entry.proofs.SameKeys.{same_key, key_itself}
 use Rattle.lt_history.proofs.Grouped.{is_head, is_later, head_or_later, none_in_none, part_same, part_other, some_part, lines_of_others}
 
 -- ---- first lines

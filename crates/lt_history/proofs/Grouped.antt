@@ -5,12 +5,14 @@ use Rattle.std.specs.Str.{bytes_eq}
 use Rattle.std.proofs.lemmas.Bool.{false≢true}
 use Rattle.std.proofs.lemmas.List.Elements.{All-contains, All-from_recursion, Contains-append_right}
 use Rattle.std.proofs.lemmas.Map.Made.{Contains-tail}
-use Rattle.lt_history.specs.declared.entry.Entry.{Entry}
+use Rattle.lt_entry.specs.declared.entry.Entry.{Entry}
 use Rattle.lt_history.specs.Lines.{Parts}
 use Rattle.lt_history.specs.Text.{text_of}
-use Rattle.lt_history.specs.Histories.{part, precedes, Rise, AreKeysOf, IsTextOf, parts_of_entry, lines_from, lines_of}
+use Rattle.lt_history.specs.Histories.{precedes, Rise, AreKeysOf, IsTextOf, parts_of_entry, lines_from, lines_of}
+use Rattle.lt_entry.specs.Legal.{part}
 use Rattle.lt_history.specs.Sorted.{RiseFrom, HaveSameParts, lines_after}
-use Rattle.lt_history.proofs.Keys.{same_key, key_itself, same_or_after, apart, apart_back, before_before, before_upto, apart_keys}
+use Rattle.lt_history.proofs.Keys.{same_or_after, apart, apart_back, before_before, before_upto, apart_keys}
+use Rattle.lt_entry.proofs.SameKeys.{same_key, key_itself}
 
 -- ---- keys in a list
 

@@ -8,17 +8,11 @@ use Rattle.std.specs.Cmp.Lexicographic.{slice_cmp}
 use Rattle.std.proofs.lemmas.Cmp.{nat_list_cmp_total}
 use Rattle.std.proofs.lemmas.Map.Text.{is_eq-slice_cmp}
 use Rattle.std.proofs.lemmas.Bool.{false≢true}
-use Rattle.std.proofs.lemmas.Slice.Eq.{bytes_eq-Decides}
+use Rattle.lt_entry.proofs.SameKeys.{same_key}
 use Rattle.lt_history.specs.Histories.{precedes}
 
 abbrev order : List ℕ → List ℕ → Ordering
 order = slice_cmp nat_cmp
-
-pub same_key : (a b : List ℕ) → bytes_eq a b ≡ true → a ≡ b
-same_key a b e = (bytes_eq-Decides a b).0 e
-
-pub key_itself : (a : List ℕ) → bytes_eq a a ≡ true
-key_itself a = (bytes_eq-Decides a a).1 refl
 
 less : (o : Ordering) → is_lt o ≡ true → o ≡ Less
 less Less e = refl

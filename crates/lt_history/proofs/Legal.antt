@@ -7,11 +7,14 @@ use Rattle.std.proofs.lemmas.List.Sums.{length-filter, count_by-le-length}
 use Rattle.lt_plain.specs.Rules.{Record, empty}
 use Rattle.lt_plain.specs.Step.{step, IsLegalFrom}
 use Rattle.lt_text.specs.Replies.{is_reply_of}
-use Rattle.lt_history.specs.declared.entry.Entry.{Entry}
+use Rattle.lt_entry.specs.declared.entry.Entry.{Entry}
 use Rattle.lt_history.specs.Lines.{Parts, IsLine}
 use Rattle.lt_history.specs.Text.{Spot, start, index_after, record_before, spot_after, outcome, AreLegalFrom, AreLegal}
-use Rattle.lt_history.specs.Histories.{event_of, part, AreLegalKeys, IsInRange, precedes, Rise, AreKeysOf, parts_of_entry, lines_from, lines_of}
-use Rattle.lt_history.proofs.Keys.{same_key, key_itself, not_back, apart_back, precedes_itself, upto_before}
+use Rattle.lt_history.specs.Histories.{precedes, Rise, AreKeysOf, parts_of_entry, lines_from, lines_of}
+use Rattle.lt_entry.specs.Legal.{event_of, part, AreLegalKeys}
+use Rattle.lt_entry.specs.Ranges.{IsInRange}
+use Rattle.lt_history.proofs.Keys.{not_back, apart_back, precedes_itself, upto_before}
+use Rattle.lt_entry.proofs.SameKeys.{same_key, key_itself}
 use Rattle.lt_history.proofs.Grouped.{is_head, is_later, weaker}
 use Rattle.lt_history.proofs.Fits.{step_fits}
 

@@ -7,7 +7,8 @@ use Rattle.std.proofs.lemmas.Option.{same_Some}
 use Rattle.std.proofs.lemmas.Slice.Eq.{bytes_eq-Decides}
 use Rattle.lt_ids.specs.Ids.{Wait}
 use Rattle.lt_text.specs.Maybe.{◌>>=◌}
-use Rattle.lt_text.specs.Fields.{ticket_word, IsTicket, ticket_of}
+use Rattle.lt_text.specs.Fields.{ticket_word, ticket_of}
+use Rattle.lt_entry.specs.Ranges.{IsTicket}
 use Rattle.lt_history.specs.Lines.{lets_words, tickets_of, if_any, lets_of}
 use Rattle.lt_text.proofs.Plain.{ArePlain}
 use Rattle.lt_text.proofs.FieldLaws.{bind_some, ticket_field}

@@ -1,3 +1,4 @@
+pub mod First
 pub mod Keys
 pub mod Sorting
 pub mod Composed
@@ -9,7 +10,6 @@ pub mod Counts
 pub mod Steps
 pub mod Tickets
 pub mod Places
-pub mod OneMore
 pub mod LetsLaws
 pub mod PartsLaws
 pub mod LineLaws

@@ -10,11 +10,13 @@ use Rattle.std.specs.Cmp.Lexicographic.{slice_cmp}
 use Rattle.std.proofs.lemmas.Cmp.{nat_list_cmp_total}
 use Rattle.std.proofs.lemmas.Map.Text.{is_eq-slice_cmp}
 use Rattle.std.proofs.lemmas.List.Elements.{filter_agree}
-use Rattle.lt_history.specs.declared.entry.Entry.{Entry}
+use Rattle.lt_entry.specs.declared.entry.Entry.{Entry}
 use Rattle.lt_history.specs.declared.composer.Ranked.{Ranked}
-use Rattle.lt_history.specs.Histories.{precedes, part}
+use Rattle.lt_history.specs.Histories.{precedes}
+use Rattle.lt_entry.specs.Legal.{part}
 use Rattle.lt_history.specs.Sorted.{RiseFrom, HaveSameParts}
-use Rattle.lt_history.proofs.Keys.{same_key, never_before_none}
+use Rattle.lt_history.proofs.Keys.{never_before_none}
+use Rattle.lt_entry.proofs.SameKeys.{same_key}
 
 abbrev key_of : Ranked → List ℕ
 key_of e = e.entry.now.key

@@ -5,13 +5,16 @@ use Rattle.std.specs.Str.{bytes_eq}
 use Rattle.lt_ids.specs.Ids.{Wait}
 use Rattle.lt_plain.specs.Rules.{Record, empty}
 use Rattle.lt_plain.specs.Step.{IsLegalFrom}
-use Rattle.lt_text.specs.Fields.{IsTicket}
-use Rattle.lt_history.specs.declared.entry.Entry.{Entry}
+use Rattle.lt_entry.specs.Ranges.{IsTicket}
+use Rattle.lt_entry.specs.declared.entry.Entry.{Entry}
 use Rattle.lt_history.specs.Lines.{Parts}
 use Rattle.lt_history.specs.Text.{Spot, start, record_before, spot_after, outcome, Follows, AreLegalFrom, AreLegal}
-use Rattle.lt_history.specs.Histories.{event_of, part, AreLegalKeys, IsInRange, precedes, parts_of_entry}
+use Rattle.lt_history.specs.Histories.{precedes, parts_of_entry}
+use Rattle.lt_entry.specs.Legal.{event_of, part, AreLegalKeys}
+use Rattle.lt_entry.specs.Ranges.{IsInRange}
 use Rattle.lt_history.specs.Sorted.{RiseFrom, next_index, lines_after}
-use Rattle.lt_history.proofs.Keys.{same_key, key_itself, not_back, apart_back, upto_before, apart_keys, never_before_none, precedes_itself}
+use Rattle.lt_history.proofs.Keys.{not_back, apart_back, upto_before, apart_keys, never_before_none, precedes_itself}
+use Rattle.lt_entry.proofs.SameKeys.{same_key, key_itself}
 use Rattle.lt_history.proofs.Grouped.{part_same, part_other, none_below}
 
 -- the entry that a line tells, with those whom the rules let through

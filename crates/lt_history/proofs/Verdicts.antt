@@ -12,13 +12,14 @@ use Rattle.lt_history.specs.declared.error.Fault.TheVariants.{Header, Shape, Key
 use Rattle.lt_history.specs.Lines.{Parts, IsLine, line_text}
 use Rattle.lt_history.specs.Text.{Spot, IsOf, start, text_by, spot_after, spot_from, IsWrong, AreLegalFrom, key_count, HasFault, FailsAt, Fails}
 use Rattle.lt_history.specs.Version.{IsVersion, IsLegalOf, header_of, is_first, is_too_long}
-use Rattle.lt_history.specs.declared.entry.Entry.{Entry}
-use Rattle.lt_plain.specs.First as first
+use Rattle.lt_entry.specs.declared.entry.Entry.{Entry}
+use Rattle.lt_history.specs.First as first
 use Rattle.lt_plain.specs.Step.{IsLegal}
-use Rattle.lt_plain.proofs.First.{first_rules_hold}
+use Rattle.lt_history.proofs.First.{first_rules_hold}
 use Rattle.std.specs.Str.{bytes_eq}
 use Rattle.std.proofs.lemmas.Bool.Decides.{nat_tests}
-use Rattle.lt_history.specs.Histories.{AreLegalKeys, AreLegalKeysBy, IsEntryOf, event_of, part, lines_from, lines_of}
+use Rattle.lt_history.specs.Histories.{AreLegalKeysBy, IsEntryOf, lines_from, lines_of}
+use Rattle.lt_entry.specs.Legal.{AreLegalKeys, event_of, part}
 use Rattle.lt_history.specs.Verdict.{IsLegalText, IsReported, Judges, Says, IsOrMemory, upgraded, of_latest}
 use Rattle.lt_history.proofs.LineLaws.{one_line, no_empty_line}
 use Rattle.lt_history.proofs.Loop.{IsSpoiled, spoiled, line_takes_room}

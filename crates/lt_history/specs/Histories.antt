@@ -1,53 +1,13 @@
--- Histories as lists of entries: which are legal, and what their text is.
---
--- A history is a list of entries, in the order in which the steps were made. The steps of different keys may stand in
--- any order between one another: only the part of each key counts, and the text has key after key.
-use Rattle.std.specs.Prelude.{ℕ, ◌≡◌, ◌≢◌, ◌↔◌, ◌+◌, ◌≤◌, Bool, true, List, [], ◌∷◌, map, filter, Contains}
+-- The text of a history: key after key, rising, each key's entries in their order.
+use Rattle.std.specs.Prelude.{ℕ, ◌≡◌, ◌≢◌, ◌↔◌, ◌+◌, Bool, true, List, [], ◌∷◌, map, Contains}
 use Rattle.std.specs.List.{flat_map, AllByRecursion}
-use Rattle.std.specs.Str.{bytes_eq}
 use Rattle.std.specs.Ordering.{nat_cmp, is_lt}
 use Rattle.std.specs.Cmp.Lexicographic.{slice_cmp}
-use Rattle.lt_ids.specs.Key.{IsKey}
-use Rattle.lt_ids.specs.Ids.{IsNumber}
-use Rattle.lt_text.specs.Fields.{IsTicket}
-use Rattle.lt_text.specs.Calls.{IsCall}
-use Rattle.lt_text.specs.Replies.{IsReply}
-use Rattle.lt_plain.specs.declared.call.Call.{Call}
-use Rattle.lt_plain.specs.declared.call.Call.TheVariants.{Leave, Look}
-use Rattle.lt_plain.specs.Step.{Event, IsLegal}
-use Rattle.lt_history.specs.declared.entry.Entry.{Entry}
+use Rattle.lt_entry.specs.declared.entry.Entry.{Entry}
+use Rattle.lt_entry.specs.Legal.{event_of, part}
 use Rattle.lt_history.specs.Lines.{Parts}
 use Rattle.lt_history.specs.Text.{text_by}
 use Rattle.lt_history.specs.Version.{is_first, is_of_version, IsLegalOf}
-
--- ---- legal histories
-
--- the step of its key's history that an entry tells
-abbrev pub event_of : Entry → Event
-event_of e = record { pass = e.pass; call = e.call; reply = e.reply; lets = e.lets }
-
--- the entries of a key, in their order
-abbrev pub part : List ℕ → List Entry → List Entry
-part key es = filter (λ e. bytes_eq e.key key) es
-
--- Each key's entries are a legal history of that key.
-abbrev pub AreLegalKeys : List Entry → Type 0
-AreLegalKeys es = (key : List ℕ) → IsLegal (map event_of (part key es))
-
--- The numbers that an entry names are in their ranges. Its types keep all but the pass, and the number of a leave or
--- a look.
-pub record IsInRange (e : Entry) : Type 0 where
-  pub key : IsKey e.key
-  pub pass : (1 ≤ e.pass) × (e.pass ≤ 1024)
-  pub call : IsCall e.call
-  pub reply : IsReply e.reply
-  pub lets : AllByRecursion IsTicket (map (λ t. t.ticket) e.lets)
-
--- The number that a leave or a look names is one that a request can have.
-abbrev pub NamesNumber : Call → Type 0
-NamesNumber (Leave number) = IsNumber number
-NamesNumber (Look number) = IsNumber number
-NamesNumber _ = Unit {0}
 
 -- ---- the keys of a history
 

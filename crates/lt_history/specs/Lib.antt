@@ -1,5 +1,5 @@
+pub mod First
 pub mod Fault
-pub mod Entry
 pub mod Version
 pub mod Lines
 pub mod Text

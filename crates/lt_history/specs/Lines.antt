@@ -11,9 +11,12 @@ use Rattle.lt_history.specs.declared.error.Refusal.TheVariants as refusals
 use Rattle.lt_history.specs.declared.line.Step.{Step}
 use Rattle.lt_history.specs.declared.line.Line.{Line}
 use Rattle.lt_text.specs.Maybe.{◌>>=◌}
-use Rattle.lt_text.specs.Fields.{ticket_word, IsTicket, number_within, ticket_of}
-use Rattle.lt_text.specs.Calls.{call_words, IsCall, field_at, call_at}
-use Rattle.lt_text.specs.Replies.{reply_words, IsReply, is_reply_of, reply_at}
+use Rattle.lt_text.specs.Fields.{ticket_word, number_within, ticket_of}
+use Rattle.lt_entry.specs.Ranges.{IsTicket}
+use Rattle.lt_text.specs.Calls.{call_words, field_at, call_at}
+use Rattle.lt_entry.specs.Ranges.{IsCall}
+use Rattle.lt_text.specs.Replies.{reply_words, is_reply_of, reply_at}
+use Rattle.lt_entry.specs.Ranges.{IsReply}
 
 -- what a line says
 pub record Parts : Type 0 where

@@ -1,9 +1,10 @@
 -- Entries in the order of their keys, and the lines that they have one after the other.
 use Rattle.std.specs.Prelude.{ℕ, ◌≡◌, ◌+◌, false, if◌then◌else◌, List, [], ◌∷◌}
 use Rattle.std.specs.Str.{bytes_eq}
-use Rattle.lt_history.specs.declared.entry.Entry.{Entry}
+use Rattle.lt_entry.specs.declared.entry.Entry.{Entry}
 use Rattle.lt_history.specs.Lines.{Parts}
-use Rattle.lt_history.specs.Histories.{precedes, part, parts_of_entry}
+use Rattle.lt_history.specs.Histories.{precedes, parts_of_entry}
+use Rattle.lt_entry.specs.Legal.{part}
 
 -- No entry's key precedes that of the one before it, the first one's not this key.
 abbrev pub RiseFrom : List ℕ → List Entry → Type 0

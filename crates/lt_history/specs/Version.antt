@@ -5,7 +5,7 @@ use Rattle.lt_plain.specs.declared.call.Call.{Call}
 use Rattle.lt_plain.specs.declared.call.Reply.{Reply}
 use Rattle.lt_plain.specs.declared.call.Reply.TheVariants.{TooLong}
 use Rattle.lt_plain.specs.Step.{Event, IsLegal}
-use Rattle.lt_plain.specs.First as first
+use Rattle.lt_history.specs.First as first
 
 abbrev pub IsVersion : ℕ → Type 0
 IsVersion version = (version ≡ 1) ⊎ (version ≡ 2)
@@ -27,5 +27,5 @@ is_of_version version call reply = if is_first version then first.is_of_first ca
 
 -- legal by the rules of the first version, or by those of the second
 abbrev pub IsLegalOf : Bool → List Event → Type 0
-IsLegalOf true es = first.IsLegal es
+IsLegalOf true es = first.IsLegalFirst es
 IsLegalOf false es = IsLegal es

@@ -3,7 +3,7 @@ ghost use Rattle.lt_history.specs.Place.{spot};
 ghost use Rattle.lt_history.specs.Lines.{IsLine, line_text, parts_of};
 ghost use Rattle.lt_history.specs.Text.{IsOf, IsShapelessIn, TakesLine, HasFaultOr, Fails};
 ghost use Rattle.lt_history.specs.Version.{IsVersion, header_of, is_first, is_too_long, is_of_version};
-ghost use Rattle.lt_plain.specs.First.{is_of_first};
+ghost use Rattle.lt_history.specs.First.{is_of_first};
 ghost use Rattle.lt_history.specs.Verdict.{located, Judges, Says, IsLegalText, IsOrMemory, upgraded, of_latest};
 
 use crate::error::{Fault, Refusal};

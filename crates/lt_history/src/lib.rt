@@ -23,14 +23,14 @@
 
 mod checker;
 mod composer;
-mod entry;
 mod error;
+pub mod laws;
 mod line;
 mod place;
 mod printer;
 
 pub use checker::{CheckError, Report, check, upgrade};
 pub use composer::{compose, put_histories};
-pub use entry::Entry;
 pub use error::Fault;
+pub use lt_entry::Entry;
 pub use printer::{PrintError, print, write_out};

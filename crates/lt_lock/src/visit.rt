@@ -22,6 +22,13 @@ use lt_plain::{Holder, Reply};
 use std::alloc::AllocError;
 use std::cmp::Ordering;
 
+/// What a visit asks of the key, and the bound of its request.
+#[derive(Clone, Copy)]
+struct Asked {
+    longest: u32,
+    access: Access,
+}
+
 /// Puts a new request in its place among the writers.
 fn put_writer(links: &mut Links, to: &Queue, stand: &Stand) -> Result<(), AllocError>
     requires there { has_record links.old to.now.id ≡ true }
@@ -182,21 +189,20 @@ fn visit_held(
     holder: &Holder,
     found: &Option<Found>,
     stand: &Stand,
-    longest: u32,
-    access: Access,
+    asked: Asked,
 ) -> Result<Reply, AllocError>
     requires row { IsRow links.old row.now }
     requires found { Finds links.old row.now.id stand.now.number found.now }
     requires active { stand.now.active ≡ true }
     requires named { IsNamed stand.now }
-    ensures ok { IfOk result (λ reply. Went links.old links.new row.now row.now.id (visit_held (stop_reading (record_of links.old row.now) stand.now.number) holder.now (request_of stand.now) longest access) reply []) }
+    ensures ok { IfOk result (λ reply. Went links.old links.new row.now row.now.id (visit_held (stop_reading (record_of links.old row.now) stand.now.number) holder.now (request_of stand.now) asked.longest asked.access) reply []) }
     ensures err { OnErr result (links.new ≡ links.old) }
-    ensures no_memory { TakesNoMemory (stop_reading (record_of links.old row.now) stand.now.number) (visit_held (stop_reading (record_of links.old row.now) stand.now.number) holder.now (request_of stand.now) longest access) → IsOk result }
+    ensures no_memory { TakesNoMemory (stop_reading (record_of links.old row.now) stand.now.number) (visit_held (stop_reading (record_of links.old row.now) stand.now.number) holder.now (request_of stand.now) asked.longest asked.access) → IsOk result }
 {
-    match access {
+    match asked.access {
         Access::Read if stand.ts < holder.ts => Ok(pass(links, row, found, stand)),
         Access::Read => wait_to_read(links, row, found, stand),
-        Access::Write => join_writers(links, row, found, stand, longest),
+        Access::Write => join_writers(links, row, found, stand, asked.longest),
     }
 }
 
@@ -256,8 +262,7 @@ fn visit_reserved(
     reservation: &Stand,
     found: &Option<Found>,
     stand: &Stand,
-    longest: u32,
-    access: Access,
+    asked: Asked,
 ) -> Result<Reply, AllocError>
     requires row { IsRow links.old row.now }
     requires unheld { row.now.holder ≡ None }
@@ -265,17 +270,17 @@ fn visit_reserved(
     requires found { Finds links.old row.now.id stand.now.number found.now }
     requires active { stand.now.active ≡ true }
     requires named { IsNamed stand.now }
-    ensures ok { IfOk result (λ reply. Went links.old links.new row.now row.now.id (visit_reserved (stop_reading (record_of links.old row.now) stand.now.number) (request_of reservation.now) (request_of stand.now) longest access) reply []) }
+    ensures ok { IfOk result (λ reply. Went links.old links.new row.now row.now.id (visit_reserved (stop_reading (record_of links.old row.now) stand.now.number) (request_of reservation.now) (request_of stand.now) asked.longest asked.access) reply []) }
     ensures err { OnErr result (links.new ≡ links.old) }
-    ensures no_memory { TakesNoMemory (stop_reading (record_of links.old row.now) stand.now.number) (visit_reserved (stop_reading (record_of links.old row.now) stand.now.number) (request_of reservation.now) (request_of stand.now) longest access) → IsOk result }
+    ensures no_memory { TakesNoMemory (stop_reading (record_of links.old row.now) stand.now.number) (visit_reserved (stop_reading (record_of links.old row.now) stand.now.number) (request_of reservation.now) (request_of stand.now) asked.longest asked.access) → IsOk result }
 {
-    if access == Access::Read {
+    if asked.access == Access::Read {
         return Ok(pass(links, row, found, stand));
     }
     match stand.number.cmp(&reservation.number) {
         Ordering::Less => displace(links, row, reservation, found, stand),
         Ordering::Equal => Ok(pass(links, row, found, stand)),
-        Ordering::Greater => join_writers(links, row, found, stand, longest),
+        Ordering::Greater => join_writers(links, row, found, stand, asked.longest),
     }
 }
 
@@ -284,23 +289,22 @@ fn visit_lock(
     row: &Row,
     found: &Option<Found>,
     stand: &Stand,
-    longest: u32,
-    access: Access,
+    asked: Asked,
 ) -> Result<Reply, AllocError>
     requires row { IsRow links.old row.now }
     requires found { Finds links.old row.now.id stand.now.number found.now }
     requires active { stand.now.active ≡ true }
     requires named { IsNamed stand.now }
-    ensures ok { IfOk result (λ reply. Went links.old links.new row.now row.now.id (visit_lock row.now.holder (record_of links.old row.now).reservation (stop_reading (record_of links.old row.now) stand.now.number) (request_of stand.now) longest access) reply []) }
+    ensures ok { IfOk result (λ reply. Went links.old links.new row.now row.now.id (visit_lock row.now.holder (record_of links.old row.now).reservation (stop_reading (record_of links.old row.now) stand.now.number) (request_of stand.now) asked.longest asked.access) reply []) }
     ensures err { OnErr result (links.new ≡ links.old) }
-    ensures no_memory { TakesNoMemory (stop_reading (record_of links.old row.now) stand.now.number) (visit_lock row.now.holder (record_of links.old row.now).reservation (stop_reading (record_of links.old row.now) stand.now.number) (request_of stand.now) longest access) → IsOk result }
+    ensures no_memory { TakesNoMemory (stop_reading (record_of links.old row.now) stand.now.number) (visit_lock row.now.holder (record_of links.old row.now).reservation (stop_reading (record_of links.old row.now) stand.now.number) (request_of stand.now) asked.longest asked.access) → IsOk result }
 {
     match (&row.holder, &reserved(links, row)) {
         (Some(holder), _) if !is_of(stand, holder.txn) => {
-            visit_held(links, row, holder, found, stand, longest, access)
+            visit_held(links, row, holder, found, stand, asked)
         }
         (None, Some(reservation)) => {
-            visit_reserved(links, row, reservation, found, stand, longest, access)
+            visit_reserved(links, row, reservation, found, stand, asked)
         }
         _ => Ok(pass(links, row, found, stand)),
     }
@@ -322,7 +326,7 @@ pub(crate) fn visit(
     ensures no_memory { TakesNoMemory (record_of links.old row.old) (visit (record_of links.old row.old) (request_of stand.now) longest access) → IsOk result }
 {
     let found = find(links, row.id, stand.number);
-    let reply = visit_lock(links, row, &found, stand, longest, access)?;
+    let reply = visit_lock(links, row, &found, stand, Asked { longest, access })?;
     settle(links, row);
     Ok(reply)
 }

@@ -3,9 +3,8 @@
 //! A key's [`Record`](../specs/Rules.antt) says who holds its lock, for whom the lock is reserved, and who waits. The
 //! definitions in `specs/` say what each call makes of a record, what it answers and whom it lets through: `Visit`
 //! has the cases of a visit, `Rules` the other calls, `Step` a call as a value, the legal histories of a key, and who
-//! holds its lock by the events alone, `Lawful` which records come about, `First` the rules as they were before
-//! requests without a transaction and bounds came in. They are what a reader has to believe, but for `Codes`, which
-//! proofs alone need; `docs/RULES.md` tells them in words and pictures.
+//! holds its lock by the events alone, `Lawful` which records come about. They are what a reader has to believe, but for
+//! `Codes`, which proofs alone need; `docs/RULES.md` tells them in words and pictures.
 //!
 //! [`KeyTable`] is the contract of a table: each call is the step of the rules on its key alone. [`PlainTable`] keeps
 //! it with sorted vectors in an ordered map; it is the plain form to read, to test against, and to check histories

@@ -1,15 +1,19 @@
-//! The rules of one key, evaluated a second time and compared with the tables on random calls.
+//! The rules of one key: examples worked by hand, and random calls at both tables and at a second reading of the rules.
 //!
-//! [`second::Second`] is written from the tables of `docs/RULES.md`, with none of the code or the definitions of
-//! `lt_plain`; it is compared call by call, on the reply, the lets, and what every number then finds. So a slip in
-//! the definitions themselves, which no proof can show, would show here. [`cases`] counts what came about, so that no
-//! case of the rules is left out.
+//! [`worked`] has the examples, and [`second_reading`] compares the plain table with `lt_test_kit::second`, which is written from
+//! the tables of `docs/RULES.md`. [`linked`] has the plain table and the linked one side by side. A call for which an
+//! allocation failed must have changed nothing there, and is made again; so its tests pass under any single allocation
+//! failure, as by `rt try --test --fail-alloc N`. What came about at a key is counted as the cases of the rules, and each must
+//! have come about.
 #![tactic(auto)]
 
-pub mod cases;
-pub mod random;
-pub mod second;
 #[cfg(test)]
-mod tests;
+mod calls;
+#[cfg(test)]
+mod linked;
+#[cfg(test)]
+mod second_reading;
+#[cfg(test)]
+mod sight;
 #[cfg(test)]
 mod worked;

@@ -3,8 +3,8 @@ use crate::standing::{Standing, Wanted};
 use crate::steps::{Asked, Step};
 use lt_plain::Reply;
 use lt_table::{EnterError, Poll, Scan, ScanError, StepError};
-use lt_table_player::command::{Command, Told};
-use lt_table_player::desk::Line;
+use lt_test_kit::command::{Command, Told};
+use lt_test_kit::desk::Line;
 
 /// A kind of answer, or something that happens on the way.
 #[derive(Clone, Copy, Debug, PartialEq, Eq)]

@@ -1,32 +1,18 @@
 //! Runs over plain tables.
-ghost use Rattle.std.specs.Prelude.{◌≡◌, IfOk, length};
+ghost use Rattle.std.specs.Prelude.{◌≡◌, length};
 ghost use Rattle.std.specs.List.{All};
 ghost use Rattle.std.specs.FinMap as finmap;
 
 use lt_plain::PlainTable;
 use lt_table::{Config, Ready, open_with, prepare};
-use lt_table_player::asking::Question;
-use lt_table_player::command::{Row, TableCall};
-use lt_table_player::run::{Ran, play_all};
-use lt_table_player::tables::empty_tables;
+use lt_test_kit::asking::Question;
+use lt_test_kit::command::{Row, TableCall};
+use lt_test_kit::plain::plain_tables;
+use lt_test_kit::run::{Ran, play_all};
 use lt_words::Name;
-use std::alloc::{AllocError, Global};
+use std::alloc::Global;
 use std::marker::Brand;
 use std::sync::Wait;
-
-/// So many empty tables.
-fn plain_tables(alloc: Global, count: usize) -> Result<Vec<PlainTable>, AllocError>
-    ensures many { IfOk result (λ tables. length tables.items ≡ count) }
-    ensures empty { IfOk result (λ tables. All (λ t. t ≡ finmap.empty) tables.items) }
-{
-    empty_tables(
-        alloc,
-        count,
-        || -> PlainTable
-            ensures { result ≡ finmap.empty }
-        { PlainTable::new(alloc) },
-    )
-}
 
 fn run_named<N: Name, R: Wait>(
     rt: &R,

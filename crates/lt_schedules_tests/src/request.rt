@@ -1,9 +1,9 @@
 use crate::steps::{Asked, Steps};
 use lt_ids::Access;
 use lt_plain::Reply;
-use lt_rules_tests::second::Time;
 use lt_table::{Poll, Scan, ScanError, StepError};
-use lt_table_player::command::Told;
+use lt_test_kit::command::Told;
+use lt_test_kit::second::Time;
 use std::alloc::{AllocError, Global};
 
 /// What a request does.

@@ -4,11 +4,11 @@ use crate::cases::Counts;
 use crate::standing::Wanted;
 use crate::table::SecondTable;
 use lt_ids::Access;
-use lt_rules_tests::random::Random;
 use lt_table::Config;
-use lt_table_player::asking::Question;
-use lt_table_player::command::{Command, Row};
-use lt_table_player::desk::Line;
+use lt_test_kit::asking::Question;
+use lt_test_kit::command::{Command, Row};
+use lt_test_kit::desk::Line;
+use lt_test_kit::random::Random;
 use std::alloc::Global;
 
 /// How many commands a schedule has.

@@ -1,7 +1,7 @@
 //! How a key stands, by plain numbers: as the rules give it when they are read a second time, and as a table tells it.
 use lt_plain::{QueuedRequest, QueuedWriter};
-use lt_rules_tests::second::{Stand, Time};
 use lt_table::KeyState;
+use lt_test_kit::second::{Stand, Time};
 use std::alloc::{AllocError, Global};
 
 /// How a key stands. A stand that is not among the writers is always active here.

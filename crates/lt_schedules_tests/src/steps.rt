@@ -2,7 +2,7 @@ ghost use Rattle.std.specs.Prelude.{◌<◌};
 
 use crate::standing::Standing;
 use lt_plain::Reply;
-use lt_rules_tests::second::{Let, Second, Stand, Time};
+use lt_test_kit::second::{Let, Second, Stand, Time};
 use std::alloc::{AllocError, Global};
 use std::collections::BTreeMap;
 

@@ -6,10 +6,10 @@ use crate::standing::Standing;
 use crate::steps::{Asked, Step, Steps};
 use lt_ids::Access;
 use lt_plain::Reply;
-use lt_rules_tests::second::Time;
 use lt_table::{Config, EnterError, StepError};
-use lt_table_player::command::{Command, Told};
-use lt_table_player::desk::Line;
+use lt_test_kit::command::{Command, Told};
+use lt_test_kit::desk::Line;
+use lt_test_kit::second::Time;
 use std::alloc::Global;
 use std::collections::BTreeMap;
 

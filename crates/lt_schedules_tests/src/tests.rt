@@ -1,18 +1,19 @@
 use crate::cases::Counts;
+use crate::linked::run;
 use crate::plain::run_plain;
 use crate::schedule::{Schedule, random_schedule};
 use crate::standing::{Standing, Wanted, standing_of};
 use crate::steps::{Asked, Step};
-use lt_history::{Entry, write_out};
+use lt_entry::Entry;
 use lt_ids::{Access, Key, Timestamp, TxnId};
 use lt_plain::{Call, Reply};
-use lt_rules_tests::second::{Let, Time};
 use lt_table::{KeyState, ScanError};
-use lt_table_player::asking::Sight;
-use lt_table_player::command::{TableCall, Told};
-use lt_table_player::desk::Line;
-use lt_table_player::key::key_length;
-use lt_table_player::run::{Ran, run};
+use lt_test_kit::asking::Sight;
+use lt_test_kit::command::{TableCall, Told};
+use lt_test_kit::desk::Line;
+use lt_test_kit::key::key_length;
+use lt_test_kit::run::Ran;
+use lt_test_kit::second::{Let, Time};
 use std::alloc::{AllocError, Global};
 use std::io::Write;
 use std::process::Abort;
@@ -304,7 +305,7 @@ fn tell<W: Write>(
         return Some(());
     };
     let line = format!(in alloc; "refused: {table} {call:?}\n").ok()?;
-    write_out(writer, line.as_bytes()).ok()
+    writer.write_all(line.as_bytes()).ok()
 }
 
 #[test]

@@ -16,7 +16,7 @@ use Rattle.std.proofs.lemmas.Map.Views.{tells_apart, list_any-from_Contains, Con
 use Rattle.lt_plain.specs.Rules.{Record, empty, is_empty}
 use Rattle.lt_plain.specs.Table.{Records, record_at, AreSound, IsKept}
 use Rattle.lt_plain.proofs.Maps.{order}
-use Rattle.lt_history.specs.declared.entry.Entry.{Entry}
+use Rattle.lt_entry.specs.declared.entry.Entry.{Entry}
 use Rattle.lt_words.specs.History.{record_of}
 use Rattle.lt_shard.specs.Shards.{AreLockedKeys}
 

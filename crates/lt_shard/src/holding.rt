@@ -3,7 +3,7 @@ ghost use Rattle.std.specs.Prelude.{◌≡◌, ◌+◌, ◌<◌, ◌^◌, false,
 ghost use Rattle.lt_shard.specs.Shards.{is_recorded, IsSpare, KeepsBy};
 
 use crate::making::MadeStep;
-use lt_history::Entry;
+use lt_entry::Entry;
 use lt_ids::Key;
 use lt_words::Keeping;
 use std::alloc::AllocError;

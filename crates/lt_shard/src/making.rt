@@ -3,11 +3,11 @@ ghost use Rattle.std.specs.Prelude.{◌≡◌, ◌≤◌, IfOk, IsOk, OnErr};
 ghost use Rattle.lt_plain.specs.Rules.{TakesNoMemory};
 ghost use Rattle.lt_plain.specs.Step.{step};
 ghost use Rattle.lt_plain.specs.Table.{AreSound, record_at};
-ghost use Rattle.lt_history.specs.Histories.{IsInRange, NamesNumber};
+ghost use Rattle.lt_entry.specs.Ranges.{IsInRange, NamesNumber};
 ghost use Rattle.lt_words.specs.Row.{made};
 ghost use Rattle.lt_shard.specs.Shards.{IsMade};
 
-use lt_history::Entry;
+use lt_entry::Entry;
 use lt_ids::{Key, Through};
 use lt_plain::step::make;
 use lt_plain::{Call, KeyTable, Reply};

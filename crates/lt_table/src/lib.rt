@@ -108,40 +108,18 @@
 //! let seats = map_vec(rt, seats, &|seat: Seat<N>| -> Option<Seat<N>> { turn(rt, &table, seat) })?;
 //! ```
 //!
-//! Look next at `specs/Machine.antt`, the state of a request and what each call makes of it, `specs/Reported.antt`, what a
-//! call tells of its steps, and `specs/Closed.antt`, what is left at the end. `docs/RULES.md`, "A request", has the rules in
-//! words, and `docs/PROOFS.md` each promise with the contract that carries it.
+//! The table itself is in `lt_table_core`, over any table of one key's rules; this crate opens it over linked queues. Look next
+//! there. `docs/RULES.md`, "A request", has the rules in words, and `docs/PROOFS.md` each promise with the contract that carries
+//! it.
 #![tactic(auto)]
 
-mod closing;
-mod config;
-mod entering;
-mod guard;
-mod inspecting;
-mod keys;
-pub mod laws;
-mod leaving;
-mod locking;
-mod opening;
-mod progress;
-mod scan;
-mod scanning;
-mod table;
-mod taking;
-mod waiting;
-mod walk;
+mod linked;
 
-pub use closing::{CloseError, CloseRefused, Histories, Rests, abandon_guards};
-pub use config::{Config, PrepareError, Ready, prepare, prepare_with};
-pub use entering::EnterRefused;
-pub use guard::Guard;
-pub use keys::EnterError;
-pub use leaving::{LeaveStopped, Left};
+pub use linked::{linked_tables, open, open_waking};
 pub use lt_lock::LinkedTable;
-pub use lt_shard::{Answer, KeyState, Rest, StepError};
-pub use lt_words::{Keeping, Waker};
-pub use opening::{open, open_waking, open_waking_with, open_with};
-pub use progress::{Mode, Progress};
-pub use scan::{Poll, Scan, ScanError};
-pub use table::Table;
-pub use taking::{Gone, Reader};
+pub use lt_table_core::{
+    Answer, CloseError, CloseRefused, Config, EnterError, EnterRefused, Gone, Guard, Histories,
+    Keeping, KeyState, LeaveStopped, Left, Mode, Poll, PrepareError, Progress, Reader, Ready, Rest,
+    Rests, Scan, ScanError, StepError, Table, Waker, abandon_guards, empty_tables, laws,
+    open_waking_with, open_with, prepare, prepare_with,
+};

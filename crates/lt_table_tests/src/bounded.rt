@@ -2,7 +2,7 @@
 use crate::playing::{config, enter, enter_bounded, freed, plays, replies_at, steps_of, taken};
 use lt_plain::Reply;
 use lt_table::{Poll, Scan};
-use lt_table_player::command::{Command, Told};
+use lt_test_kit::command::{Command, Told};
 use std::test::Fail;
 
 /// One waits to write. A request with the bound 1 does not join it, and one with the bound 2 does.

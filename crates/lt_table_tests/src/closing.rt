@@ -2,7 +2,7 @@
 ghost use Rattle.std.specs.Prelude.{◌≡◌};
 
 use lt_table::{CloseError, CloseRefused, Config, Histories, Ready, abandon_guards, open, prepare};
-use lt_table_player::run::{close_all, gather, seated};
+use lt_test_kit::run::{close_all, gather, seated};
 use lt_words::Name;
 use std::alloc::Global;
 use std::marker::Brand;

@@ -2,12 +2,12 @@
 ghost use Rattle.std.specs.Prelude.{◌≡◌, ◌≢◌, ◌<◌, []};
 
 use crate::playing::config;
-use lt_history::Entry;
+use lt_entry::Entry;
 use lt_ids::{Key, Timestamp, TxnId};
 use lt_plain::{KeyTable, Reply};
 use lt_table::{Answer, Config, Keeping, Reader, Ready, StepError, Table, open, prepare_with};
-use lt_table_player::run::{rests_through, seated};
-use lt_table_player::seat::Seat;
+use lt_test_kit::run::{rests_through, seated};
+use lt_test_kit::seat::Seat;
 use lt_words::{Name, Pass};
 use std::alloc::Global;
 use std::marker::Brand;

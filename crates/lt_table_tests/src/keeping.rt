@@ -1,17 +1,17 @@
 //! Commands on a table that streams its steps, or records none, with takes of a shard between them.
 ghost use Rattle.std.specs.Prelude.{◌≡◌, ◌≢◌, ◌<◌, []};
 
-use lt_history::Entry;
+use lt_entry::Entry;
 use lt_plain::KeyTable;
 use lt_table::{
     CloseError, CloseRefused, Config, Gone, Keeping, Reader, Ready, Rests, Table, open,
     prepare_with,
 };
-use lt_table_player::command::{Command, Told};
-use lt_table_player::desk::play;
-use lt_table_player::key::key_of;
-use lt_table_player::run::{gather, seated};
-use lt_table_player::seat::Seat;
+use lt_test_kit::command::{Command, Told};
+use lt_test_kit::desk::play;
+use lt_test_kit::key::key_of;
+use lt_test_kit::run::{gather, seated};
+use lt_test_kit::seat::Seat;
 use lt_words::Name;
 use std::alloc::Global;
 use std::marker::Brand;

@@ -1,11 +1,11 @@
 //! Tables that stream their steps, or record none.
 use crate::keeping::{Act, Came, Kept, keep};
 use crate::playing::{config, enter, enter_bounded, freed, plays, taken};
-use lt_history::Entry;
+use lt_entry::Entry;
 use lt_plain::Reply;
 use lt_table::{CloseError, Config, Keeping, Poll, Scan, StepError};
-use lt_table_player::command::{Command, Row, Told};
-use lt_table_player::run::Ran;
+use lt_test_kit::command::{Command, Row, Told};
+use lt_test_kit::run::Ran;
 use std::alloc::{AllocError, Global};
 use std::process::Abort;
 use std::test::Fail;

@@ -1,7 +1,7 @@
 //! The table's public calls: worked schedules, requests without a transaction or with a bound, a close that comes too
 //! early, tables that stream their steps or record none, and two threads at once.
 //!
-//! The commands are played as `lt_table_player` plays them, by [`playing`]. [`race`] lets two threads work on one table; [`closing`]
+//! The commands are played as `lt_test_kit` plays them, by [`playing`]. [`race`] lets two threads work on one table; [`closing`]
 //! closes a table without all its passes; [`keeping`] makes takes between the commands, [`emptied`] whenever a shard is
 //! full, and [`stream`] has a thread make them while four others work. [`refusals`] hold whichever one allocation is refused.
 #![tactic(auto)]
@@ -18,6 +18,8 @@ mod keeping;
 mod kept;
 #[cfg(test)]
 mod learning;
+#[cfg(test)]
+mod linked;
 #[cfg(test)]
 mod ownerless;
 #[cfg(test)]

@@ -3,7 +3,7 @@ use crate::playing::{config, enter, enter_bounded, freed, plays, taken};
 use lt_ids::TxnId;
 use lt_plain::Reply;
 use lt_table::{Poll, Scan};
-use lt_table_player::command::{Command, Told};
+use lt_test_kit::command::{Command, Told};
 use std::test::Fail;
 
 /// Three requests wait to write, the first and the last without a transaction. The release lets the first through, and the

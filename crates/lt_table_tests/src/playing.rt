@@ -1,9 +1,10 @@
 //! Commands in short, and lists of them that are played and compared.
+use crate::linked::run;
 use lt_ids::Access;
 use lt_plain::Reply;
 use lt_table::Config;
-use lt_table_player::command::{Command, Row, Told};
-use lt_table_player::run::{Ran, run};
+use lt_test_kit::command::{Command, Row, Told};
+use lt_test_kit::run::Ran;
 use std::alloc::{AllocError, Global};
 use std::process::Abort;
 use std::sync::Wait;

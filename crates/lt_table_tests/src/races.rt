@@ -1,9 +1,9 @@
 use crate::race::{Raced, race};
-use lt_history::Entry;
+use lt_entry::Entry;
 use lt_plain::{Call, Reply};
 use lt_table::{Config, Histories, Poll};
-use lt_table_player::command::Told;
-use lt_table_player::desk::Line;
+use lt_test_kit::command::Told;
+use lt_test_kit::desk::Line;
 use std::process::Abort;
 use std::test::Fail;
 

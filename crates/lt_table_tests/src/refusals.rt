@@ -2,11 +2,11 @@
 //! called again, and all comes out as without a refusal.
 use crate::playing::{config, enter, freed, taken};
 use crate::refusing::{Done, Part, Script, play_taken, play_whole};
-use lt_history::Entry;
+use lt_entry::Entry;
 use lt_plain::Reply;
 use lt_table::{Config, Keeping, Poll, Scan};
-use lt_table_player::asking::{Question, Sight};
-use lt_table_player::command::{Command, Row, Told};
+use lt_test_kit::asking::{Question, Sight};
+use lt_test_kit::command::{Command, Row, Told};
 use std::alloc::{AllocError, Global};
 use std::process::Abort;
 use std::sync::Wait;

@@ -1,15 +1,15 @@
 //! Commands on a table of any way of keeping, with questions and one take between them.
 ghost use Rattle.std.specs.Prelude.{◌≡◌, ◌≢◌};
 
-use lt_history::Entry;
+use lt_entry::Entry;
 use lt_plain::KeyTable;
 use lt_table::{Config, Keeping, Ready, Rests, Table, open, prepare_with};
-use lt_table_player::asking::{Question, Sight};
-use lt_table_player::command::{Row, TableCall};
-use lt_table_player::desk::Line;
-use lt_table_player::key::key_of;
-use lt_table_player::run::{Work, play_rows, rests_through, seated};
-use lt_table_player::seat::Seat;
+use lt_test_kit::asking::{Question, Sight};
+use lt_test_kit::command::{Row, TableCall};
+use lt_test_kit::desk::Line;
+use lt_test_kit::key::key_of;
+use lt_test_kit::run::{Work, play_rows, rests_through, seated};
+use lt_test_kit::seat::Seat;
 use lt_words::Name;
 use std::alloc::Global;
 use std::marker::Brand;

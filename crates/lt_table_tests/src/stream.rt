@@ -3,17 +3,17 @@ ghost use Rattle.std.specs.Prelude.{◌≡◌, ◌≢◌, ◌<◌, [], IfSome};
 ghost use Rattle.lt_words.specs.declared.keeping.Keeping.TheVariants.{Whole};
 
 use crate::playing::config;
-use lt_history::Entry;
+use lt_entry::Entry;
 use lt_ids::Access;
 use lt_plain::KeyTable;
 use lt_table::{
     Config, Keeping, Reader, Ready, Rest, ScanError, StepError, Table, open, prepare_with,
 };
-use lt_table_player::command::{Command, Told};
-use lt_table_player::desk::{Line, play};
-use lt_table_player::key::key_of;
-use lt_table_player::run::{rests_through, seated};
-use lt_table_player::seat::Seat;
+use lt_test_kit::command::{Command, Told};
+use lt_test_kit::desk::{Line, play};
+use lt_test_kit::key::key_of;
+use lt_test_kit::run::{rests_through, seated};
+use lt_test_kit::seat::Seat;
 use lt_words::Name;
 use std::alloc::{AllocError, Global};
 use std::hint::spin_loop;

@@ -2,11 +2,13 @@
 ghost use Rattle.std.specs.Prelude.{◌≡◌, length};
 
 use crate::stream::{ROUNDS, Streamed, stream_work};
-use lt_history::{Entry, Report, check, compose};
+use lt_entry::Entry;
 use lt_plain::{Call, Reply};
 use lt_table::Scan;
-use lt_table_player::command::Told;
-use lt_table_player::desk::Line;
+use lt_test_kit::command::Told;
+use lt_test_kit::desk::Line;
+use lt_test_kit::replay::is_legal;
+use std::alloc::Global;
 use std::process::Abort;
 use std::test::Fail;
 
@@ -95,6 +97,20 @@ fn steps_of(shards: &[Vec<Entry>]) -> usize {
     steps
 }
 
+/// How many keys the steps are of.
+fn count_keys(alloc: Global, shards: &[Vec<Entry>]) -> Option<usize> {
+    let mut keys: Vec<&[u8]> = Vec::new(alloc);
+    for shard in shards {
+        for entry in shard {
+            let key = entry.key().as_bytes();
+            if !keys.contains(&key) {
+                keys.push(key).ok()?;
+            }
+        }
+    }
+    Some(keys.len())
+}
+
 /// Each round makes four steps: the visit, both calls at the key a, and the leave. Put together, the pieces and what is left
 /// are the legal history of all of them, at five keys.
 #[test]
@@ -105,15 +121,10 @@ fn what_is_taken_while_threads_work_is_their_whole_history(rt: HostRuntime) -> R
     compare(&rt, &streamed)?;
     assert_eq!(rt; steps_of(&streamed.shards), steps);
     assert_eq!(rt; streamed.draws, 4 * ROUNDS as u64);
-    let report = check(alloc, &compose(alloc, &streamed.shards)?)
-        .ok()
-        .ok_or("a legal text")?;
-    let wanted = Report {
-        version: 2,
-        keys: 5,
-        steps,
-    };
-    assert_eq!(rt; report, wanted);
+    for shard in &streamed.shards {
+        assert_eq!(rt; is_legal(alloc, shard), Some(true));
+    }
+    assert_eq!(rt; count_keys(alloc, &streamed.shards), Some(5));
     // A shard holds 64 steps, so what was made of both was taken out in many pieces.
     assert!(rt;
         streamed.pieces >= (steps / 64 - 2) as u64,

@@ -4,7 +4,7 @@ use lt_plain::Reply;
 use lt_table::{
     CloseError, Config, EnterError, Poll, PrepareError, Scan, ScanError, StepError, prepare,
 };
-use lt_table_player::command::{Command, Told};
+use lt_test_kit::command::{Command, Told};
 use std::test::Fail;
 
 /// A request waits at its second key, is let through, scans again from the start, and may then go on.

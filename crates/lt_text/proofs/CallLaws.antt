@@ -10,7 +10,8 @@ use Rattle.lt_plain.specs.declared.call.Call.{Call}
 use Rattle.lt_plain.specs.declared.call.Call.TheVariants.{Visit, Acquire, Update, Finish, Leave, Look}
 use Rattle.lt_text.specs.Maybe.{◌>>=◌}
 use Rattle.lt_text.specs.Fields.{ticket_word, time_word, access_word, owner_word, bound_word, bound_words, number_within, ticket_of, time_of, access_of, owner_of, is_bound, bound_of}
-use Rattle.lt_text.specs.Calls.{call_words, IsCall, AreBoundless, field_at, bound_at, visit_at, acquire_at, update_at, finish_at, leave_at, look_at, call_of, call_at}
+use Rattle.lt_text.specs.Calls.{call_words, AreBoundless, field_at, bound_at, visit_at, acquire_at, update_at, finish_at, leave_at, look_at, call_of, call_at}
+use Rattle.lt_entry.specs.Ranges.{IsCall}
 use Rattle.lt_text.proofs.Plain.{ArePlain}
 use Rattle.lt_text.proofs.FieldLaws.{bind_some, IsField, IsWithin, number_field, txn_field, owner_field, bound_field, ticket_field, time_field, access_field, field_takes, field_again}
 

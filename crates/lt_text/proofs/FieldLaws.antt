@@ -15,7 +15,8 @@ use Rattle.lt_ids.specs.declared.request.Access.TheVariants.{Read, Write}
 use Rattle.lt_text.specs.Maybe.{◌>>=◌}
 use Rattle.lt_text.specs.Words.{cut_of}
 use Rattle.lt_text.specs.Number.{number_of}
-use Rattle.lt_text.specs.Fields.{pair_word, ticket_word, time_word, access_word, owner_word, bound_word, IsTicket, IsTime, IsOwner, number_within, pair_of, ticket_of, time_of, access_of, owner_of, is_bound, bound_of}
+use Rattle.lt_text.specs.Fields.{pair_word, ticket_word, time_word, access_word, owner_word, bound_word, number_within, pair_of, ticket_of, time_of, access_of, owner_of, is_bound, bound_of}
+use Rattle.lt_entry.specs.Ranges.{IsTicket, IsTime, IsOwner}
 use Rattle.lt_text.specs.Calls.{field_at}
 use Rattle.lt_text.specs.Replies.{held_word, held_of}
 use Rattle.lt_text.proofs.Numbers.{number_of_is, number_of-decimal}

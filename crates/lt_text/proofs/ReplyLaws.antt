@@ -11,7 +11,8 @@ use Rattle.lt_plain.specs.declared.call.Reply.TheVariants.{Passed, MustWait, Too
 use Rattle.lt_text.specs.Maybe.{◌>>=◌}
 use Rattle.lt_text.specs.Fields.{number_within}
 use Rattle.lt_text.specs.Calls.{field_at}
-use Rattle.lt_text.specs.Replies.{reply_name, reply_numbers, reply_words, held_word, held_of, IsReply, fixed_replies, fixed_reply, waits_at, own_at, reply_of, reply_at}
+use Rattle.lt_text.specs.Replies.{reply_name, reply_numbers, reply_words, held_word, held_of, fixed_replies, fixed_reply, waits_at, own_at, reply_of, reply_at}
+use Rattle.lt_entry.specs.Ranges.{IsReply}
 use Rattle.lt_text.proofs.Plain.{ArePlain}
 use Rattle.lt_text.proofs.FieldLaws.{bind_some, IsWithin, txn_field, held_field, field_takes, field_again}
 use Rattle.lt_text.proofs.CallLaws.{chosen}

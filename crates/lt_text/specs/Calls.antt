@@ -5,7 +5,7 @@ use Rattle.lt_ids.specs.Ids.{IsNumber}
 use Rattle.lt_plain.specs.declared.call.Call.{Call}
 use Rattle.lt_plain.specs.declared.call.Call.TheVariants.{Visit, Acquire, Update, Finish, Leave, Look}
 use Rattle.lt_text.specs.Maybe.{◌>>=◌}
-use Rattle.lt_text.specs.Fields.{ticket_word, time_word, access_word, owner_word, bound_words, IsTxn, IsOwner, IsTicket, IsTime, number_within, ticket_of, time_of, access_of, owner_of, is_bound, bound_of}
+use Rattle.lt_text.specs.Fields.{ticket_word, time_word, access_word, owner_word, bound_words, number_within, ticket_of, time_of, access_of, owner_of, is_bound, bound_of}
 
 -- the words of a call
 abbrev pub call_words : Call → List (List ℕ)
@@ -15,15 +15,6 @@ call_words (Update txn ts) = codes "update" ∷ decimal txn ∷ time_word ts ∷
 call_words (Finish txn) = codes "finish" ∷ decimal txn ∷ []
 call_words (Leave number) = codes "leave" ∷ decimal number ∷ []
 call_words (Look number) = codes "look" ∷ decimal number ∷ []
-
--- Its numbers are in their ranges.
-abbrev pub IsCall : Call → Type 0
-IsCall (Visit ticket txn ts access longest) = IsTicket ticket × IsOwner txn × IsTime ts × (longest < 2 ^ 32)
-IsCall (Acquire txn ts) = IsTxn txn × IsTime ts
-IsCall (Update txn ts) = IsTxn txn × IsTime ts
-IsCall (Finish txn) = IsTxn txn
-IsCall (Leave number) = IsNumber number
-IsCall (Look number) = IsNumber number
 
 -- ---- reading
 

@@ -1,5 +1,5 @@
 -- What the words inside a line spell, and how each is written.
-use Rattle.std.specs.Prelude.{ℕ, ◌^◌, ◌<◌, ◌≤◌, ◌==◌, Bool, ◌&&◌, nat_lt, nat_le, if◌then◌else◌, List, [], ◌∷◌, ◌++◌, take, drop, Option, Some, None, decimal, codes}
+use Rattle.std.specs.Prelude.{ℕ, ◌^◌, ◌==◌, Bool, ◌&&◌, nat_lt, nat_le, if◌then◌else◌, List, [], ◌∷◌, ◌++◌, take, drop, Option, Some, None, decimal, codes}
 use Rattle.std.specs.Str.{bytes_eq}
 use Rattle.lt_ids.specs.Ids.{Wait, IsNumber, IsWaitNumber}
 use Rattle.lt_ids.specs.declared.timestamp.Timestamp.{Timestamp}
@@ -37,21 +37,6 @@ bound_word longest = codes "max=" ++ decimal longest
 -- no bound has no word
 abbrev pub bound_words : ℕ → List (List ℕ)
 bound_words longest = if longest == 0 then [] else (bound_word longest ∷ [])
-
--- ---- what can be written
-
-abbrev pub IsTxn : ℕ → Type 0
-IsTxn n = (1 ≤ n) × (n < 2 ^ 64)
-
-abbrev pub IsOwner : Option ℕ → Type 0
-IsOwner None = Unit {0}
-IsOwner (Some txn) = IsTxn txn
-
-abbrev pub IsTicket : Wait → Type 0
-IsTicket t = IsNumber t.number × IsWaitNumber t.wait
-
-abbrev pub IsTime : Timestamp → Type 0
-IsTime ts = (ts.wall < 2 ^ 64) × (ts.logical < 2 ^ 32)
 
 -- ---- as it is read
 

@@ -6,7 +6,7 @@ use Rattle.lt_plain.specs.declared.call.Call.TheVariants.{Visit, Acquire, Update
 use Rattle.lt_plain.specs.declared.call.Reply.{Reply}
 use Rattle.lt_plain.specs.declared.call.Reply.TheVariants.{Passed, MustWait, TooLong, Taken, Kept, Raised, Other, Freed, Left, Absent, Nothing, Reserved, Idle, WaitFor, WaitFirst, WaitOwn}
 use Rattle.lt_text.specs.Maybe.{◌>>=◌}
-use Rattle.lt_text.specs.Fields.{IsTxn, number_within}
+use Rattle.lt_text.specs.Fields.{number_within}
 use Rattle.lt_text.specs.Calls.{field_at}
 
 -- the first word of a reply
@@ -42,12 +42,6 @@ reply_numbers _ = []
 -- the words of a reply
 abbrev pub reply_words : Reply → List (List ℕ)
 reply_words r = reply_name r ∷ reply_numbers r
-
-abbrev pub IsReply : Reply → Type 0
-IsReply (WaitFor txn held) = IsTxn txn
-IsReply (WaitFirst txn held) = IsTxn txn
-IsReply (WaitOwn txn) = IsTxn txn
-IsReply _ = Unit {0}
 
 -- ---- which call has which
 

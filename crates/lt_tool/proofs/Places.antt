@@ -5,11 +5,11 @@ use Rattle.std.specs.Global.{Vec}
 use Rattle.std.specs.List.{flat_map, sum, AllByRecursion}
 use Rattle.std.proofs.lemmas.Nat.{mod_below}
 use Rattle.std.proofs.lemmas.Option.{slice_get_within}
-use Rattle.lt_history.specs.declared.entry.Entry.{Entry}
+use Rattle.lt_entry.specs.declared.entry.Entry.{Entry}
 use Rattle.lt_words.specs.History.{shard_of}
 use Rattle.lt_words.proofs.Prefixes.{prefix_get}
-use Rattle.lt_table.specs.Machine.{Step}
-use Rattle.lt_table.specs.Reported.{steps_at}
+use Rattle.lt_table_core.specs.Machine.{Step}
+use Rattle.lt_table_core.specs.Reported.{steps_at}
 use Rattle.lt_desk.specs.Machine.{Deed}
 use Rattle.lt_desk.specs.Ran.{joined}
 use Rattle.lt_desk.specs.Standing.{Finals, final_of, Made, made_by, made_from, made_at, IsFinal, IsApart, Apart, Distinct, AreAll}

@@ -7,15 +7,15 @@ use Rattle.std.proofs.lemmas.List.{map-append}
 use Rattle.lt_ids.specs.declared.request.Access.{Access}
 use Rattle.lt_plain.specs.declared.call.Reply.{Reply}
 use Rattle.lt_plain.specs.declared.call.Reply.TheVariants.{MustWait, TooLong}
-use Rattle.lt_history.specs.declared.entry.Entry.{Entry}
-use Rattle.lt_table.specs.Machine.{Step, WalkState, heard, polled}
-use Rattle.lt_table.specs.declared.scan.Scan.{Scan}
-use Rattle.lt_table.specs.declared.scan.Scan.TheVariants as scans
-use Rattle.lt_table.specs.declared.scan.ScanError.{ScanError}
-use Rattle.lt_table.specs.declared.scan.ScanError.TheVariants as refused
-use Rattle.lt_table.specs.declared.scan.Poll.{Poll}
-use Rattle.lt_table.specs.declared.scan.Poll.TheVariants as polls
-use Rattle.lt_table.specs.Reported.{wait_of}
+use Rattle.lt_entry.specs.declared.entry.Entry.{Entry}
+use Rattle.lt_table_core.specs.Machine.{Step, WalkState, heard, polled}
+use Rattle.lt_table_core.specs.declared.scan.Scan.{Scan}
+use Rattle.lt_table_core.specs.declared.scan.Scan.TheVariants as scans
+use Rattle.lt_table_core.specs.declared.scan.ScanError.{ScanError}
+use Rattle.lt_table_core.specs.declared.scan.ScanError.TheVariants as refused
+use Rattle.lt_table_core.specs.declared.scan.Poll.{Poll}
+use Rattle.lt_table_core.specs.declared.scan.Poll.TheVariants as polls
+use Rattle.lt_table_core.specs.Reported.{wait_of}
 use Rattle.lt_script.specs.declared.command.Action.{Action}
 use Rattle.lt_script.specs.declared.command.Action.TheVariants as acts
 use Rattle.lt_script.specs.declared.command.Command.{Command}

@@ -7,7 +7,7 @@ use Rattle.lt_plain.specs.declared.call.Call.{Call}
 use Rattle.lt_plain.specs.declared.call.Call.TheVariants as calls
 use Rattle.lt_plain.specs.declared.call.Reply.{Reply}
 use Rattle.lt_plain.specs.declared.call.Reply.TheVariants.{MustWait, TooLong}
-use Rattle.lt_history.specs.declared.entry.Entry.{Entry}
+use Rattle.lt_entry.specs.declared.entry.Entry.{Entry}
 use Rattle.lt_words.specs.History.{Among}
 use Rattle.lt_script.specs.declared.command.Action.{Action}
 use Rattle.lt_script.specs.declared.command.Action.TheVariants as acts

@@ -7,6 +7,7 @@ use lt_command_line::Options;
 use lt_desk::{Finish, Gate, Ran, RunFault, run};
 use lt_history::put_histories;
 use lt_script::Script;
+use lt_table::linked_tables;
 use std::alloc::{AllocError, Global};
 use std::sync::Wait;
 use std::thread::Threads;
@@ -57,10 +58,13 @@ pub(crate) fn run_commands<G: Gate + Sync, H: Threads + Wait + Sync>(
     requires { AreInRange options.now }
     ensures { IfOk result (λ outcome. IsOutput options.now (G.always gate.now) script outcome.text.items outcome.finish) }
 {
+    let Ok(tables) = linked_tables(alloc, options.shards) else {
+        return Err(RunFault::Memory);
+    };
     let ran = run(
         rt,
         alloc,
-        options.shards,
+        tables,
         options.steps,
         turns_of(options),
         gate,

@@ -7,7 +7,7 @@ use crate::queue::{TIME, leave, proceed};
 use lt_ids::{Access, Key, TxnId};
 use lt_plain::{KeyTable, Reply};
 use lt_table::{Answer, Config, EnterRefused, Guard, Ready, StepError, Table, open, prepare};
-use lt_table_player::run::close_all;
+use lt_test_kit::run::close_all;
 use lt_words::{Name, Pass, abandon_all};
 use std::alloc::Global;
 use std::marker::{Brand, PhantomData};
@@ -143,13 +143,11 @@ fn back<N: Name>(
     alloc: Global,
     mut one: Seat<N>,
     mut other: Seat<N>,
-) -> Option<Vec<lt_table_player::seat::Seat<N>>> {
+) -> Option<Vec<lt_test_kit::seat::Seat<N>>> {
     let mut seats = Vec::new(alloc);
+    seats.push(lt_test_kit::seat::Seat::free(one.take()?)).ok()?;
     seats
-        .push(lt_table_player::seat::Seat::free(one.take()?))
-        .ok()?;
-    seats
-        .push(lt_table_player::seat::Seat::free(other.take()?))
+        .push(lt_test_kit::seat::Seat::free(other.take()?))
         .ok()?;
     Some(seats)
 }

@@ -6,8 +6,8 @@ use lt_plain::KeyTable;
 use lt_table::{
     Config, EnterRefused, Guard, LeaveStopped, Left, Poll, Ready, Scan, Table, Waker, open, prepare,
 };
-use lt_table_player::run::{close_all, seated};
-use lt_table_player::seat::Seat;
+use lt_test_kit::run::{close_all, seated};
+use lt_test_kit::seat::Seat;
 use lt_words::{Name, Pass};
 use std::alloc::Global;
 use std::marker::Brand;

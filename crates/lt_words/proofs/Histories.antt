@@ -5,11 +5,11 @@ use mathlib.Core.List.{IsPrefix}
 use Rattle.lt_ids.specs.Ids.{Wait}
 use Rattle.lt_plain.specs.Rules.{empty}
 use Rattle.lt_plain.specs.Step.{step, record_after}
-use Rattle.lt_history.specs.declared.entry.Entry.{Entry}
-use Rattle.lt_history.specs.Histories.{event_of, AreLegalKeys}
-use Rattle.lt_history.specs.Histories.{part as key_part}
-use Rattle.lt_history.proofs.Keys.{same_key}
-use Rattle.lt_history.proofs.OneMore.{keys_legal_more}
+use Rattle.lt_entry.specs.declared.entry.Entry.{Entry}
+use Rattle.lt_entry.specs.Legal.{event_of, AreLegalKeys}
+use Rattle.lt_entry.specs.Legal.{part as key_part}
+use Rattle.lt_entry.proofs.SameKeys.{same_key}
+use Rattle.lt_entry.proofs.OneMore.{keys_legal_more}
 use Rattle.lt_words.specs.declared.event.Event.{Event}
 use Rattle.lt_words.specs.declared.event.Event.TheVariants.{Opened, Draw, Step}
 use Rattle.lt_words.specs.History.{shard_of, steps_of, part, draws_of, DrawsCount, StepsAtHome, IsLegalHistory, MayFollow, Among, LetIn}

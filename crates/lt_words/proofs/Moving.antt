@@ -4,7 +4,7 @@ use mathlib.Core.List.{IsPrefix}
 use prog.Atomic.{either}
 use Rattle.logbook.specs.Pages.{Cell, cell, Act, keeps, cells_after, nib_after, Valid, Runs, View, no_nib, step, Moves}
 use Rattle.logbook.proofs.Lists.{exchanged}
-use Rattle.lt_history.specs.declared.entry.Entry.{Entry}
+use Rattle.lt_entry.specs.declared.entry.Entry.{Entry}
 use Rattle.lt_words.specs.declared.event.Event.{Event}
 use Rattle.lt_words.specs.declared.event.Event.TheVariants.{Draw, Step}
 use Rattle.lt_words.specs.declared.event.Logged.{Logged}

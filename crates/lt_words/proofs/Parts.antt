@@ -17,10 +17,10 @@ use Rattle.lt_plain.specs.declared.call.Reply.TheVariants.{Passed, MustWait}
 use Rattle.lt_plain.specs.Rules.{Record, empty}
 use Rattle.lt_plain.specs.Step.{Event as KeyEvent, step, IsLegal, IsLegalFrom, Holds, IsBelowOthers}
 use Rattle.lt_plain.specs.Laws.{OneHolder, ReadsPass}
-use Rattle.lt_history.specs.declared.entry.Entry.{Entry}
-use Rattle.lt_history.specs.Histories.{event_of, AreLegalKeys}
-use Rattle.lt_history.specs.Histories.{part as key_part}
-use Rattle.lt_history.proofs.Keys.{same_key}
+use Rattle.lt_entry.specs.declared.entry.Entry.{Entry}
+use Rattle.lt_entry.specs.Legal.{event_of, AreLegalKeys}
+use Rattle.lt_entry.specs.Legal.{part as key_part}
+use Rattle.lt_entry.proofs.SameKeys.{same_key}
 use Rattle.lt_words.specs.declared.event.Event.{Event}
 use Rattle.lt_words.specs.declared.event.Event.TheVariants.{Opened, Draw, Step}
 use Rattle.lt_words.specs.History.{part, steps_of, shard_of, DrawsCount, StepsAtHome, IsLegalHistory, key_history}

@@ -10,9 +10,9 @@ use Rattle.lt_plain.specs.declared.call.Call.TheVariants.{Visit}
 use Rattle.lt_plain.specs.declared.call.Reply.TheVariants.{Passed, MustWait}
 use Rattle.lt_plain.specs.Rules.{Record, empty}
 use Rattle.lt_plain.specs.Step.{Event as KeyEvent, step, record_after, Holds, IsBelowOthers}
-use Rattle.lt_history.specs.declared.entry.Entry.{Entry}
-use Rattle.lt_history.specs.Histories.{event_of, AreLegalKeys}
-use Rattle.lt_history.specs.Histories.{part as key_part}
+use Rattle.lt_entry.specs.declared.entry.Entry.{Entry}
+use Rattle.lt_entry.specs.Legal.{event_of, AreLegalKeys}
+use Rattle.lt_entry.specs.Legal.{part as key_part}
 use Rattle.lt_words.specs.declared.event.Event.{Event}
 use Rattle.lt_words.specs.declared.event.Event.TheVariants.{Opened, Draw, Step}
 

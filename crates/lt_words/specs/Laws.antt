@@ -5,8 +5,8 @@ use Rattle.std.specs.List.{AllByRecursion}
 use mathlib.Core.List.{IsPrefix}
 use Rattle.lt_ids.specs.Ids.{Wait}
 use Rattle.lt_ids.specs.declared.ticket.Through.{Through}
-use Rattle.lt_history.specs.declared.entry.Entry.{Entry}
-use Rattle.lt_history.specs.Histories.{AreLegalKeys}
+use Rattle.lt_entry.specs.declared.entry.Entry.{Entry}
+use Rattle.lt_entry.specs.Legal.{AreLegalKeys}
 use Rattle.lt_words.specs.declared.event.Event.{Event}
 use Rattle.lt_words.specs.declared.event.Event.TheVariants.{Draw}
 use Rattle.lt_words.specs.History.{part, draws_of, shard_of, IsLegalHistory, DrewIn, LetIn, IsStatus}

@@ -10,7 +10,7 @@ use Rattle.lt_words.specs.declared.line.Line.{Line}
 use Rattle.lt_words.specs.History.{part}
 use Rattle.lt_words.specs.Shown.{AreShown}
 use Rattle.lt_words.specs.Rules.{word_at, shards_in, passes_in, keeping_in, history_of, shown_of}
-use Rattle.lt_history.specs.declared.entry.Entry.{Entry}
+use Rattle.lt_entry.specs.declared.entry.Entry.{Entry}
 use Rattle.lt_plain.specs.declared.call.Call.{Call}
 use Rattle.lt_plain.specs.declared.call.Reply.{Reply}
 

@@ -15,7 +15,7 @@ use crate::line::Line;
 use crate::pass::{Pass, abandon_all};
 use crate::waker::Waker;
 use logbook::{Seen, Start, Word};
-use lt_history::Entry;
+use lt_entry::Entry;
 use lt_ids::{Through, Ticket};
 use std::alloc::{AllocError, Global};
 use std::marker::Model;

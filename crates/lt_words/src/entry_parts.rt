@@ -1,4 +1,4 @@
-use lt_history::Entry;
+use lt_entry::Entry;
 use lt_ids::{Key, Through};
 use lt_plain::{Call, Reply};
 use std::marker::Model;

@@ -1,5 +1,5 @@
 use crate::keeping::Keeping;
-use lt_history::Entry;
+use lt_entry::Entry;
 use lt_ids::Through;
 
 /// An event of the table history: first the opening, which names the numbers of shards and passes and how steps are kept,

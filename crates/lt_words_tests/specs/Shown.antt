@@ -6,7 +6,7 @@ use Rattle.lt_ids.specs.declared.request.Access.TheVariants.{Read}
 use Rattle.lt_ids.specs.Ids.{Wait}
 use Rattle.lt_plain.specs.declared.call.Call.TheVariants.{Visit, Acquire, Finish}
 use Rattle.lt_plain.specs.declared.call.Reply.TheVariants.{Taken, MustWait, Freed}
-use Rattle.lt_history.specs.declared.entry.Entry.{Entry}
+use Rattle.lt_entry.specs.declared.entry.Entry.{Entry}
 
 abbrev pub time : Timestamp
 time = record { wall = 10; logical = 0 }

@@ -8,6 +8,8 @@ mod race;
 #[cfg(test)]
 mod seat;
 #[cfg(test)]
+mod shard;
+#[cfg(test)]
 mod sharding;
 #[cfg(test)]
 mod shown;

@@ -2,7 +2,7 @@ ghost use Rattle.std.specs.Prelude.{◌≡◌, ◌<◌, ◌≤◌, ◌^◌, IfOk
 ghost use Rattle.lt_words.specs.Row.{Opening};
 
 use crate::seat::Seat;
-use lt_history::Entry;
+use lt_entry::Entry;
 use lt_ids::{IdError, Key, TxnId};
 use lt_plain::{Call, Reply};
 use lt_words::{Book, Pass, abandon_all, shard_of};

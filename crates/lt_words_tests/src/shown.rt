@@ -4,7 +4,7 @@ ghost use Rattle.lt_words.specs.declared.event.Event.{Event};
 ghost use Rattle.lt_words.specs.declared.event.Event.TheVariants.{Step};
 ghost use Rattle.lt_words_tests.specs.Shown.{taking, waiting, freeing};
 
-use lt_history::Entry;
+use lt_entry::Entry;
 use lt_ids::{Access, Key, Through, Ticket, Timestamp, TxnId};
 use lt_plain::{Call, Reply};
 use lt_words::{Book, Front, Pass};

@@ -1,6 +1,6 @@
 use Rattle.std.proofs.Common.{ℕ, [], ◌∷◌, Some, refl, ap, sym, subst}
-use Rattle.lt_table.specs.Entered.{IsEntered}
-use Rattle.lt_table.specs.Machine.{WalkState}
+use Rattle.lt_table_core.specs.Entered.{IsEntered}
+use Rattle.lt_table_core.specs.Machine.{WalkState}
 use Rattle.lt_desk.specs.Told.{Tells}
 use Rattle.lt_desk.proofs.Doings.{is_entered}
 use Rattle.lt_desk.proofs.Telling.{tells_entered}

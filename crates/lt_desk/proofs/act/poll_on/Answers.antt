@@ -1,5 +1,5 @@
 use Rattle.std.proofs.Common.{◌≡◌, subst, rules}
-use Rattle.lt_table.specs.declared.scan.Poll.TheVariants as polls
+use Rattle.lt_table_core.specs.declared.scan.Poll.TheVariants as polls
 use Rattle.lt_desk.specs.Doing.{Polls}
 use Rattle.lt_desk.proofs.Scans.{one_poll, polls_then}
 use Rattle.lt_desk.proofs.act.poll_on.Goals as goal

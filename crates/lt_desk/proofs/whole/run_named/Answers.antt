@@ -2,8 +2,8 @@ use Rattle.std.proofs.Common.{◌≡◌, ◌≤◌, ℕ, Bool, length, sym, subs
 use Rattle.std.specs.List.{All, AllByRecursion}
 use Rattle.std.proofs.lemmas.List.Elements.{All-from_recursion, recursion_from_All}
 use Rattle.lt_words.specs.Row.{Opening, Seer}
-use Rattle.lt_table.specs.declared.config.Config.{Config}
-use Rattle.lt_table.specs.Closed.{passes_of}
+use Rattle.lt_table_core.specs.declared.config.Config.{Config}
+use Rattle.lt_table_core.specs.Closed.{passes_of}
 use Rattle.lt_desk.specs.declared.outcome.Ran.{Ran}
 use Rattle.lt_desk.specs.declared.outcome.Work.{Work}
 use Rattle.lt_desk.specs.Desks.{pass_of}

@@ -1,5 +1,5 @@
 use Rattle.std.proofs.Common.{Some, ap, refl}
-use Rattle.lt_history.proofs.Places.{empty_at}
+use Rattle.lt_entry.proofs.OneMore.{empty_at}
 use Rattle.lt_history.proofs.place.go_to_first.Goals as goal
 
 pub returns-clause-ok : goal.returns-clause-ok

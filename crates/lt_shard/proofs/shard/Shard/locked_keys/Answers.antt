@@ -1,5 +1,5 @@
 use Rattle.std.proofs.Common.{List, ◌∙◌, sym, ap, subst}
-use Rattle.lt_history.specs.declared.entry.Entry.{Entry}
+use Rattle.lt_entry.specs.declared.entry.Entry.{Entry}
 use Rattle.lt_words.specs.History.{part}
 use Rattle.lt_shard.specs.Shards.{AreLockedKeys}
 use Rattle.lt_shard.proofs.Locked.{locked_keys}

@@ -1,0 +1,2 @@
+pub mod SameKeys
+pub mod OneMore

@@ -1,0 +1,10 @@
+-- Two keys are one exactly if their bytes are equal.
+use Rattle.std.proofs.Common.{◌≡◌, ℕ, true, List, refl}
+use Rattle.std.specs.Str.{bytes_eq}
+use Rattle.std.proofs.lemmas.Slice.Eq.{bytes_eq-Decides}
+
+pub same_key : (a b : List ℕ) → bytes_eq a b ≡ true → a ≡ b
+same_key a b e = (bytes_eq-Decides a b).0 e
+
+pub key_itself : (a : List ℕ) → bytes_eq a a ≡ true
+key_itself a = (bytes_eq-Decides a a).1 refl

@@ -1,0 +1,450 @@
+ghost use Rattle.std.specs.Prelude.{◌≡◌, ◌≤◌, All};
+ghost use Rattle.lt_entry.specs.Entry.{call_of, reply_of};
+ghost use Rattle.lt_entry.specs.Ranges.{IsTxn, IsOwner, IsTicket, IsTime, IsCall, IsReply, IsInRange, NamesNumber};
+
+use lt_ids::{Access, Key, Through, Ticket, Timestamp, TxnId};
+use lt_plain::{Call, Reply};
+use std::fmt::{self, Debug, Formatter, Write};
+use std::marker::Model;
+
+/// Which call an entry has. A visit is of a transaction or of none.
+#[derive(Clone, Copy, Debug, PartialEq, Eq)]
+enum CallKind {
+    OwnedVisit,
+    UnownedVisit,
+    Acquire,
+    Update,
+    Finish,
+    Leave,
+    Look,
+}
+
+/// Which reply an entry has.
+#[derive(Clone, Copy, Debug, PartialEq, Eq)]
+enum ReplyKind {
+    Passed,
+    MustWait,
+    TooLong,
+    Taken,
+    Kept,
+    Raised,
+    Other,
+    Freed,
+    Left,
+    Absent,
+    Nothing,
+    Reserved,
+    Idle,
+    WaitFor,
+    WaitFirst,
+    WaitOwn,
+}
+
+/// A call in parts. What its kind does not have has any value; the number of a leave or a look is kept as the wall time.
+#[derive(Clone, Copy, Debug)]
+struct CallParts {
+    kind: CallKind,
+    ticket: Ticket,
+    txn: TxnId,
+    ts: Timestamp,
+    access: Access,
+    longest: u32,
+}
+
+/// A reply in parts. What its kind does not have has any value.
+#[derive(Clone, Copy, Debug)]
+struct ReplyParts {
+    kind: ReplyKind,
+    txn: TxnId,
+    held: bool,
+}
+
+/// A ticket where none is looked at.
+fn any_ticket() -> Ticket {
+    Ticket::new(1, 1).unwrap()
+}
+
+/// A transaction where none is looked at.
+fn any_txn() -> TxnId {
+    TxnId::new(1).unwrap()
+}
+
+/// The parts of a call.
+fn call_parts(call: &Call) -> CallParts
+    ensures { call_of result.kind result.ticket result.txn result.ts result.access result.longest ≡ call.now }
+{
+    let parts = CallParts {
+        kind: CallKind::Look,
+        ticket: any_ticket(),
+        txn: any_txn(),
+        ts: Timestamp {
+            wall: 0,
+            logical: 0,
+        },
+        access: Access::Read,
+        longest: 0,
+    };
+    match *call {
+        Call::Visit {
+            ticket,
+            txn: Some(txn),
+            ts,
+            access,
+            longest,
+        } => CallParts {
+            kind: CallKind::OwnedVisit,
+            ticket,
+            txn,
+            ts,
+            access,
+            longest,
+        },
+        Call::Visit {
+            ticket,
+            txn: None,
+            ts,
+            access,
+            longest,
+        } => CallParts {
+            kind: CallKind::UnownedVisit,
+            ticket,
+            ts,
+            access,
+            longest,
+            ..parts
+        },
+        Call::Acquire { txn, ts } => CallParts {
+            kind: CallKind::Acquire,
+            txn,
+            ts,
+            ..parts
+        },
+        Call::Update { txn, ts } => CallParts {
+            kind: CallKind::Update,
+            txn,
+            ts,
+            ..parts
+        },
+        Call::Finish { txn } => CallParts {
+            kind: CallKind::Finish,
+            txn,
+            ..parts
+        },
+        Call::Leave { number } => CallParts {
+            kind: CallKind::Leave,
+            ts: wall(number),
+            ..parts
+        },
+        Call::Look { number } => CallParts {
+            kind: CallKind::Look,
+            ts: wall(number),
+            ..parts
+        },
+    }
+}
+
+/// A number, kept as a wall time.
+fn wall(number: u64) -> Timestamp
+    ensures { result ≡ record { wall = number; logical = 0 } }
+{
+    Timestamp {
+        wall: number,
+        logical: 0,
+    }
+}
+
+/// A reply that names no transaction.
+fn plain(kind: ReplyKind) -> ReplyParts
+    ensures { result.kind ≡ kind }
+{
+    ReplyParts {
+        kind,
+        txn: any_txn(),
+        held: false,
+    }
+}
+
+/// The parts of a reply.
+fn reply_parts(reply: Reply) -> ReplyParts
+    ensures { reply_of result.kind result.txn result.held ≡ reply }
+{
+    match reply {
+        Reply::Passed => plain(ReplyKind::Passed),
+        Reply::MustWait => plain(ReplyKind::MustWait),
+        Reply::TooLong => plain(ReplyKind::TooLong),
+        Reply::Taken => plain(ReplyKind::Taken),
+        Reply::Kept => plain(ReplyKind::Kept),
+        Reply::Raised => plain(ReplyKind::Raised),
+        Reply::Other => plain(ReplyKind::Other),
+        Reply::Freed => plain(ReplyKind::Freed),
+        Reply::Left => plain(ReplyKind::Left),
+        Reply::Absent => plain(ReplyKind::Absent),
+        Reply::Nothing => plain(ReplyKind::Nothing),
+        Reply::Reserved => plain(ReplyKind::Reserved),
+        Reply::Idle => plain(ReplyKind::Idle),
+        Reply::WaitFor(txn, held) => ReplyParts {
+            kind: ReplyKind::WaitFor,
+            txn,
+            held,
+        },
+        Reply::WaitFirst(txn, held) => ReplyParts {
+            kind: ReplyKind::WaitFirst,
+            txn,
+            held,
+        },
+        Reply::WaitOwn(txn) => ReplyParts {
+            kind: ReplyKind::WaitOwn,
+            txn,
+            held: false,
+        },
+    }
+}
+
+/// One step of a key, as a history keeps it. Its parts lie so that they take 96 bytes, since a table keeps each step that
+/// was made until it is closed. In a contract it is a record of its key, pass, call, reply and lets.
+#[derive(Drop)]
+pub struct Entry {
+    key: Key,
+    call_kind: CallKind,
+    reply_kind: ReplyKind,
+    access: Access,
+    held: bool,
+    longest: u32,
+    pass: u32,
+    logical: u32,
+    wall: u64,
+    ticket: Ticket,
+    txn: TxnId,
+    reply_txn: TxnId,
+    lets: Vec<Through>,
+}
+
+impl Model for Entry {
+    ghost use Rattle.lt_plain.specs.Step.{EntryState};
+    ghost use Rattle.lt_entry.specs.Entry.{call_of, reply_of};
+
+    ghost Value = { EntryState };
+
+    ghost view = { λ e. record { key = e.key; pass = e.pass; call = call_of e.call_kind e.ticket e.txn (record { wall = e.wall; logical = e.logical }) e.access e.longest; reply = reply_of e.reply_kind e.reply_txn e.held; lets = e.lets.items } };
+}
+
+impl Entry {
+    /// The step of this key that the pass of this number, 1 to 1024, made. No memory is taken.
+    pub fn new(key: Key, pass: u32, call: &Call, reply: Reply, lets: Vec<Through>) -> Self
+        ensures { result ≡ record { key = key; pass = pass; call = call.now; reply = reply; lets = lets.items } }
+    {
+        let asked = call_parts(call);
+        let told = reply_parts(reply);
+        Entry {
+            key,
+            call_kind: asked.kind,
+            reply_kind: told.kind,
+            access: asked.access,
+            held: told.held,
+            longest: asked.longest,
+            pass,
+            logical: asked.ts.logical,
+            wall: asked.ts.wall,
+            ticket: asked.ticket,
+            txn: asked.txn,
+            reply_txn: told.txn,
+            lets,
+        }
+    }
+
+    /// The key of which the step was made.
+    pub fn key(&self) -> &Key
+        ensures { result.now ≡ self.now.key }
+    {
+        &self.key
+    }
+
+    /// The pass that made the call, from 1 to 1024.
+    pub fn pass(&self) -> u32
+        ensures { result ≡ self.now.pass }
+    {
+        self.pass
+    }
+
+    /// What was asked of the key.
+    pub fn call(&self) -> Call
+        ensures { result ≡ self.now.call }
+    {
+        let ts = Timestamp {
+            wall: self.wall,
+            logical: self.logical,
+        };
+        match self.call_kind {
+            CallKind::OwnedVisit => Call::Visit {
+                ticket: self.ticket,
+                txn: Some(self.txn),
+                ts,
+                access: self.access,
+                longest: self.longest,
+            },
+            CallKind::UnownedVisit => Call::Visit {
+                ticket: self.ticket,
+                txn: None,
+                ts,
+                access: self.access,
+                longest: self.longest,
+            },
+            CallKind::Acquire => Call::Acquire { txn: self.txn, ts },
+            CallKind::Update => Call::Update { txn: self.txn, ts },
+            CallKind::Finish => Call::Finish { txn: self.txn },
+            CallKind::Leave => Call::Leave { number: self.wall },
+            CallKind::Look => Call::Look { number: self.wall },
+        }
+    }
+
+    /// What the key answered.
+    pub fn reply(&self) -> Reply
+        ensures { result ≡ self.now.reply }
+    {
+        match self.reply_kind {
+            ReplyKind::Passed => Reply::Passed,
+            ReplyKind::MustWait => Reply::MustWait,
+            ReplyKind::TooLong => Reply::TooLong,
+            ReplyKind::Taken => Reply::Taken,
+            ReplyKind::Kept => Reply::Kept,
+            ReplyKind::Raised => Reply::Raised,
+            ReplyKind::Other => Reply::Other,
+            ReplyKind::Freed => Reply::Freed,
+            ReplyKind::Left => Reply::Left,
+            ReplyKind::Absent => Reply::Absent,
+            ReplyKind::Nothing => Reply::Nothing,
+            ReplyKind::Reserved => Reply::Reserved,
+            ReplyKind::Idle => Reply::Idle,
+            ReplyKind::WaitFor => Reply::WaitFor(self.reply_txn, self.held),
+            ReplyKind::WaitFirst => Reply::WaitFirst(self.reply_txn, self.held),
+            ReplyKind::WaitOwn => Reply::WaitOwn(self.reply_txn),
+        }
+    }
+
+    /// Whom the step let through, in order.
+    pub fn lets(&self) -> &[Through]
+        ensures { result.now ≡ self.now.lets }
+    {
+        &self.lets
+    }
+
+    /// Shows that the entry can stand in a text of histories: its types keep all of its numbers in their ranges but the
+    /// pass, and the number of a leave or a look. It is called for what it ensures, and does nothing.
+    pub fn in_range(&self)
+        requires low { 1 ≤ self.now.pass }
+        requires high { self.now.pass ≤ 1024 }
+        requires number { NamesNumber self.now.call }
+        ensures { IsInRange self.now }
+    {
+        let _ = self.key().as_bytes();
+        call_in_range(&self.call());
+        reply_in_range(&self.reply());
+        lets_in_range(self.lets());
+    }
+
+    /// Shows the same of an entry that is not made, by its parts.
+    pub fn parts_in_range(key: &Key, pass: u32, call: &Call, reply: &Reply, lets: &[Through])
+        requires low { 1 ≤ pass }
+        requires high { pass ≤ 1024 }
+        requires number { NamesNumber call.now }
+        ensures { IsInRange (record { key = key.now; pass = pass; call = call.now; reply = reply.now; lets = lets.now }) }
+    {
+        let _ = key.as_bytes();
+        call_in_range(call);
+        reply_in_range(reply);
+        lets_in_range(lets);
+    }
+
+    /// The requests that the step let through, as they are kept.
+    pub fn all_lets(&self) -> &Vec<Through>
+        ensures { result.now.items ≡ self.now.lets }
+    {
+        &self.lets
+    }
+}
+
+impl Debug for Entry {
+    fn fmt<W: Write>(&self, f: &mut Formatter<W>) -> fmt::Result {
+        write!(
+            f,
+            "{:?} {} {:?} = {:?} {:?}",
+            self.key(),
+            self.pass(),
+            self.call(),
+            self.reply(),
+            self.lets()
+        )
+    }
+}
+
+fn ticket_in_range(ticket: Ticket)
+    ensures { IsTicket ticket }
+{
+    let _ = (ticket.number(), ticket.wait());
+}
+
+fn txn_in_range(txn: TxnId)
+    ensures { IsTxn txn }
+{
+    let _ = txn.number();
+}
+
+fn owner_in_range(txn: Option<TxnId>)
+    ensures { IsOwner txn }
+{
+    match txn {
+        None => {}
+        Some(txn) => txn_in_range(txn),
+    }
+}
+
+fn time_in_range(ts: Timestamp)
+    ensures { IsTime ts }
+{
+    let _ = (ts.wall, ts.logical);
+}
+
+fn call_in_range(call: &Call)
+    ensures { NamesNumber call.now → IsCall call.now }
+{
+    match *call {
+        Call::Visit {
+            ticket,
+            txn,
+            ts,
+            longest,
+            ..
+        } => {
+            ticket_in_range(ticket);
+            owner_in_range(txn);
+            time_in_range(ts);
+            // A bound has the range of its type.
+            let _bound = longest;
+        }
+        Call::Acquire { txn, ts } | Call::Update { txn, ts } => {
+            txn_in_range(txn);
+            time_in_range(ts);
+        }
+        Call::Finish { txn } => txn_in_range(txn),
+        Call::Leave { .. } | Call::Look { .. } => {}
+    }
+}
+
+fn reply_in_range(reply: &Reply)
+    ensures { IsReply reply.now }
+{
+    match *reply {
+        Reply::WaitFor(txn, _) | Reply::WaitFirst(txn, _) | Reply::WaitOwn(txn) => {
+            txn_in_range(txn)
+        }
+        _ => {}
+    }
+}
+
+fn lets_in_range(lets: &[Through])
+    ensures { All (λ t. IsTicket t.ticket) lets.now }
+{
+    for through in lets {
+        ticket_in_range(through.ticket);
+    }
+}

@@ -1,6 +1,0 @@
-use Rattle.std.specs.List.{AllWithin}
-use Rattle.lt_text.specs.Fields.{IsTicket}
-use Rattle.lt_history.proofs.entry.lets_in_range.Given as goal
-
-abbrev pub invariant-loop-through : goal.invariant-loop-through
-invariant-loop-through l = AllWithin (λ t. IsTicket t.ticket) l.lets 0 l.through-index

@@ -1,0 +1,7 @@
+//! What the first version of the texts has to do with the second.
+ghost use Rattle.lt_history.specs.First.{FirstRulesHold};
+
+/// A history whose visits all have a transaction and no bound is legal exactly if it was by the rules of the first version.
+pub fn first_rules_hold()
+    ensures { FirstRulesHold }
+{}

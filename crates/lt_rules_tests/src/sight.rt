@@ -1,0 +1,179 @@
+//! What a caller can know of a key from the calls and what they gave, to tell which cases of the rules came about.
+ghost use Rattle.std.specs.Prelude.{◌<◌};
+
+use crate::calls::{Found, NUMBERS};
+use lt_ids::{Access, Through, Timestamp};
+use lt_plain::{Call, Reply};
+use lt_test_kit::cases::{Counts, Lock, Release, Visit, case_of};
+use lt_test_kit::second::Time;
+
+/// Who holds the lock of a key, who waits there to read, and who came there without a transaction when he last had to
+/// wait.
+#[derive(Clone, Copy, Debug)]
+pub struct Sight {
+    holder: Option<(u64, Time)>,
+    reads: [bool; 41],
+    without_txn: [bool; 41],
+}
+
+fn time_of(ts: Timestamp) -> Time {
+    (ts.wall, ts.logical)
+}
+
+/// For which request the lock is reserved.
+fn reserved(found: &Found) -> Option<u64> {
+    for number in 0..NUMBERS {
+        if found[number as usize] == Reply::Reserved {
+            return Some(number);
+        }
+    }
+    None
+}
+
+fn waits(found: &Found, number: u64) -> bool {
+    match found.get(number as usize) {
+        None | Some(Reply::Nothing) | Some(Reply::Reserved) => false,
+        Some(_) => true,
+    }
+}
+
+impl Sight {
+    pub fn new() -> Self {
+        Sight {
+            holder: None,
+            reads: [false; 41],
+            without_txn: [false; 41],
+        }
+    }
+
+    fn set_reads(&mut self, number: u64, reads: bool) {
+        if let Some(place) = self.reads.get_mut(number as usize) {
+            *place = reads;
+        }
+    }
+
+    fn some_reader_waits(&self) -> bool {
+        self.reads.iter().any(|reads| *reads)
+    }
+
+    fn is_reader(&self, number: u64) -> bool {
+        self.reads.get(number as usize) == Some(&true)
+    }
+
+    /// Whether the request stands among the writers.
+    fn is_writer(&self, found: &Found, number: u64) -> bool {
+        waits(found, number) && !self.is_reader(number)
+    }
+
+    /// How many stand among the writers.
+    fn writers(&self, found: &Found) -> u64 {
+        let mut count: u64 = 0;
+        for number in 0..NUMBERS {
+            if self.is_writer(found, number) {
+                count = count.wrapping_add(1);
+            }
+        }
+        count
+    }
+
+    /// What came after a lock came free, where these were let through and this is found after it.
+    fn release(&self, lets: &[Through], after: &Found) -> Release {
+        let next = reserved(after);
+        let mut writers_let: u64 = 0;
+        let mut next_is_let = false;
+        for through in lets {
+            let number = through.ticket.number();
+            if next == Some(number) {
+                next_is_let = true;
+            } else if !self.is_reader(number)
+                && self.without_txn.get(number as usize) == Some(&true)
+            {
+                writers_let = writers_let.wrapping_add(1);
+            }
+        }
+        Release {
+            writers_let,
+            is_next: next.is_some(),
+            next_is_let,
+        }
+    }
+
+    /// A visit that has to wait: who stood among the writers already waits there, to read or to write.
+    fn wait(&mut self, visit: &Visit) {
+        let reads = !visit.is_write && (!visit.waits || self.is_reader(visit.number));
+        self.set_reads(visit.number, reads);
+        if let Some(place) = self.without_txn.get_mut(visit.number as usize) {
+            *place = visit.txn.is_none();
+        }
+    }
+
+    fn visited(&mut self, before: &Found, visit: &Visit, reply: Reply, counts: &mut Counts) {
+        let lock = Lock {
+            holder: self.holder,
+            reserved: reserved(before),
+        };
+        counts.add(case_of(&lock, visit));
+        match reply {
+            Reply::MustWait => self.wait(visit),
+            _ => self.set_reads(visit.number, false),
+        }
+    }
+
+    /// The call gave this, where that was found before it and after it.
+    pub fn note(
+        &mut self,
+        before: &Found,
+        after: &Found,
+        call: &Call,
+        reply: Reply,
+        lets: &[Through],
+        counts: &mut Counts,
+    ) {
+        match *call {
+            Call::Visit {
+                ticket,
+                txn,
+                ts,
+                access,
+                longest,
+            } => {
+                let visit = Visit {
+                    number: ticket.number(),
+                    txn: txn.map(|txn| txn.number()),
+                    time: time_of(ts),
+                    is_write: access == Access::Write,
+                    waits: waits(before, ticket.number()),
+                    longest,
+                    is_queued: self.is_writer(before, ticket.number()),
+                    writers: self.writers(before),
+                };
+                self.visited(before, &visit, reply, counts);
+            }
+            Call::Acquire { txn, ts } | Call::Update { txn, ts } => match reply {
+                Reply::Taken | Reply::Raised => {
+                    self.holder = Some((txn.number(), time_of(ts)));
+                }
+                _ => {}
+            },
+            Call::Finish { .. } => {
+                if reply == Reply::Freed {
+                    self.holder = None;
+                    counts.add_release(&self.release(lets, after));
+                }
+            }
+            Call::Leave { number } => {
+                if reserved(before) == Some(number) {
+                    counts.add_release(&self.release(lets, after));
+                }
+                self.set_reads(number, false);
+            }
+            Call::Look { .. } => {}
+        }
+        for through in lets {
+            self.set_reads(through.ticket.number(), false);
+        }
+        if !lets.is_empty() {
+            counts.add_lets(reply, self.some_reader_waits());
+        }
+    }
+}

@@ -1,5 +1,0 @@
-use Rattle.lt_shard_tests.proofs.run.let_two.Given as goal
-
--- the name of the book that was just opened
-abbrev pub ghosts-let_two_named : goal.ghosts-let_two_named
-ghosts-let_two_named g a = record { of = a.book.now }

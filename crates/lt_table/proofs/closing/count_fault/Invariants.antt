@@ -1,5 +1,0 @@
-use Rattle.lt_table.specs.Closed.{passes_of, AreCounted}
-use Rattle.lt_table.proofs.closing.count_fault.Given as goal
-
-abbrev pub invariant-loop-place : goal.invariant-loop-place
-invariant-loop-place g l = AreCounted l.wanted (passes_of l.passes l.guards) l.shards l.place

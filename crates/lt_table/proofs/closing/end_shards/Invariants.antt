@@ -1,8 +1,0 @@
-use Rattle.std.proofs.Common.{◌≡◌, vec_capacity}
-use Rattle.lt_words.specs.Row.{SeesMore}
-use Rattle.lt_table.specs.Closed.{AreEnded}
-use Rattle.lt_table.proofs.closing.end_shards.Given as goal
-
-abbrev pub invariant-loop-shard : goal.invariant-loop-shard
-invariant-loop-shard g l =
-    SeesMore l.initial.last l.last × AreEnded g.N.Name.of l.initial.last l.last l.yielded l.rests.items × (vec_capacity l.rests ≡ vec_capacity l.initial.rests)

@@ -1,4 +1,0 @@
-use Rattle.lt_table.proofs.opening.open_waking_with.Goals as goal
-
-pub returns-clause-of : goal.returns-clause-of
-returns-clause-of g c = rw c.in_ok-passes.ensures c.in_ok-table.ensures.of

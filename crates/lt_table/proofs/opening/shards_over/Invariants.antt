@@ -1,6 +1,0 @@
-use Rattle.std.proofs.Common.{◌≡◌, length}
-use Rattle.lt_table.specs.Configs.{AreNewShards}
-use Rattle.lt_table.proofs.opening.shards_over.Given as goal
-
-abbrev pub invariant-loop-table : goal.invariant-loop-table
-invariant-loop-table g l = (length l.shards.items ≡ length l.yielded) × AreNewShards g.N.Name.of l.max_steps l.shards.items

@@ -1,0 +1,59 @@
+//! A table over linked queues is opened.
+ghost use Rattle.std.specs.Prelude.{◌≡◌, IfOk, length};
+ghost use Rattle.std.specs.List.{All};
+ghost use Rattle.std.specs.FinMap as finmap;
+ghost use Rattle.lt_words.specs.Row.{fresh_passes};
+
+use lt_lock::LinkedTable;
+use lt_table_core::{Ready, Table, empty_tables, open_waking_with, open_with};
+use lt_words::{Name, Pass, Waker};
+use std::alloc::{AllocError, Global};
+
+/// So many empty tables over linked queues, one for each shard of a table that [`open_with`] opens.
+pub fn linked_tables(alloc: Global, count: usize) -> Result<Vec<LinkedTable>, AllocError>
+    ensures many { IfOk result (λ tables. length tables.items ≡ count) }
+    ensures empty { IfOk result (λ tables. All (λ t. t ≡ finmap.empty) tables.items) }
+{
+    empty_tables(
+        alloc,
+        count,
+        || -> LinkedTable
+            ensures { result ≡ finmap.empty }
+        { LinkedTable::new(alloc) },
+    )
+}
+
+/// Opens the table of a book over linked tables.
+pub fn open<N: Name>(
+    alloc: Global,
+    ready: Ready,
+) -> Result<(Table<N, LinkedTable>, Vec<Pass>), AllocError>
+    requires { ready.of ≡ N.of }
+    ensures config { IfOk result (λ r. r.0 ≡ ready.config) }
+    ensures passes { IfOk result (λ r. r.1.items ≡ fresh_passes N.of N.of.passes) }
+    ensures of { IfOk result (λ r. All (λ p. p.of ≡ N.of) r.1.items) }
+{
+    let Ok(tables) = linked_tables(alloc, ready.config().shards) else {
+        ready.abandon();
+        return Err(AllocError);
+    };
+    open_with(alloc, ready, tables)
+}
+
+/// [`open`], with a waker that is told of each let. Each pass takes room for a let of each pass.
+pub fn open_waking<N: Name, W: Waker + Drop>(
+    alloc: Global,
+    ready: Ready,
+    waker: W,
+) -> Result<(Table<N, LinkedTable, W>, Vec<Pass>), AllocError>
+    requires { ready.of ≡ N.of }
+    ensures config { IfOk result (λ r. r.0 ≡ ready.config) }
+    ensures passes { IfOk result (λ r. r.1.items ≡ fresh_passes N.of N.of.passes) }
+    ensures of { IfOk result (λ r. All (λ p. p.of ≡ N.of) r.1.items) }
+{
+    let Ok(tables) = linked_tables(alloc, ready.config().shards) else {
+        ready.abandon();
+        return Err(AllocError);
+    };
+    open_waking_with(alloc, ready, tables, waker)
+}

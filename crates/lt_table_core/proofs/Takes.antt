@@ -1,0 +1,27 @@
+-- Takes of a shard's steps that follow one another.
+use Rattle.std.proofs.Common.{◌≡◌, ◌≤◌, List, ◌++◌, length, take, drop, ap, sym, ◌∙◌, arith}
+use Rattle.std.proofs.Math.Seq.{take-append_seam}
+use Rattle.std.proofs.lemmas.List.{length-drop, drop-append-le, take-append-le, take-append-drop}
+use mathlib.Core.List.{IsPrefix}
+use Rattle.lt_entry.specs.declared.entry.Entry.{Entry}
+use Rattle.lt_words.specs.History.{part}
+use Rattle.lt_words.proofs.Histories.{part_prefix}
+use Rattle.lt_table_core.specs.Taken.{TakesJoin}
+
+-- of two beginnings of one list the shorter begins the longer
+shorter : {A : Type 0} (xs ys zs : List A) → IsPrefix xs zs → IsPrefix ys zs → length xs ≤ length ys → take (length xs) ys ≡ xs
+shorter xs ys zs p q le =
+    sym (take-append-le (length xs) ys q.0 le) ∙ (ap (take (length xs)) (q.1 ∙ sym p.1) ∙ take-append_seam xs p.0)
+
+pub takes_join : TakesJoin
+takes_join shard from from' whole seen seen' es es' pre pre' t t' fits =
+    let xs : List Entry = part shard seen in
+    let ys : List Entry = part shard seen' in
+    let all : from' ≡ length xs = omega (arith, fits, ap length t.are, length-drop from xs, t.within) in
+    let le : length xs ≤ length ys = omega (arith, all, t'.within) in
+    let begins : take (length xs) ys ≡ xs = shorter xs ys (part shard whole) (part_prefix shard seen whole pre) (part_prefix shard seen' whole pre') le in
+    let cut : ys ≡ xs ++ es' = sym (take-append-drop (length xs) ys) ∙ (ap (λ (l : List Entry). l ++ drop (length xs) ys) begins ∙ ap (λ (l : List Entry). xs ++ l) (ap (λ n. drop n ys) (sym all) ∙ sym t'.are)) in
+    record {
+      within = omega (arith, t.within, le);
+      are = ap (λ (l : List Entry). l ++ es') t.are ∙ (sym (drop-append-le from xs es' t.within) ∙ ap (drop from) (sym cut));
+    }

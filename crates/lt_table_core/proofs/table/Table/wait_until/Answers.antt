@@ -1,0 +1,17 @@
+use Rattle.std.proofs.Common.{◌≡◌, rules, subst}
+use Rattle.lt_table_core.specs.declared.scan.Poll.TheVariants.{Waiting}
+use Rattle.lt_table_core.specs.Reported.{IsPoll}
+use Rattle.lt_table_core.proofs.Waits.{poll_then}
+use Rattle.lt_table_core.proofs.table.Table.wait_until.Goals as goal
+
+pub returns-in_default-clause-poll : goal.returns-in_default-clause-poll
+returns-in_default-clause-poll g c =
+    let waits : c.loop.found ≡ Waiting = search rules in
+    let before : IsPoll c.args.guard.now c.loop.guard Waiting = subst (λ r. IsPoll c.args.guard.now c.loop.guard r) waits c.loop.invariant.2 in
+    poll_then c.args.guard.now c.loop.guard c.poll.new.guard c.poll.result before c.poll.ensures.poll
+
+pub loop-preserved : goal.loop-preserved
+loop-preserved g c =
+    let waits : c.loop.found ≡ Waiting = search rules in
+    let before : IsPoll c.args.guard.now c.loop.guard Waiting = subst (λ r. IsPoll c.args.guard.now c.loop.guard r) waits c.loop.invariant.2 in
+    (search rules, search rules, poll_then c.args.guard.now c.loop.guard c.poll_or_sleep_for-found.new.guard c.poll_or_sleep_for-found.result before c.poll_or_sleep_for-found.ensures.poll, c.poll_or_sleep_for-found.ensures.through)

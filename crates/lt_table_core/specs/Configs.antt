@@ -1,0 +1,51 @@
+-- The numbers that a table is opened with.
+use Rattle.std.specs.Prelude.{ℕ, ◌≡◌, ◌&&◌, ◌<◌, ◌≤◌, ◌^◌, Bool, nat_le, if◌then◌else◌, Option, Some, None, List, length, slice_index_or}
+use Rattle.lt_words.specs.Row.{Opening}
+use Rattle.lt_shard.specs.Shards.{View, new_shard}
+use Rattle.lt_table_core.specs.declared.config.Config.{Config}
+use Rattle.lt_table_core.specs.declared.config.PrepareError.{PrepareError}
+use Rattle.lt_table_core.specs.declared.config.PrepareError.TheVariants.{Shards, Passes, Steps, Requests, Waits}
+
+abbrev pub is_between : ℕ → ℕ → ℕ → Bool
+is_between low high n = nat_le low n && nat_le n high
+
+-- the first number that is out of its range
+abbrev pub fault : Config → Option PrepareError
+fault c =
+    if is_between 1 64 c.shards
+    then if is_between 1 1024 c.passes
+    then if is_between 1 (2 ^ 32) c.max_steps
+    then if is_between 1 1099511627775 c.max_requests
+    then if is_between 1 16777215 c.max_waits then None else Some Waits
+    else Some Requests
+    else Some Steps
+    else Some Passes
+    else Some Shards
+
+-- Each number is in its range.
+pub record IsConfig (c : Config) : Type 0 where
+  pub some_shards : 1 ≤ c.shards
+  pub few_shards : c.shards ≤ 64
+  pub some_passes : 1 ≤ c.passes
+  pub few_passes : c.passes ≤ 1024
+  pub some_steps : 1 ≤ c.max_steps
+  pub few_steps : c.max_steps ≤ 2 ^ 32
+  pub some_requests : 1 ≤ c.max_requests
+  pub few_requests : c.max_requests ≤ 1099511627775
+  pub some_waits : 1 ≤ c.max_waits
+  pub few_waits : c.max_waits ≤ 16777215
+
+-- The book that was opened has the numbers of shards and passes of the configuration.
+pub record IsOpened (c : Config) (of : Opening) : Type 0 where
+  pub config : IsConfig c
+  pub shards : of.shards ≡ c.shards
+  pub passes : of.passes ≡ c.passes
+
+-- what contracts see of a book and its passes that are not handed out yet
+pub record ReadyState : Type 0 where
+  pub config : Config
+  pub of : Opening
+
+-- Each of these shards stands at its place, may hold so many steps, and has made none.
+abbrev pub AreNewShards : Opening → ℕ → List View → Type 0
+AreNewShards of max_steps vs = (s : ℕ) (v : View) → s < length vs → slice_index_or vs s v ≡ new_shard of s max_steps

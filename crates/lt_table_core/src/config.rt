@@ -1,0 +1,155 @@
+ghost use Rattle.std.specs.Prelude.{◌≡◌, ◌⊎◌, Some, None, IfOk, IfErr, OnOk};
+ghost use Rattle.lt_table_core.specs.Configs.{is_between, fault, IsOpened};
+
+use lt_words::{Book, Keeping, Pass, abandon_all};
+use std::alloc::{AllocError, Global};
+use std::marker::Model;
+use thiserror::Error;
+
+/// The numbers that a table is opened with.
+#[derive(Clone, Copy, Debug, PartialEq, Eq)]
+pub struct Config {
+    /// How many shards: 1 to 64. Each has a lock of its own.
+    pub shards: usize,
+    /// How many passes: 1 to 1,024. Each serves one caller at a time.
+    pub passes: usize,
+    /// How many steps a shard may hold: 1 to 2^32. Where each step is held until the close, so many it may make.
+    pub max_steps: u64,
+    /// How many requests may enter: 1 to 2^40 - 1.
+    pub max_requests: u64,
+    /// How many waits a request may begin: 1 to 2^24 - 1.
+    pub max_waits: u32,
+}
+
+/// Why nothing is prepared: the first number that is out of its range, in this order, or want of memory.
+#[derive(Clone, Copy, Debug, PartialEq, Eq, Drop, Error)]
+pub enum PrepareError {
+    #[error("a table has 1 to 64 shards")]
+    Shards,
+    #[error("a table has 1 to 1024 passes")]
+    Passes,
+    #[error("a shard makes 1 to 2^32 steps")]
+    Steps,
+    #[error("a table takes 1 to 2^40 - 1 requests")]
+    Requests,
+    #[error("a request begins 1 to 2^24 - 1 waits")]
+    Waits,
+    #[error("out of memory")]
+    Memory,
+}
+
+impl From<AllocError> for PrepareError {
+    ghost use Rattle.std.specs.Prelude.{◌≡◌};
+    ghost use Rattle.lt_table_core.specs.declared.config.PrepareError.TheVariants.{Memory};
+
+    ghost from_gives = { λ _ e. e ≡ Memory };
+
+    fn from(_: AllocError) -> PrepareError {
+        PrepareError::Memory
+    }
+}
+
+fn is_between(low: u64, high: u64, n: u64) -> bool
+    ensures { result ≡ is_between low high n }
+{
+    low <= n && n <= high
+}
+
+/// The first number that is out of its range.
+fn fault(config: Config) -> Option<PrepareError>
+    ensures fault { result ≡ fault config }
+{
+    if is_between(1, 64, config.shards as u64) {
+        if is_between(1, 1024, config.passes as u64) {
+            if is_between(1, 1 << 32, config.max_steps) {
+                if is_between(1, 1099511627775, config.max_requests) {
+                    if is_between(1, 16777215, u64::from(config.max_waits)) {
+                        None
+                    } else {
+                        Some(PrepareError::Waits)
+                    }
+                } else {
+                    Some(PrepareError::Requests)
+                }
+            } else {
+                Some(PrepareError::Steps)
+            }
+        } else {
+            Some(PrepareError::Passes)
+        }
+    } else {
+        Some(PrepareError::Shards)
+    }
+}
+
+/// A book and its passes, from which a table is opened.
+pub struct Ready {
+    pub(crate) config: Config,
+    pub(crate) book: Book,
+    pub(crate) passes: Vec<Pass>,
+}
+
+impl Model for Ready {
+    ghost use Rattle.std.specs.Prelude.{◌≡◌};
+    ghost use Rattle.lt_words.specs.Row.{fresh_passes};
+    ghost use Rattle.lt_table_core.specs.Configs.{ReadyState, IsOpened};
+
+    ghost Value = { ReadyState };
+
+    ghost view = { λ r. record { config = r.config; of = r.book } };
+
+    ghost invariant = { λ r. IsOpened r.config r.book × (r.passes.items ≡ fresh_passes r.book r.config.passes) };
+}
+
+impl Ready {
+    /// The numbers that the table will have; its book has as many shards.
+    pub fn config(&self) -> Config
+        ensures config { result ≡ self.now.config }
+        ensures shards { self.now.of.shards ≡ result.shards }
+    {
+        self.config
+    }
+
+    /// Gives the book and its passes up.
+    pub fn abandon(self) {
+        let Ready {
+            config: _,
+            book: _,
+            passes,
+        } = self;
+        abandon_all(passes);
+    }
+}
+
+/// Looks at the numbers, and takes the memory of the words and of the passes.
+pub fn prepare(alloc: Global, config: Config) -> Result<Ready, PrepareError>
+    ensures ok { OnOk result (fault config ≡ None) }
+    ensures config { IfOk result (λ ready. ready.config ≡ config) }
+    // The book has the numbers of shards and passes that were asked for.
+    ensures opened { IfOk result (λ ready. IsOpened config ready.of) }
+    ensures refused { IfErr result (λ e. (fault config ≡ Some e) ⊎ ((fault config ≡ None) × (e ≡ PrepareError.Memory))) }
+    // Each step is stored until the table is closed.
+    ensures whole { IfOk result (λ ready. ready.of.keeping ≡ Keeping.Whole) }
+{
+    prepare_with(alloc, config, Keeping::Whole)
+}
+
+/// The same for a table that keeps steps in this way. A table that streams holds at most `max_steps` steps of a shard at a
+/// time; one that records none has no use for that number.
+pub fn prepare_with(alloc: Global, config: Config, keeping: Keeping) -> Result<Ready, PrepareError>
+    ensures ok { OnOk result (fault config ≡ None) }
+    ensures config { IfOk result (λ ready. ready.config ≡ config) }
+    ensures opened { IfOk result (λ ready. IsOpened config ready.of) }
+    ensures keeping { IfOk result (λ ready. ready.of.keeping ≡ keeping) }
+    ensures refused { IfErr result (λ e. (fault config ≡ Some e) ⊎ ((fault config ≡ None) × (e ≡ PrepareError.Memory))) }
+{
+    if let Some(error) = fault(config) {
+        return Err(error);
+    }
+    let (book, passes) = Book::open_keeping(alloc, config.shards, config.passes, keeping)?;
+    Ok(Ready {
+        config,
+        book,
+        passes,
+    })
+}

@@ -1,0 +1,125 @@
+//! The key list of a request.
+ghost use Rattle.std.specs.Prelude.{◌≡◌, ◌≢◌, ◌≤◌, ◌<◌, ◌↔◌, ◌++◌, [], map, length, IfOk, Contains, IsTrue};
+ghost use Rattle.std.specs.List.Sorted.{IsStrictlySortedBy};
+ghost use Rattle.std.specs.Cmp.Lexicographic.{slice_cmp};
+ghost use Rattle.std.specs.Ordering.{nat_cmp};
+ghost use Rattle.lt_table_core.specs.Keys.{AreTheKeys, IsKeyList, IsOnlyRead, Among};
+
+use lt_ids::{Access, Key};
+use std::alloc::{AllocError, Global};
+use thiserror::Error;
+
+/// Why a request does not enter.
+#[derive(Clone, Copy, Debug, PartialEq, Eq, Drop, Error)]
+pub enum EnterError {
+    /// It names no key.
+    #[error("a request names at least one key")]
+    NoKeys,
+    /// It names more than 256 accesses; a key that is named twice counts twice.
+    #[error("a request names at most 256 accesses")]
+    TooManyKeys,
+    /// There was no memory for its key list and the answers of its scans.
+    #[error("out of memory")]
+    Memory,
+    /// As many requests have entered as the table takes.
+    #[error("all numbers are drawn")]
+    NumbersOut,
+}
+
+impl From<AllocError> for EnterError {
+    ghost use Rattle.lt_table_core.specs.declared.keys.EnterError.TheVariants.{Memory};
+
+    ghost from_gives = { λ _ e. e ≡ Memory };
+
+    fn from(_: AllocError) -> EnterError {
+        EnterError::Memory
+    }
+}
+
+/// Each of these keys once, in byte order.
+fn distinct(mut keys: Vec<Key>) -> Result<Vec<Key>, AllocError>
+    ensures { IfOk result (λ sorted. AreTheKeys sorted.items (Among keys.items)) }
+{
+    keys.sort()?;
+    keys.dedup();
+    Ok(keys)
+}
+
+/// The keys that are to be written.
+fn written(alloc: Global, accesses: &[(Key, Access)]) -> Result<Vec<Key>, AllocError>
+    ensures { IfOk result (λ keys. AreTheKeys keys.items (λ k. Contains accesses.now (k, Access.Write))) }
+{
+    let mut keys = Vec::new(alloc);
+    for (key, access) in accesses {
+        if *access == Access::Write {
+            keys.push(key.copy()?)?;
+        }
+    }
+    distinct(keys)
+}
+
+/// Whether the key is among these, which are in order.
+fn is_among(keys: &[Key], key: &Key) -> bool
+    requires { IsStrictlySortedBy (slice_cmp nat_cmp) keys.now }
+    ensures { IsTrue result ↔ Contains keys.now key.now }
+{
+    keys.binary_search(key).is_ok()
+}
+
+/// Whether the access is to read, and the key is not among those that are written.
+fn is_only_read(writes: &[Key], key: &Key, access: Access) -> bool
+    requires { IsStrictlySortedBy (slice_cmp nat_cmp) writes.now }
+    ensures { IsTrue result ↔ IsOnlyRead writes.now key.now access }
+{
+    access == Access::Read && !is_among(writes, key)
+}
+
+/// The keys that are to be read alone.
+fn only_read(
+    alloc: Global,
+    accesses: &[(Key, Access)],
+    writes: &[Key],
+) -> Result<Vec<Key>, AllocError>
+    requires { AreTheKeys writes.now (λ k. Contains accesses.now (k, Access.Write)) }
+    ensures { IfOk result (λ keys. AreTheKeys keys.items (λ k. Contains accesses.now (k, Access.Read) × (¬ Contains accesses.now (k, Access.Write)))) }
+{
+    let mut keys = Vec::new(alloc);
+    for (key, access) in accesses {
+        if is_only_read(writes, key, *access) {
+            keys.push(key.copy()?)?;
+        }
+    }
+    distinct(keys)
+}
+
+/// Adds the keys, each with this access.
+fn add_all(list: &mut Vec<(Key, Access)>, keys: Vec<Key>, access: Access) -> Result<(), AllocError>
+    ensures { IfOk result (λ _. list.new.items ≡ list.old.items ++ map (λ k. (k, access)) keys.items) }
+{
+    for key in keys {
+        list.push((key, access))?;
+    }
+    Ok(())
+}
+
+/// The keys that a request with these accesses visits: each once, to write it if any of its accesses is to write;
+/// those to write first, in byte order, and then the others, in byte order.
+pub fn key_list(alloc: Global, accesses: &[(Key, Access)]) -> Result<Vec<(Key, Access)>, EnterError>
+    ensures keys { IfOk result (λ keys. IsKeyList accesses.now keys.items) }
+    ensures none { (result ≡ Err EnterError.NoKeys) ↔ (accesses.now ≡ []) }
+    ensures many { (result ≡ Err EnterError.TooManyKeys) ↔ (256 < length accesses.now) }
+    ensures drawn { result ≢ Err EnterError.NumbersOut }
+{
+    if accesses.is_empty() {
+        return Err(EnterError::NoKeys);
+    }
+    if accesses.len() > 256 {
+        return Err(EnterError::TooManyKeys);
+    }
+    let writes = written(alloc, accesses)?;
+    let reads = only_read(alloc, accesses, writes.as_slice())?;
+    let mut list = Vec::new(alloc);
+    add_all(&mut list, writes, Access::Write)?;
+    add_all(&mut list, reads, Access::Read)?;
+    Ok(list)
+}

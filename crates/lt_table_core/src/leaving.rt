@@ -1,0 +1,79 @@
+//! Leaves.
+ghost use Rattle.std.specs.Prelude.{◌≡◌, ◌≢◌, Err, IfOk, IfErr, OnOk, OnErr, IsSome, None};
+ghost use Rattle.lt_table_core.specs.Machine.{next_leave, leaving};
+ghost use Rattle.lt_table_core.specs.Closed.{IsLeave};
+ghost use Rattle.lt_table_core.specs.Reported.{IsLeavingFrom, PassStays, GuardStays};
+
+use crate::guard::Guard;
+use crate::progress::Mode;
+use crate::table::Table;
+use lt_plain::KeyTable;
+use lt_shard::{Answer, StepError};
+use lt_words::{Keeping, Name, Pass, Waker};
+use std::sync::Wait;
+
+/// All keys are left: the pass, and an answer for each key, in the guard's order.
+pub struct Left {
+    pub pass: Pass,
+    pub answers: Vec<Answer>,
+}
+
+/// A leave was refused: the guard is leaving, and stands at the refused key. A further leave goes on there.
+pub struct LeaveStopped {
+    pub guard: Guard,
+    pub error: StepError,
+}
+
+impl Guard {
+    /// Its request leaves, or goes on to leave.
+    fn begin_leave(&mut self)
+        ensures { self.new ≡ record self.old { walk = leaving self.old.walk } }
+    {
+        self.walk.begin_leave();
+    }
+
+    fn into_left(self) -> Left
+        ensures pass { result.pass ≡ self.pass }
+        ensures answers { result.answers.items ≡ self.walk.answers }
+    {
+        let Guard { pass, walk } = self;
+        Left {
+            pass,
+            answers: walk.into_answers(),
+        }
+    }
+}
+
+impl<N: Name, T: KeyTable, W: Waker> Table<N, T, W> {
+    fn leave_on<R: Wait>(&self, rt: &R, guard: &mut Guard) -> Result<(), StepError>
+        requires pass { guard.old.pass.of ≡ N.of }
+        requires leaving { guard.old.walk.progress.mode ≡ Mode.Leaving }
+        ensures leave { IsLeavingFrom guard.old guard.new }
+        ensures ok { OnOk result (next_leave guard.new.walk.asked guard.new.walk.progress ≡ None) }
+        ensures err { OnErr result (IsSome (next_leave guard.new.walk.asked guard.new.walk.progress)) }
+        ensures never_full { N.of.keeping ≡ Keeping.Unrecorded → result ≢ Err StepError.HistoryFull }
+    {
+        while guard.walk.has_leave() {
+            let leave = guard.walk.leave_call();
+            let answer = self.step(rt, &mut guard.pass, guard.walk.key(), &leave)?;
+            guard.walk.leave_one(answer);
+        }
+        Ok(())
+    }
+
+    /// Gives up the request's stands with one leave step for each key, in the guard's order; a guard that is leaving
+    /// goes on where it was refused.
+    pub fn leave<R: Wait>(&self, rt: &R, mut guard: Guard) -> Result<Left, LeaveStopped>
+        requires pass { guard.pass.of ≡ N.of }
+        ensures leave { IsLeave guard result }
+        ensures left { IfOk result (λ left. PassStays guard.pass left.pass) }
+        ensures stopped { IfErr result (λ e. GuardStays guard e.guard) }
+        ensures never_full { N.of.keeping ≡ Keeping.Unrecorded → IfErr result (λ e. e.error ≢ StepError.HistoryFull) }
+    {
+        guard.begin_leave();
+        match self.leave_on(rt, &mut guard) {
+            Ok(()) => Ok(guard.into_left()),
+            Err(error) => Err(LeaveStopped { guard, error }),
+        }
+    }
+}

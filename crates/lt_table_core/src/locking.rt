@@ -1,0 +1,163 @@
+//! The calls on the locks of a transaction, and looks.
+ghost use Rattle.std.specs.Prelude.{◌≡◌, ◌≢◌, ◌<◌, ℕ, Err, IfOk, OnErr, List, Some, length, slice_get};
+ghost use Rattle.std.specs.Option.{option_map};
+ghost use Rattle.lt_entry.specs.Ranges.{NamesNumber};
+ghost use Rattle.lt_plain.specs.declared.call.Call.TheVariants.{Acquire, Update, Finish, Look};
+ghost use Rattle.lt_table_core.specs.Reported.{Reported};
+
+use crate::guard::Guard;
+use crate::table::Table;
+use lt_ids::{Key, Timestamp, TxnId};
+use lt_plain::{Call, KeyTable};
+use lt_shard::{Answer, StepError};
+use lt_words::{Keeping, Name, Pass, Waker};
+use std::sync::Wait;
+
+/// Each call makes one key step under the lock of the key's shard. It is refused where the shard holds as many steps as it
+/// may, which one that records none never does, or for want of memory; then nothing changed.
+impl<N: Name, T: KeyTable, W: Waker> Table<N, T, W> {
+    /// The transaction takes the lock of the key, or raises the timestamp of its lock.
+    pub fn acquire<R: Wait>(
+        &self,
+        rt: &R,
+        pass: &mut Pass,
+        key: &Key,
+        txn: TxnId,
+        ts: Timestamp,
+    ) -> Result<Answer, StepError>
+        requires pass { pass.old.of ≡ N.of }
+        ensures ok { IfOk result (λ a. Reported pass.old pass.new (record { key = key.now; call = Acquire txn ts; answer = a })) }
+        ensures err { OnErr result (pass.new ≡ pass.old) }
+        ensures never_full { N.of.keeping ≡ Keeping.Unrecorded → result ≢ Err StepError.HistoryFull }
+    {
+        self.step(rt, pass, key, &Call::Acquire { txn, ts })
+    }
+
+    /// The transaction raises the timestamp of its lock.
+    pub fn update<R: Wait>(
+        &self,
+        rt: &R,
+        pass: &mut Pass,
+        key: &Key,
+        txn: TxnId,
+        ts: Timestamp,
+    ) -> Result<Answer, StepError>
+        requires pass { pass.old.of ≡ N.of }
+        ensures ok { IfOk result (λ a. Reported pass.old pass.new (record { key = key.now; call = Update txn ts; answer = a })) }
+        ensures err { OnErr result (pass.new ≡ pass.old) }
+        ensures never_full { N.of.keeping ≡ Keeping.Unrecorded → result ≢ Err StepError.HistoryFull }
+    {
+        self.step(rt, pass, key, &Call::Update { txn, ts })
+    }
+
+    /// The transaction frees its lock.
+    pub fn finish<R: Wait>(
+        &self,
+        rt: &R,
+        pass: &mut Pass,
+        key: &Key,
+        txn: TxnId,
+    ) -> Result<Answer, StepError>
+        requires pass { pass.old.of ≡ N.of }
+        ensures ok { IfOk result (λ a. Reported pass.old pass.new (record { key = key.now; call = Finish txn; answer = a })) }
+        ensures err { OnErr result (pass.new ≡ pass.old) }
+        ensures never_full { N.of.keeping ≡ Keeping.Unrecorded → result ≢ Err StepError.HistoryFull }
+    {
+        self.step(rt, pass, key, &Call::Finish { txn })
+    }
+
+    /// Makes the call at the key through the guard's pass; the request stays as it is.
+    fn step_in<R: Wait>(
+        &self,
+        rt: &R,
+        guard: &mut Guard,
+        key: &Key,
+        call: &Call,
+    ) -> Result<Answer, StepError>
+        requires pass { guard.old.pass.of ≡ N.of }
+        requires number { NamesNumber call.now }
+        ensures ok { IfOk result (λ a. Reported guard.old.pass guard.new.pass (record { key = key.now; call = call.now; answer = a })) }
+        ensures err { OnErr result (guard.new ≡ guard.old) }
+        ensures never_full { N.of.keeping ≡ Keeping.Unrecorded → result ≢ Err StepError.HistoryFull }
+        ensures walk { guard.new.walk ≡ guard.old.walk }
+    {
+        self.step(rt, &mut guard.pass, key, call)
+    }
+
+    /// [`Table::acquire`] through the pass of a guard.
+    pub fn acquire_in<R: Wait>(
+        &self,
+        rt: &R,
+        guard: &mut Guard,
+        key: &Key,
+        txn: TxnId,
+        ts: Timestamp,
+    ) -> Result<Answer, StepError>
+        requires pass { guard.old.pass.of ≡ N.of }
+        ensures ok { IfOk result (λ a. Reported guard.old.pass guard.new.pass (record { key = key.now; call = Acquire txn ts; answer = a })) }
+        ensures err { OnErr result (guard.new ≡ guard.old) }
+        ensures never_full { N.of.keeping ≡ Keeping.Unrecorded → result ≢ Err StepError.HistoryFull }
+        ensures walk { guard.new.walk ≡ guard.old.walk }
+    {
+        self.step_in(rt, guard, key, &Call::Acquire { txn, ts })
+    }
+
+    /// [`Table::update`] through the pass of a guard.
+    pub fn update_in<R: Wait>(
+        &self,
+        rt: &R,
+        guard: &mut Guard,
+        key: &Key,
+        txn: TxnId,
+        ts: Timestamp,
+    ) -> Result<Answer, StepError>
+        requires pass { guard.old.pass.of ≡ N.of }
+        ensures ok { IfOk result (λ a. Reported guard.old.pass guard.new.pass (record { key = key.now; call = Update txn ts; answer = a })) }
+        ensures err { OnErr result (guard.new ≡ guard.old) }
+        ensures never_full { N.of.keeping ≡ Keeping.Unrecorded → result ≢ Err StepError.HistoryFull }
+        ensures walk { guard.new.walk ≡ guard.old.walk }
+    {
+        self.step_in(rt, guard, key, &Call::Update { txn, ts })
+    }
+
+    /// [`Table::finish`] through the pass of a guard.
+    pub fn finish_in<R: Wait>(
+        &self,
+        rt: &R,
+        guard: &mut Guard,
+        key: &Key,
+        txn: TxnId,
+    ) -> Result<Answer, StepError>
+        requires pass { guard.old.pass.of ≡ N.of }
+        ensures ok { IfOk result (λ a. Reported guard.old.pass guard.new.pass (record { key = key.now; call = Finish txn; answer = a })) }
+        ensures err { OnErr result (guard.new ≡ guard.old) }
+        ensures never_full { N.of.keeping ≡ Keeping.Unrecorded → result ≢ Err StepError.HistoryFull }
+        ensures walk { guard.new.walk ≡ guard.old.walk }
+    {
+        self.step_in(rt, guard, key, &Call::Finish { txn })
+    }
+
+    /// How the request stands at the key of this place in its list, from 0. A look is a step as well, and changes no
+    /// record.
+    pub fn look<R: Wait>(
+        &self,
+        rt: &R,
+        guard: &mut Guard,
+        index: usize,
+    ) -> Result<Answer, StepError>
+        requires pass { guard.old.pass.of ≡ N.of }
+        requires index { index < length guard.old.walk.asked.keys }
+        ensures ok { IfOk result (λ a. (key : List ℕ) × (option_map (λ k. k.0) (slice_get guard.old.walk.asked.keys index) ≡ Some key) × Reported guard.old.pass guard.new.pass (record { key = key; call = Look guard.old.walk.asked.number; answer = a })) }
+        ensures err { OnErr result (guard.new ≡ guard.old) }
+        ensures never_full { N.of.keeping ≡ Keeping.Unrecorded → result ≢ Err StepError.HistoryFull }
+        ensures walk { guard.new.walk ≡ guard.old.walk }
+    {
+        let number = guard.walk.number();
+        self.step(
+            rt,
+            &mut guard.pass,
+            guard.walk.key_at(index),
+            &Call::Look { number },
+        )
+    }
+}

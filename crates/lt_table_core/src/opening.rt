@@ -1,0 +1,171 @@
+//! A table is opened.
+ghost use Rattle.std.specs.Prelude.{◌≡◌, ◌≤◌, ◌^◌, IfOk, length};
+ghost use Rattle.std.specs.List.{All};
+ghost use Rattle.std.specs.FinMap as finmap;
+ghost use Rattle.lt_words.specs.Row.{fresh_passes};
+ghost use Rattle.lt_table_core.specs.Configs.{AreNewShards};
+
+use crate::config::Ready;
+use crate::table::{Slot, Table};
+use lt_plain::KeyTable;
+use lt_shard::Shard;
+use lt_words::{Book, Name, Pass, Waker, abandon_all};
+use std::alloc::{AllocError, Global};
+
+/// The shards over these tables, in order, each of which may hold so many steps.
+fn shards_over<N: Name, T: KeyTable + Drop>(
+    alloc: Global,
+    book: &Book,
+    tables: Vec<T>,
+    max_steps: u64,
+) -> Result<Vec<Shard<N, T>>, AllocError>
+    requires book { book.now ≡ N.of }
+    requires many { length tables.items ≡ N.of.shards }
+    requires empty { All (λ t. T.records t ≡ finmap.empty) tables.items }
+    requires low { 1 ≤ max_steps }
+    requires high { max_steps ≤ 2 ^ 32 }
+    ensures many { IfOk result (λ shards. length shards.items ≡ N.of.shards) }
+    ensures each { IfOk result (λ shards. AreNewShards N.of max_steps shards.items) }
+{
+    let mut shards = Vec::new(alloc);
+    for table in tables {
+        let index = shards.len();
+        shards.push(Shard::new(alloc, table, book, index, max_steps))?;
+    }
+    Ok(shards)
+}
+
+/// Puts each shard behind a lock of its own.
+fn slots_of<N: Name, T: KeyTable + Drop>(
+    alloc: Global,
+    shards: Vec<Shard<N, T>>,
+) -> Result<Vec<Slot<N, T>>, AllocError>
+    ensures { IfOk result (λ slots. length slots.items ≡ length shards.items) }
+{
+    let mut slots = Vec::new(alloc);
+    for shard in shards {
+        slots.push(Slot::new(shard))?;
+    }
+    Ok(slots)
+}
+
+/// The shards over these tables, which may hold so many steps, each behind a lock of its own.
+fn slots_over<N: Name, T: KeyTable + Drop>(
+    alloc: Global,
+    book: &Book,
+    tables: Vec<T>,
+    max_steps: u64,
+) -> Result<Vec<Slot<N, T>>, AllocError>
+    requires book { book.now ≡ N.of }
+    requires many { length tables.items ≡ N.of.shards }
+    requires empty { All (λ t. T.records t ≡ finmap.empty) tables.items }
+    requires low { 1 ≤ max_steps }
+    requires high { max_steps ≤ 2 ^ 32 }
+    ensures { IfOk result (λ slots. length slots.items ≡ N.of.shards) }
+{
+    slots_of(alloc, shards_over(alloc, book, tables, max_steps)?)
+}
+
+/// Opens the table of a book over these tables, which are empty, one for each shard, in order. Its passes have seen
+/// nothing and made no step. `N` names the book that was prepared. Where memory is refused, the passes are given up with
+/// the book.
+pub fn open_with<N: Name, T: KeyTable + Drop>(
+    alloc: Global,
+    ready: Ready,
+    tables: Vec<T>,
+) -> Result<(Table<N, T>, Vec<Pass>), AllocError>
+    requires named { ready.of ≡ N.of }
+    requires many { length tables.items ≡ N.of.shards }
+    requires empty { All (λ t. T.records t ≡ finmap.empty) tables.items }
+    ensures config { IfOk result (λ r. r.0 ≡ ready.config) }
+    ensures passes { IfOk result (λ r. r.1.items ≡ fresh_passes N.of N.of.passes) }
+    ensures of { IfOk result (λ r. All (λ p. p.of ≡ N.of) r.1.items) }
+{
+    let Ready {
+        config,
+        book,
+        passes,
+    } = ready;
+    let Ok(shards) = slots_over(alloc, &book, tables, config.max_steps) else {
+        abandon_all(passes);
+        return Err(AllocError);
+    };
+    let table = Table {
+        config,
+        book,
+        shards,
+        waker: (),
+    };
+    Ok((table, passes))
+}
+
+/// The passes note each let, for a waker. Where memory is refused, they are given up.
+fn noting_each(passes: Vec<Pass>) -> Result<Vec<Pass>, AllocError>
+    ensures { IfOk result (λ noting. noting.items ≡ passes.items) }
+{
+    let mut noting = passes;
+    let room = noting.len();
+    for place in 0..noting.len() {
+        if noting[place].note_each_let(room).is_err() {
+            abandon_all(noting);
+            return Err(AllocError);
+        }
+    }
+    Ok(noting)
+}
+
+/// [`open_with`], with a waker that is told of each let. Each pass takes room for a let of each pass.
+pub fn open_waking_with<N: Name, T: KeyTable + Drop, W: Waker + Drop>(
+    alloc: Global,
+    ready: Ready,
+    tables: Vec<T>,
+    waker: W,
+) -> Result<(Table<N, T, W>, Vec<Pass>), AllocError>
+    requires named { ready.of ≡ N.of }
+    requires many { length tables.items ≡ N.of.shards }
+    requires empty { All (λ t. T.records t ≡ finmap.empty) tables.items }
+    ensures config { IfOk result (λ r. r.0 ≡ ready.config) }
+    ensures passes { IfOk result (λ r. r.1.items ≡ fresh_passes N.of N.of.passes) }
+    ensures of { IfOk result (λ r. All (λ p. p.of ≡ N.of) r.1.items) }
+{
+    let (table, passes) = open_with::<N, T>(alloc, ready, tables)?;
+    let passes = noting_each(passes)?;
+    Ok((table.with_waker(waker), passes))
+}
+
+impl<N: Name, T: KeyTable> Table<N, T> {
+    fn with_waker<W: Waker>(self, waker: W) -> Table<N, T, W>
+        ensures { result ≡ self }
+    {
+        let Table {
+            config,
+            book,
+            shards,
+            waker: (),
+        } = self;
+        Table {
+            config,
+            book,
+            shards,
+            waker,
+        }
+    }
+}
+
+/// So many empty tables, each as `make` gives it, to open a table over.
+pub fn empty_tables<T: KeyTable + Drop, F: Fn() -> T>(
+    alloc: Global,
+    count: usize,
+    make: F,
+) -> Result<Vec<T>, AllocError>
+    requires callable { F.IsAlwaysCallable make }
+    requires empty { (t : _) → F.post make t → T.records t ≡ finmap.empty }
+    ensures many { IfOk result (λ tables. length tables.items ≡ count) }
+    ensures empty { IfOk result (λ tables. All (λ t. T.records t ≡ finmap.empty) tables.items) }
+{
+    let mut tables = Vec::new(alloc);
+    for _ in 0..count {
+        tables.push(make())?;
+    }
+    Ok(tables)
+}

@@ -1,0 +1,96 @@
+ghost use Rattle.std.specs.Prelude.{◌≡◌, ◌≢◌, ◌<◌, IfOk, OnErr, Err};
+ghost use Rattle.lt_entry.specs.Ranges.{NamesNumber};
+ghost use Rattle.lt_words.specs.History.{shard_of};
+ghost use Rattle.lt_table_core.specs.Reported.{Reported};
+
+use crate::config::Config;
+use lt_ids::Key;
+use lt_plain::{Call, KeyTable};
+use lt_shard::{Answer, Shard, StepError};
+use lt_words::{Book, Keeping, Name, Pass, Waker, shard_of};
+use std::marker::Model;
+use std::sync::{Mutex, Wait};
+
+/// A shard behind its lock. What follows it keeps the lock and the hot fields of the next shard on other cache lines.
+#[derive(Drop)]
+pub(crate) struct Slot<N: Name, T: KeyTable> {
+    pub lock: Mutex<Shard<N, T>>,
+    _rest: [u64; 8],
+}
+
+impl<N: Name, T: KeyTable> Slot<N, T> {
+    pub fn new(shard: Shard<N, T>) -> Slot<N, T> {
+        Slot {
+            lock: Mutex::new(shard),
+            _rest: [0; 8],
+        }
+    }
+
+    pub fn into_shard(self) -> Shard<N, T> {
+        let Slot { lock, .. } = self;
+        lock.into_inner()
+    }
+}
+
+/// A lock table that threads share. `N` names the book that its words are of, `T` keeps the keys of a shard, and `W` is told
+/// of each let.
+#[derive(Drop)]
+pub struct Table<N: Name, T: KeyTable, W: Waker = ()> {
+    pub(crate) config: Config,
+    pub(crate) book: Book,
+    pub(crate) shards: Vec<Slot<N, T>>,
+    pub(crate) waker: W,
+}
+
+impl<N: Name, T: KeyTable, W: Waker> Model for Table<N, T, W> {
+    ghost use Rattle.std.specs.Prelude.{◌≡◌, length};
+    ghost use Rattle.lt_table_core.specs.declared.config.Config.{Config};
+    ghost use Rattle.lt_table_core.specs.Configs.{IsOpened};
+
+    ghost Value = { Config };
+
+    ghost view = { λ t. t.config };
+
+    ghost invariant = { λ t. IsOpened t.config N.of × (t.book ≡ N.of) × (length t.shards.items ≡ N.of.shards) };
+}
+
+impl<N: Name, T: KeyTable, W: Waker> Table<N, T, W> {
+    /// The shard of a key, from 0: the sum of the key's bytes modulo the number of shards.
+    pub fn shard_of(&self, key: &Key) -> usize
+        ensures shard { result ≡ shard_of key.now N.of.shards }
+        ensures below { result < N.of.shards }
+    {
+        shard_of(key, self.shards.len())
+    }
+
+    /// Makes the call at the key under the lock of the key's shard. The type of a lock does not tell which shard is
+    /// behind it; where it is another, which nobody makes, it locks again.
+    pub(crate) fn step<R: Wait>(
+        &self,
+        rt: &R,
+        pass: &mut Pass,
+        key: &Key,
+        call: &Call,
+    ) -> Result<Answer, StepError>
+        requires pass { pass.old.of ≡ N.of }
+        requires number { NamesNumber call.now }
+        ensures ok { IfOk result (λ a. Reported pass.old pass.new (record { key = key.now; call = call.now; answer = a })) }
+        ensures err { OnErr result (pass.new ≡ pass.old) }
+        ensures never_full { N.of.keeping ≡ Keeping.Unrecorded → result ≢ Err StepError.HistoryFull }
+    {
+        let place = self.shard_of(key);
+        let lock = &self.shards[place].lock;
+        for _ in rt.forever() {
+            let mut guard = lock.lock(rt);
+            let inside = &mut *guard;
+            if inside.index() == place {
+                let answered = inside.step(rt, &self.book, pass, key, call);
+                // Who is woken would else meet the lock.
+                drop(guard);
+                self.book.wake(pass, &self.waker);
+                return answered;
+            }
+        }
+        unreachable!()
+    }
+}

@@ -1,0 +1,120 @@
+//! Waits that sleep.
+ghost use Rattle.std.specs.Prelude.{◌≡◌, ◌≢◌};
+ghost use Rattle.lt_words.specs.History.{LetIn};
+ghost use Rattle.lt_table_core.specs.Reported.{IsPoll, GuardStays, wait_of};
+
+use crate::guard::Guard;
+use crate::scan::Poll;
+use crate::table::Table;
+use lt_plain::KeyTable;
+use lt_words::{Name, Waker};
+use std::hint;
+use std::sync::Wait;
+use std::time::{Clock, Duration, Instant};
+
+/// How often a wait polls before it sleeps for the first time. To sleep and be woken costs some microseconds, and a let
+/// often comes sooner (`docs/PERFORMANCE.md`, "What a wait costs").
+const POLLS: u32 = 64;
+
+/// How long it is until then; none where the time is up, or the clock cannot be read.
+fn time_left(clock: &impl Clock, deadline: Instant) -> Option<Duration> {
+    let now = Instant::now(clock).ok()?;
+    let left = deadline.checked_duration_since(now)?;
+    if left.is_zero() { None } else { Some(left) }
+}
+
+impl<N: Name, T: KeyTable, W: Waker> Table<N, T, W> {
+    /// Polls a few times.
+    fn poll_some(&self, guard: &mut Guard) -> Poll
+        requires pass { guard.old.pass.of ≡ N.of }
+        ensures poll { IsPoll guard.old guard.new result }
+        ensures through { result ≡ Poll.Through → LetIn guard.new.pass.seen guard.new.pass.number (wait_of guard.new.walk) }
+    {
+        let mut found = self.poll(guard);
+        for _ in 0..POLLS {
+            if found != Poll::Waiting {
+                break;
+            }
+            hint::spin_loop();
+            found = self.poll(guard);
+        }
+        found
+    }
+
+    /// Polls, and sleeps where the request waits, until it may have been let through.
+    fn poll_or_sleep<R: Wait>(&self, rt: &R, guard: &mut Guard) -> Poll
+        requires pass { guard.old.pass.of ≡ N.of }
+        ensures poll { IsPoll guard.old guard.new result }
+        ensures through { result ≡ Poll.Through → LetIn guard.new.pass.seen guard.new.pass.number (wait_of guard.new.walk) }
+    {
+        self.book.prepare(&guard.pass);
+        let found = self.poll(guard);
+        if found == Poll::Waiting {
+            self.book.sleep(rt, &guard.pass);
+        } else {
+            self.book.cancel(&guard.pass);
+        }
+        found
+    }
+
+    /// The same, and sleeps for no longer than this.
+    fn poll_or_sleep_for<R: Wait>(&self, rt: &R, guard: &mut Guard, time: Duration) -> Poll
+        requires pass { guard.old.pass.of ≡ N.of }
+        ensures poll { IsPoll guard.old guard.new result }
+        ensures through { result ≡ Poll.Through → LetIn guard.new.pass.seen guard.new.pass.number (wait_of guard.new.walk) }
+    {
+        self.book.prepare(&guard.pass);
+        let found = self.poll(guard);
+        if found == Poll::Waiting {
+            self.book.sleep_for(rt, &guard.pass, time);
+        } else {
+            self.book.cancel(&guard.pass);
+        }
+        found
+    }
+
+    /// Polls a few times, and then sleeps until the request is let through. It answers `Through`, or `Idle` if the request
+    /// does not wait, and never `Waiting`. To the proofs it is one [`Table::poll`] with that answer. It holds no lock and
+    /// allocates nothing.
+    ///
+    /// No wake-up is lost: a wait says that it will sleep, polls once more, and then sleeps; a step shows its lets, and then
+    /// looks who has said so. The steps of both are sequentially consistent, so the poll hears the let or the step sees the
+    /// sleeper.
+    pub fn wait<R: Wait>(&self, rt: &R, guard: &mut Guard) -> Poll
+        requires pass { guard.old.pass.of ≡ N.of }
+        ensures poll { IsPoll guard.old guard.new result }
+        ensures ends { result ≢ Poll.Waiting }
+        ensures through { result ≡ Poll.Through → LetIn guard.new.pass.seen guard.new.pass.number (wait_of guard.new.walk) }
+        ensures stays { GuardStays guard.old guard.new }
+    {
+        let mut found = self.poll_some(guard);
+        for _ in rt.forever() {
+            if found != Poll::Waiting {
+                return found;
+            }
+            found = self.poll_or_sleep(rt, guard);
+        }
+        unreachable!()
+    }
+
+    /// [`Table::wait`] up to a deadline of the monotonic clock. From then on, and if the clock cannot be read, it answers what
+    /// a last poll finds, which may be `Waiting`.
+    pub fn wait_until<R: Wait + Clock>(&self, rt: &R, guard: &mut Guard, deadline: Instant) -> Poll
+        requires pass { guard.old.pass.of ≡ N.of }
+        ensures poll { IsPoll guard.old guard.new result }
+        ensures through { result ≡ Poll.Through → LetIn guard.new.pass.seen guard.new.pass.number (wait_of guard.new.walk) }
+        ensures stays { GuardStays guard.old guard.new }
+    {
+        let mut found = self.poll_some(guard);
+        for _ in rt.forever() {
+            if found != Poll::Waiting {
+                return found;
+            }
+            let Some(left) = time_left(rt, deadline) else {
+                return self.poll(guard);
+            };
+            found = self.poll_or_sleep_for(rt, guard, left);
+        }
+        unreachable!()
+    }
+}

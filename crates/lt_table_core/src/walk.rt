@@ -1,0 +1,246 @@
+ghost use Rattle.std.specs.Prelude.{◌≡◌, ◌≢◌, ◌+◌, ◌<◌, ◌≤◌, ◌^◌, ◌∷◌, ◌++◌, [], true, false, length, Err, IfOk, IfErr, OnErr, Some, slice_get, nat_lt, vec_len, vec_capacity};
+ghost use Rattle.std.specs.Option.{option_map};
+ghost use Rattle.lt_ids.specs.Ids.{IsNumber, IsWaitNumber};
+ghost use Rattle.lt_table_core.specs.Machine.{heard, scan_start, leave_start, may_visit, met, passed, scan_end, polled, visit_call, leave_answers};
+
+use crate::progress::{
+    Mode, Progress, heard, leave_start, may_visit, met_as, passed, polled, scan_end, scan_start,
+    start,
+};
+use crate::scan::{Poll, Scan, ScanError};
+use lt_ids::{Access, Key, Ticket, Timestamp, TxnId};
+use lt_plain::{Call, Reply};
+use lt_shard::Answer;
+use std::marker::Model;
+
+/// A request on its way through its key list. Contracts see what it asked for, how far it is, and the answers of its
+/// latest scan or leave.
+#[derive(Drop)]
+pub(crate) struct Walk {
+    keys: Vec<(Key, Access)>,
+    number: u64,
+    txn: Option<TxnId>,
+    ts: Timestamp,
+    longest: u32,
+    progress: Progress,
+    /// With room for one answer for each key.
+    answers: Vec<Answer>,
+}
+
+impl Model for Walk {
+    ghost use Rattle.std.specs.Prelude.{◌≤◌, ◌<◌, ◌^◌, length, vec_capacity};
+    ghost use Rattle.lt_ids.specs.Ids.{IsNumber};
+    ghost use Rattle.lt_table_core.specs.Machine.{Asked, WalkState};
+    ghost use Rattle.lt_table_core.specs.Sound.{IsSound};
+
+    ghost Value = { WalkState };
+
+    ghost view = { λ g. record { asked = record { keys = g.keys.items; number = g.number; txn = g.txn; ts = g.ts; longest = g.longest }; progress = g.progress; answers = g.answers.items } };
+
+    ghost invariant = { λ g. IsNumber g.number × (length g.keys.items < 2 ^ 63) × (length g.keys.items ≤ vec_capacity g.answers) × IsSound (length g.keys.items) g.progress (length g.answers.items) };
+}
+
+impl Walk {
+    ghost use Rattle.lt_table_core.specs.Sound.{IsSound};
+
+    /// At the list's start, with this room for answers.
+    pub(crate) fn at_start(
+        keys: Vec<(Key, Access)>,
+        answers: Vec<Answer>,
+        number: u64,
+        txn: Option<TxnId>,
+        ts: Timestamp,
+        longest: u32,
+    ) -> Walk
+        requires number { IsNumber number }
+        requires empty { answers.items ≡ [] }
+        requires room { length keys.items ≤ vec_capacity answers }
+        ensures asked { result.asked ≡ record { keys = keys.items; number = number; txn = txn; ts = ts; longest = longest } }
+        ensures progress { result.progress ≡ record { place = 0; waits = 0; waited = false; mode = Mode.Free } }
+        ensures answers { result.answers ≡ [] }
+    {
+        Walk {
+            keys,
+            number,
+            txn,
+            ts,
+            longest,
+            progress: start(),
+            answers,
+        }
+    }
+
+    /// The keys in the order in which they are visited.
+    pub(crate) fn keys(&self) -> &[(Key, Access)]
+        ensures { result.now ≡ self.now.asked.keys }
+    {
+        self.keys.as_slice()
+    }
+
+    pub(crate) fn number(&self) -> u64
+        ensures number { result ≡ self.now.asked.number }
+        ensures range { IsNumber result }
+    {
+        self.number
+    }
+
+    /// The answers of the latest scan or leave.
+    pub(crate) fn answers(&self) -> &[Answer]
+        ensures { result.now ≡ self.now.answers }
+    {
+        self.answers.as_slice()
+    }
+
+    /// What is true of each guard.
+    pub(crate) fn sound(&self)
+        ensures number { IsNumber self.now.asked.number }
+        ensures sound { IsSound (length self.now.asked.keys) self.now.progress (length self.now.answers) }
+    {
+        let _ = &self.keys;
+    }
+
+    /// A scan begins after the status word was read, or is refused.
+    pub(crate) fn begin_scan(&mut self, word: u64) -> Result<(), ScanError>
+        ensures ok { IfOk result (λ _. scan_start (heard self.old.asked.number self.old.progress word) ≡ Ok self.new.progress) }
+        ensures cleared { IfOk result (λ _. self.new.answers ≡ []) }
+        ensures asked { self.new.asked ≡ self.old.asked }
+        ensures free { IfOk result (λ _. self.new.progress.mode ≡ Mode.Free) }
+        ensures refused { IfErr result (λ e. scan_start (heard self.old.asked.number self.old.progress word) ≡ Err e) }
+        ensures same { OnErr result (self.new ≡ self.old) }
+        ensures never_full { result ≢ Err ScanError.HistoryFull }
+    {
+        let progress = scan_start(heard(self.number, self.progress, word))?;
+        self.progress = progress;
+        self.answers.clear();
+        Ok(())
+    }
+
+    /// Whether a visit comes next.
+    pub(crate) fn has_visit(&self, max_waits: u32) -> bool
+        ensures { result ≡ may_visit (length self.now.asked.keys) max_waits self.now.progress }
+    {
+        may_visit(self.keys.len(), max_waits, self.progress)
+    }
+
+    /// The key at a place of the list.
+    pub(crate) fn key_at(&self, index: usize) -> &Key
+        requires { index < length self.now.asked.keys }
+        ensures { option_map (λ k. k.0) (slice_get self.now.asked.keys index) ≡ Some result.now }
+    {
+        &self.keys[index].0
+    }
+
+    /// The key that comes next.
+    pub(crate) fn key(&self) -> &Key
+        requires { self.now.progress.place < length self.now.asked.keys }
+        ensures { option_map (λ k. k.0) (slice_get self.now.asked.keys self.now.progress.place) ≡ Some result.now }
+    {
+        self.key_at(self.progress.place)
+    }
+
+    /// The visit that comes next.
+    pub(crate) fn visit(&self) -> Call
+        requires place { self.now.progress.place < length self.now.asked.keys }
+        requires waits { self.now.progress.waits + 1 < 2 ^ 24 }
+        ensures { option_map (λ k. visit_call self.now.asked self.now.progress k.1) (slice_get self.now.asked.keys self.now.progress.place) ≡ Some result }
+    {
+        Call::Visit {
+            ticket: Ticket::new(self.number, self.progress.waits + 1).unwrap(),
+            txn: self.txn,
+            ts: self.ts,
+            access: self.keys[self.progress.place].1,
+            longest: self.longest,
+        }
+    }
+
+    /// A visit was answered.
+    pub(crate) fn meet(&mut self, answer: Answer)
+        requires place { self.old.progress.place < length self.old.asked.keys }
+        requires waits { self.old.progress.waits + 1 < 2 ^ 24 }
+        requires free { self.old.progress.mode ≡ Mode.Free }
+        requires room { length self.old.answers ≤ self.old.progress.place }
+        ensures { self.new ≡ record self.old { progress = met self.old.progress answer.reply; answers = self.old.answers ++ answer ∷ [] } }
+    {
+        let must_wait = matches!(&answer.reply, Reply::MustWait);
+        let too_long = matches!(&answer.reply, Reply::TooLong);
+        self.progress = met_as(self.progress, must_wait, too_long);
+        put(&mut self.answers, answer);
+    }
+
+    /// The scan ends, where no visit comes next.
+    pub(crate) fn end_scan(&mut self) -> Result<Scan, ScanError>
+        ensures result { result ≡ (scan_end (length self.old.asked.keys) self.old.progress).result }
+        ensures after { self.new ≡ record self.old { progress = (scan_end (length self.old.asked.keys) self.old.progress).after } }
+        ensures never_full { result ≢ Err ScanError.HistoryFull }
+    {
+        let ended = scan_end(self.keys.len(), self.progress);
+        self.progress = ended.after;
+        ended.result
+    }
+
+    /// Whether it was let through, by the status word that was read.
+    pub(crate) fn poll(&mut self, word: u64) -> Poll
+        ensures result { result ≡ polled self.new.progress }
+        ensures after { self.new ≡ record self.old { progress = heard self.old.asked.number self.old.progress word } }
+    {
+        self.progress = heard(self.number, self.progress, word);
+        polled(self.progress)
+    }
+
+    /// A leave begins, or goes on.
+    pub(crate) fn begin_leave(&mut self)
+        ensures { self.new ≡ record self.old { progress = leave_start self.old.progress; answers = leave_answers self.old } }
+    {
+        if self.progress.mode != Mode::Leaving {
+            self.answers.clear();
+        }
+        self.progress = leave_start(self.progress);
+    }
+
+    /// A key is left to leave.
+    pub(crate) fn has_leave(&self) -> bool
+        ensures { result ≡ nat_lt self.now.progress.place (length self.now.asked.keys) }
+    {
+        self.progress.place < self.keys.len()
+    }
+
+    /// The leave step of each key.
+    pub(crate) fn leave_call(&self) -> Call
+        ensures call { result ≡ Call.Leave self.now.asked.number }
+        ensures range { IsNumber self.now.asked.number }
+    {
+        Call::Leave {
+            number: self.number,
+        }
+    }
+
+    /// A leave step was answered.
+    pub(crate) fn leave_one(&mut self, answer: Answer)
+        requires place { self.old.progress.place < length self.old.asked.keys }
+        requires leaving { self.old.progress.mode ≡ Mode.Leaving }
+        ensures { self.new ≡ record self.old { progress = passed self.old.progress; answers = self.old.answers ++ answer ∷ [] } }
+    {
+        self.progress = passed(self.progress);
+        put(&mut self.answers, answer);
+    }
+
+    pub(crate) fn into_answers(self) -> Vec<Answer>
+        ensures { result.items ≡ self.answers }
+    {
+        let Walk { answers, .. } = self;
+        answers
+    }
+}
+
+/// Adds an answer, for which there is room.
+fn put(answers: &mut Vec<Answer>, answer: Answer)
+    requires { vec_len answers.old < vec_capacity answers.old }
+    ensures items { answers.new.items ≡ answers.old.items ++ answer ∷ [] }
+    ensures capacity { vec_capacity answers.old ≤ vec_capacity answers.new }
+{
+    let reply: Reply = answer.reply;
+    let _room = answers.push(Answer {
+        reply,
+        at: answer.at,
+    });
+}

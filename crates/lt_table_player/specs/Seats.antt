@@ -1,9 +1,0 @@
--- Passes and guards of the book that a name names.
-use Rattle.lt_words.specs.Row.{Opening}
-use Rattle.lt_table_player.specs.declared.holds.Holds.{Holds}
-use Rattle.lt_table_player.specs.declared.holds.Holds.TheVariants.{Free, Open}
-
--- The book of what a seat holds.
-abbrev pub of_holds : Holds → Opening
-of_holds (Free pass) = pass.of
-of_holds (Open guard) = guard.pass.of

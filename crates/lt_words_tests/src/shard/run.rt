@@ -1,0 +1,251 @@
+//! Steps of one key on one thread: the lock is taken, a request waits to write, and the lock is freed.
+ghost use Rattle.std.specs.Prelude.{◌≡◌, ◌<◌, ◌≤◌, IfSome};
+ghost use Rattle.std.specs.FinMap as finmap;
+ghost use Rattle.lt_entry.specs.Ranges.{NamesNumber};
+ghost use Rattle.lt_words.specs.History.{shard_of};
+
+use lt_ids::{Access, Key, Ticket, Timestamp, TxnId};
+use lt_plain::{Call, KeyTable, PlainTable};
+use lt_shard::{Answer, Shard, StepError};
+use lt_words::{Book, Name, Pass, abandon_all, shard_of};
+use std::alloc::Global;
+use std::marker::Brand;
+use std::sync::Wait;
+
+/// A step that was made, and whether one was refused before, for want of memory.
+#[derive(Drop)]
+pub struct Made {
+    pub answer: Answer,
+    pub was_refused: bool,
+}
+
+/// What came of the steps.
+#[derive(Drop)]
+pub struct Ran {
+    pub taken: Made,
+    pub waits: Made,
+    pub freed: Made,
+    pub full: Result<Answer, StepError>,
+    /// How many steps the two passes counted.
+    pub counts: (u64, u64),
+    pub shown: u64,
+    pub stored: usize,
+}
+
+/// The calls, in order.
+#[derive(Drop)]
+pub struct Calls {
+    pub acquire: Call,
+    pub visit: Call,
+    pub finish: Call,
+}
+
+/// A visit to read of a transaction with the request's number.
+fn visit(number: u64) -> Option<Call>
+    ensures { IfSome result (λ c. NamesNumber c) }
+{
+    let txn = TxnId::new(number)?;
+    let ticket = Ticket::new(number, 1)?;
+    let ts = Timestamp {
+        wall: 10,
+        logical: 0,
+    };
+    Some(Call::Visit {
+        ticket,
+        txn: Some(txn),
+        ts,
+        access: Access::Read,
+        longest: 0,
+    })
+}
+
+fn make_calls() -> Option<Calls>
+    ensures { IfSome result (λ c. NamesNumber c.acquire × NamesNumber c.visit × NamesNumber c.finish) }
+{
+    let holder = TxnId::new(9)?;
+    let waiter = TxnId::new(1)?;
+    let ticket = Ticket::new(1, 1)?;
+    let ts = Timestamp {
+        wall: 10,
+        logical: 0,
+    };
+    Some(Calls {
+        acquire: Call::Acquire { txn: holder, ts },
+        visit: Call::Visit {
+            ticket,
+            txn: Some(waiter),
+            ts,
+            access: Access::Write,
+            longest: 0,
+        },
+        finish: Call::Finish { txn: holder },
+    })
+}
+
+/// Makes a step, once more if memory was refused. A refused step must have left the history and the counts as they were.
+fn make<N: Name, T: KeyTable, R: Wait>(
+    rt: &R,
+    book: &Book,
+    shard: &mut Shard<N, T>,
+    pass: &mut Pass,
+    key: &Key,
+    call: &Call,
+) -> Result<Made, StepError>
+    requires book { book.now ≡ N.of }
+    requires pass { pass.old.of ≡ N.of }
+    requires home { shard.old.index ≡ shard_of key.now N.of.shards }
+    requires index { shard.old.index < N.of.shards }
+    requires number { NamesNumber call.now }
+    ensures pass { pass.new.of ≡ pass.old.of }
+    ensures index { shard.new.index ≡ shard.old.index }
+{
+    let place = shard.index();
+    let stored = shard.history().len();
+    let count = pass.count(place);
+    match shard.step(rt, book, pass, key, call) {
+        Ok(answer) => Ok(Made {
+            answer,
+            was_refused: false,
+        }),
+        Err(StepError::HistoryFull) => Err(StepError::HistoryFull),
+        Err(StepError::Memory) => {
+            if shard.history().len() != stored || pass.count(place) != count {
+                return Err(StepError::Memory);
+            }
+            let answer = shard.step(rt, book, pass, key, call)?;
+            Ok(Made {
+                answer,
+                was_refused: true,
+            })
+        }
+    }
+}
+
+fn run_named<N: Name, T: KeyTable + Drop, R: Wait>(
+    rt: &R,
+    alloc: Global,
+    book: &Book,
+    table: T,
+    shards: usize,
+    one: &mut Pass,
+    two: &mut Pass,
+    key: &Key,
+    calls: &Calls,
+) -> Result<Ran, StepError>
+    requires book { book.now ≡ N.of }
+    requires shards { N.of.shards ≡ shards }
+    requires some { 0 < shards }
+    requires empty { T.records table ≡ finmap.empty }
+    requires one { one.old.of ≡ N.of }
+    requires two { two.old.of ≡ N.of }
+    requires calls { NamesNumber calls.now.acquire × NamesNumber calls.now.visit × NamesNumber calls.now.finish }
+{
+    let place = shard_of(key, shards);
+    let mut shard = Shard::<N, T>::new(alloc, table, book, place, 3);
+    let taken = make(rt, book, &mut shard, one, key, &calls.acquire)?;
+    let waits = make(rt, book, &mut shard, two, key, &calls.visit)?;
+    let freed = make(rt, book, &mut shard, one, key, &calls.finish)?;
+    let full = shard.step(rt, book, one, key, &calls.finish);
+    shard.meet(rt, book, two);
+    let counts = (one.count(place), two.count(place));
+    let shown = book.read(two);
+    let stored = shard.into_history().len();
+    Ok(Ran {
+        taken,
+        waits,
+        freed,
+        full,
+        counts,
+        shown,
+        stored,
+    })
+}
+
+/// A new book, and its two passes.
+fn open_two(alloc: Global, shards: usize) -> Option<(Book, Pass, Pass)>
+    requires some { 0 < shards }
+    requires few { shards ≤ 64 }
+    ensures shards { IfSome result (λ r. r.0.shards ≡ shards) }
+    ensures one { IfSome result (λ r. r.1.of ≡ r.0) }
+    ensures two { IfSome result (λ r. r.2.of ≡ r.0) }
+{
+    let (book, mut passes) = Book::open(alloc, shards, 2).ok()?;
+    let Some(two) = passes.pop() else {
+        abandon_all(passes);
+        return None;
+    };
+    let Some(one) = passes.pop() else {
+        two.abandon();
+        abandon_all(passes);
+        return None;
+    };
+    abandon_all(passes);
+    Some((book, one, two))
+}
+
+/// The steps of a book that is opened for them. None where memory was refused outside the steps.
+pub fn run<R: Wait>(rt: &R, alloc: Global) -> Option<Ran> {
+    let key = Key::from_bytes(alloc, b"a").ok()?;
+    let calls = make_calls()?;
+    let (book, mut one, mut two) = open_two(alloc, 2)?;
+    let table = PlainTable::new(alloc);
+    let ran = run_named::<Brand, PlainTable, R>(
+        rt, alloc, &book, table, 2, &mut one, &mut two, &key, &calls,
+    );
+    one.abandon();
+    two.abandon();
+    ran.ok()
+}
+
+fn let_two_named<N: Name, T: KeyTable + Drop, R: Wait>(
+    rt: &R,
+    alloc: Global,
+    book: &Book,
+    table: T,
+    one: &mut Pass,
+    two: &mut Pass,
+    key: &Key,
+    calls: &Calls,
+    visits: (&Call, &Call),
+) -> Result<(u64, u64), StepError>
+    requires book { book.now ≡ N.of }
+    requires shards { N.of.shards ≡ 1 }
+    requires empty { T.records table ≡ finmap.empty }
+    requires one { one.old.of ≡ N.of }
+    requires two { two.old.of ≡ N.of }
+    requires calls { NamesNumber calls.now.acquire × NamesNumber calls.now.finish }
+    requires visits { NamesNumber visits.0.now × NamesNumber visits.1.now }
+{
+    let place = shard_of(key, 1);
+    let mut shard = Shard::<N, T>::new(alloc, table, book, place, 4);
+    make(rt, book, &mut shard, one, key, &calls.acquire)?;
+    make(rt, book, &mut shard, two, key, visits.0)?;
+    make(rt, book, &mut shard, two, key, visits.1)?;
+    let before = book.read(two);
+    make(rt, book, &mut shard, one, key, &calls.finish)?;
+    Ok((before, book.read(two)))
+}
+
+/// The second pass waits to read with two requests of these numbers, in this order, and one step lets both through: what it
+/// reads before and after that step. None where memory was refused outside the steps.
+pub fn let_two<R: Wait>(rt: &R, alloc: Global, first: u64, second: u64) -> Option<(u64, u64)> {
+    let key = Key::from_bytes(alloc, b"a").ok()?;
+    let calls = make_calls()?;
+    let visits = (visit(first)?, visit(second)?);
+    let (book, mut one, mut two) = open_two(alloc, 1)?;
+    let table = PlainTable::new(alloc);
+    let read = let_two_named::<Brand, PlainTable, R>(
+        rt,
+        alloc,
+        &book,
+        table,
+        &mut one,
+        &mut two,
+        &key,
+        &calls,
+        (&visits.0, &visits.1),
+    );
+    one.abandon();
+    two.abandon();
+    read.ok()
+}

@@ -1,0 +1,46 @@
+use crate::shard::run::{let_two, run};
+use lt_ids::Ticket;
+use lt_plain::Reply;
+use lt_shard::{Answer, StepError};
+use std::test::Fail;
+
+#[test]
+fn a_shard_steps_shows_a_let_and_fills_up(rt: HostRuntime) -> Result<(), Fail> {
+    let ran = match run(&rt, rt.alloc()) {
+        Some(ran) => ran,
+        None => run(&rt, rt.alloc()).ok_or("the steps")?,
+    };
+    let refused = [
+        ran.taken.was_refused,
+        ran.waits.was_refused,
+        ran.freed.was_refused,
+    ];
+    assert!(rt; refused.iter().filter(|was| **was).count() <= 1);
+    for (made, reply, at) in [
+        (ran.taken, Reply::Taken, 0),
+        (ran.waits, Reply::MustWait, 1),
+        (ran.freed, Reply::Freed, 2),
+    ] {
+        assert_eq!(rt; made.answer, Answer { reply, at });
+    }
+    assert_eq!(rt; ran.full, Err(StepError::HistoryFull));
+    assert_eq!(rt; ran.counts, (2, 1));
+    let ticket = Ticket::new(1, 1).ok_or("the ticket")?;
+    assert_eq!(rt; ran.shown, ticket.value());
+    assert_eq!(rt; ran.stored, 3);
+    Ok(())
+}
+
+/// One step lets two tickets of a pass through: the word of that pass is then the higher one, 2.1, a number times 2^24, and
+/// the wait, in whichever order they came.
+#[test]
+fn of_two_lets_of_a_pass_its_word_is_the_higher(rt: HostRuntime) -> Result<(), Fail> {
+    for (first, second) in [(1, 2), (2, 1)] {
+        let words = match let_two(&rt, rt.alloc(), first, second) {
+            Some(words) => words,
+            None => let_two(&rt, rt.alloc(), first, second).ok_or("the steps")?,
+        };
+        assert_eq!(rt; words, (0, 33_554_433));
+    }
+    Ok(())
+}
