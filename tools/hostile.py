@@ -15,8 +15,7 @@ The programs must have been built, as `rt ci` does. Each part prints what it tri
 - `lockbench soak` plays random requests on threads for S seconds, a third of them on tables that keep their history whole, a third
   on streamed ones, and a third on one that records nothing and may not grow. `lockrun check` reads the histories that are left.
 - The tests of waits run N times each, on processors that are busy with the others. `lockbench load --wait` has more sleeping
-  threads than processors, in each way of keeping the history, and must end. `lockbench sleep` has a thousand requests sleep at one
-  key: they go on in order, and take less than 5 of 100 of one processor meanwhile.
+  threads than processors, in each way of keeping the history, and must end.
 - tools/random_runs.py compares N random scripts with what the rules of a pass say.
 """
 
@@ -39,7 +38,7 @@ TESTS = [
     ('lt_rules_tests', 'linked::the_'),
     ('lt_words_tests', 'tests::a_refused_open'),
     ('lt_words_tests', 'tests::a_book_is_used_by_its_name'),
-    ('lt_schedules_tests', 'tests::schedules_come_out_alike'),
+    ('lt_table_tests', 'schedules::tests::schedules_come_out_alike'),
     ('lt_table_tests', 'refusals::'),
     ('lt_tool_tests', 'texts::histories::'),
     ('lt_tool_tests', 'texts::scripts::'),
@@ -130,7 +129,7 @@ def refuse_in_tests(report, shim, lanes):
             ended = list(lanes.map(lambda n: (n, shim.run([program, name], refuse_memory=n)), range(1, requests + 1)))
             faults += [f'allocation {n}: status {status}, {err[-200:]!r}' for n, (status, _, err, _) in ended if status]
             report.tell(f'{crate}, {name}: {requests} allocations, each refused once', faults)
-            if crate == 'lt_schedules_tests':
+            if prefix.startswith('schedules::'):
                 tell_table_calls(report, [out for _, (_, out, _, _) in ended])
 
 
@@ -333,27 +332,20 @@ def soak(report, folder, seconds):
             report.tell(f"lockrun check, of that soak's latest histories: {told.stdout.strip()}", faults)
 
 
-def too_busy(lines):
-    """What is wrong with the processor time of requests that sleep."""
-    told = re.search(r'cpu_percent=([0-9.]+)', lines[-1])
-    return [] if told and float(told[1]) < 5 else ['they take 5 of 100 of a processor, or more']
-
-
 def wait_again(report, lanes, folder, times):
-    """Waits that sleep: each test so many times, more sleeping threads than processors, and a thousand requests at one key."""
-    program = built('lt_waiting_tests', tests=True)
-    names = tests_of(program, '') if os.path.exists(program) else []
+    """Waits that sleep: each test so many times, and more sleeping threads than processors."""
+    program = built('lt_table_tests', tests=True)
+    names = tests_of(program, 'waiting::') if os.path.exists(program) else []
     if not names:
-        report.tell('lt_waiting_tests: no test is built', ['run rt ci, or rt test in the crate'])
+        report.tell('lt_table_tests: no test waiting::* is built', ['run rt ci, or rt test in the crate'])
     runs = [name for name in names for _ in range(times)]
     ended = list(lanes.map(lambda name: (name, run_to_its_end([program, name], folder, 300)), runs))
     faults = [f'{name}: status {status}, {err[-200:]}' for name, (status, _, err) in ended if status != 0]
-    report.tell(f'lt_waiting_tests: {len(names)} tests, {times} times each', faults)
+    report.tell(f'lt_table_tests, waiting: {len(names)} tests, {times} times each', faults)
     for way in WAYS:
         for passes in (16, 64):
             words = [built('lockbench'), 'load', '--passes', str(passes), '--keys', '4', '--shards', '4', '--steps', '20000']
             ends_well(report, [*words, '--threads', '--wait', '--history', way], folder, r'=', 300)
-    ends_well(report, [built('lockbench'), 'sleep'], folder, r'\blet_through=1000 order=kept\b', 300, too_busy)
 
 
 def main():

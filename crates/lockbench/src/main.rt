@@ -2,7 +2,6 @@
 //!
 //! - `load` times rounds of a store's transactions on a table, on one thread or many, that keeps its history whole, streams it,
 //!   or records none;
-//! - `sleep` measures the processor time of many requests that sleep at one key, and checks the order in which they go on;
 //! - `soak --seconds N` plays random requests on threads for so long, and checks the histories.
 #![tactic(auto)]
 
@@ -10,7 +9,6 @@ mod closing;
 mod drivers;
 mod load;
 mod memory;
-mod sleeping;
 mod soak;
 mod taking;
 mod words;
@@ -34,7 +32,6 @@ fn run<H: Threads + Wait + Clock + CpuClock + Sync>(
             let name = trace.as_ref().map(|name| name.as_str());
             load::report(threads, rt, alloc, &load, name)
         }
-        Job::Sleep(sizes) => sleeping::report(threads, rt, alloc, &sizes),
         Job::Help(text) => {
             print!(rt; "{text}")?;
             Ok(())

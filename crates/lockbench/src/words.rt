@@ -1,6 +1,5 @@
 //! What the words of the program ask for, read by clap.
 use crate::load::Load;
-use crate::sleeping::Sleep;
 use crate::soak::Soak;
 use anyhow::bail;
 use clap::error::ErrorKind;
@@ -14,7 +13,6 @@ pub enum Job {
     Soak(Soak),
     /// The file is for a trace.
     Load(Load, Option<String>),
-    Sleep(Sleep),
     /// To print this text.
     Help(String),
 }
@@ -45,14 +43,6 @@ fn soak<'a>(alloc: Global) -> Result<Command<'a>, AllocError> {
         .about("Plays random requests on threads, and checks the histories")
         .arg(number(alloc, "seconds", "For so long; 60 if left out"))?
         .arg(history(alloc))
-}
-
-fn sleep<'a>(alloc: Global) -> Result<Command<'a>, AllocError> {
-    Command::new(alloc, "sleep")
-        .about("Measures requests that sleep at one key, and checks their order")
-        .arg(number(alloc, "requests", "Requests, 1 to 1023; 1000 if left out"))?
-        .arg(number(alloc, "threads", "Threads, 1 to 1023; 64 if left out"))?
-        .arg(number(alloc, "seconds", "For so long; 2 if left out"))
 }
 
 /// The file for a trace.
@@ -96,7 +86,6 @@ fn command<'a>(alloc: Global) -> Result<Command<'a>, AllocError> {
         .about("Times the lock table, and plays at it by chance")
         .bin_name("lockbench")?
         .subcommand(load(alloc)?)?
-        .subcommand(sleep(alloc)?)?
         .subcommand(soak(alloc)?)
 }
 
@@ -150,14 +139,6 @@ fn load_job(alloc: Global, matches: &ArgMatches<'_>) -> anyhow::Result<Job> {
     Ok(Job::Load(load, file))
 }
 
-fn sleep_of(matches: &ArgMatches<'_>) -> anyhow::Result<Sleep> {
-    Ok(Sleep {
-        requests: number_of(matches, "requests", 1_000, 1023)? as usize,
-        threads: number_of(matches, "threads", 64, 1023)? as usize,
-        seconds: number_of(matches, "seconds", 2, 1_000)?,
-    })
-}
-
 fn soak_of(matches: &ArgMatches<'_>) -> anyhow::Result<Soak> {
     Ok(Soak {
         seconds: number_of(matches, "seconds", 60, 1_000_000)?,
@@ -171,7 +152,6 @@ fn job_of(alloc: Global, matches: &ArgMatches<'_>) -> anyhow::Result<Job> {
     };
     Ok(match name {
         "soak" => Job::Soak(soak_of(inner)?),
-        "sleep" => Job::Sleep(sleep_of(inner)?),
         _ => load_job(alloc, inner)?,
     })
 }

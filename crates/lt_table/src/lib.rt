@@ -52,7 +52,7 @@
 //!
 //! What a store brings itself: latches, since two requests that meet no lock both proceed, and of their acquires the second is
 //! answered `Other`; pushing, that is what becomes of a transaction that holds a lock for too long, and deadlock detection, for
-//! which [`Table::inspect`] tells who waits for whom; and timestamps. The crate `lt_waiting_tests` has such a store's threads,
+//! which [`Table::inspect`] tells who waits for whom; and timestamps. The crate `lt_table_tests` has such a store's threads,
 //! whole and proved, in `lent.rt` and `queue.rt`.
 //!
 //! A scan waits for the locks of shards alone. At a conflict its request stands in the key's queue, and it answers

@@ -1,13 +1,18 @@
-//! Commands on a table that streams its steps, or records none, with takes of a shard between them.
+//! Calls as text on a table that streams its steps, or records none, with takes of a shard between them.
+//!
+//! Two more lines than those of `text`: `take`, by which all that the shard of the key a holds is taken out, and `read`, by which
+//! a reader of that shard is given what it was not given yet. The last pass does both, and nothing else.
 ghost use Rattle.std.specs.Prelude.{◌≡◌, ◌≢◌, ◌<◌, []};
 
+use crate::playing::{put_line, put_steps};
+use crate::text::call_of;
 use lt_entry::Entry;
 use lt_plain::KeyTable;
 use lt_table::{
     CloseError, CloseRefused, Config, Gone, Keeping, Reader, Ready, Rests, Table, open,
     prepare_with,
 };
-use lt_test_kit::command::{Command, Told};
+use lt_test_kit::command::Command;
 use lt_test_kit::desk::play;
 use lt_test_kit::key::key_of;
 use lt_test_kit::run::{gather, seated};
@@ -17,44 +22,45 @@ use std::alloc::Global;
 use std::marker::Brand;
 use std::sync::Wait;
 
-/// What is done.
-#[derive(Drop)]
-pub enum Act {
-    /// The pass at this place, from 0, makes the command.
-    Play(usize, Command),
-    /// All that the shard of the key a holds is taken out.
-    Take,
-    /// The reader of that shard is given what it was not given yet.
-    Read,
-}
-
-/// What comes of it.
-#[derive(Clone, Copy, Debug, PartialEq, Eq)]
-pub enum Came {
-    /// What the command is told, and the place of its step.
-    Told(Told, Option<u64>),
-    /// So many steps, from this place on.
-    Steps(u64, usize),
-    /// The reader is told that so many steps are gone.
-    Gone(u64),
-}
-
-/// What came of each act, all that was taken out, in order, how a close was refused, and what was left.
+/// What came of it, as text.
 #[derive(Drop)]
 pub struct Kept {
-    pub came: Vec<Came>,
-    pub taken: Vec<Entry>,
+    pub texts: Texts,
+    /// From which place on each shard still has steps, and how many, a line each.
+    pub rests: String,
+    pub draws: u64,
+    /// How a close for whole histories was refused.
     pub refused: CloseError,
-    pub rests: Rests,
 }
 
-/// Who takes steps out: a seat of its own, the reader, the room that is handed in, and all that was taken out, in order.
+/// What came so far, as text.
+#[derive(Drop)]
+pub struct Texts {
+    /// What each line came to: what a call was told, as in `told`; how many steps a take or a read gave, and from which place
+    /// on; or before which place they are gone.
+    pub came: String,
+    /// What each call was told, as `playing` says it of a whole table.
+    pub told: String,
+    /// All that was taken out, in order, a line each; at the end with what is left.
+    pub steps: String,
+}
+
+impl Texts {
+    fn new(alloc: Global) -> Self {
+        Texts {
+            came: String::new(alloc),
+            told: String::new(alloc),
+            steps: String::new(alloc),
+        }
+    }
+}
+
+/// Who takes steps out: a seat of its own, the reader, and the room that is handed in.
 #[derive(Drop)]
 struct Taker<N: Name> {
     seat: Seat<N>,
     reader: Reader,
     room: Vec<Entry>,
-    taken: Vec<Entry>,
     ghost shard: { reader.shard < N.of.shards },
     ghost empty: { room.items ≡ [] },
 }
@@ -63,102 +69,114 @@ fn take<N: Name, T: KeyTable, R: Wait>(
     rt: &R,
     table: &Table<N, T>,
     taker: Taker<N>,
-) -> Option<(Taker<N>, Came)>
+    texts: &mut Texts,
+) -> Option<Taker<N>>
     requires { N.of.keeping ≢ Keeping.Whole }
 {
     let Taker {
         seat,
         reader,
         mut room,
-        mut taken,
     } = taker;
     let mut pass = seat.into_pass()?;
     let from = table.take_history(rt, &mut pass, reader.shard, &mut room);
     let seat = Seat::free(pass);
-    let count = room.len();
-    taken.append(&mut room).ok()?;
-    let taker = Taker {
-        seat,
-        reader,
-        room,
-        taken,
-    };
-    Some((taker, Came::Steps(from, count)))
+    put_taken(texts, from, &room)?;
+    room.clear();
+    Some(Taker { seat, reader, room })
+}
+
+/// So many steps were taken out, from this place on.
+fn put_taken(texts: &mut Texts, from: u64, steps: &[Entry]) -> Option<()> {
+    writeln!(texts.came, "{} from {from}", steps.len()).ok()?;
+    put_steps(&mut texts.steps, steps)
+}
+
+/// What a read gave.
+fn put_read(texts: &mut Texts, from: u64, given: Result<(), Gone>, steps: &[Entry]) -> Option<()> {
+    match given {
+        Ok(()) => put_taken(texts, from, steps),
+        Err(Gone(before)) => writeln!(texts.came, "gone {before}").ok(),
+    }
 }
 
 fn read<N: Name, T: KeyTable, R: Wait>(
     rt: &R,
     table: &Table<N, T>,
     taker: Taker<N>,
-) -> Option<(Taker<N>, Came)>
+    texts: &mut Texts,
+) -> Option<Taker<N>>
     requires { N.of.keeping ≢ Keeping.Whole }
 {
     let Taker {
         seat,
         mut reader,
         mut room,
-        mut taken,
     } = taker;
     let from = reader.next;
     let mut pass = seat.into_pass()?;
     let given = table.take_next(rt, &mut pass, &mut reader, &mut room);
     let seat = Seat::free(pass);
-    if let Err(Gone(before)) = given {
-        let taker = Taker {
-            seat,
-            reader,
-            room,
-            taken,
-        };
-        return Some((taker, Came::Gone(before)));
-    }
-    let count = room.len();
-    taken.append(&mut room).ok()?;
-    let taker = Taker {
-        seat,
-        reader,
-        room,
-        taken,
-    };
-    Some((taker, Came::Steps(from, count)))
+    put_read(texts, from, given, &room)?;
+    room.clear();
+    Some(Taker { seat, reader, room })
 }
 
-/// The pass at the place makes the command.
+/// The pass at the place makes the call.
 fn play_at<N: Name, T: KeyTable, R: Wait>(
     rt: &R,
     alloc: Global,
     table: &Table<N, T>,
     seats: &mut Vec<Seat<N>>,
-    place: usize,
-    command: &Command,
-) -> Option<Came> {
+    call: (usize, Command),
+    texts: &mut Texts,
+) -> Option<()> {
+    let (place, command) = call;
     if place >= seats.len() {
         return None;
     }
     let seat = seats.remove(place);
-    let (seat, line) = play(rt, alloc, table, seat, command)?;
+    let (seat, line) = play(rt, alloc, table, seat, &command)?;
     seats.insert(place, seat).ok()?;
-    Some(Came::Told(line.told, line.at))
+    put_line(&mut texts.told, &line)?;
+    put_line(&mut texts.came, &line)
+}
+
+/// A table at work: the passes that make calls, who takes steps out, and what came so far.
+#[derive(Drop)]
+struct Work<N: Name> {
+    seats: Vec<Seat<N>>,
+    taker: Taker<N>,
+    texts: Texts,
 }
 
 fn act_on<N: Name, T: KeyTable, R: Wait>(
     rt: &R,
     alloc: Global,
     table: &Table<N, T>,
-    seats: &mut Vec<Seat<N>>,
-    taker: Taker<N>,
-    act: &Act,
-) -> Option<(Taker<N>, Came)>
+    work: Work<N>,
+    line: &str,
+) -> Option<Work<N>>
     requires { N.of.keeping ≢ Keeping.Whole }
 {
-    match act {
-        Act::Play(place, command) => {
-            let came = play_at(rt, alloc, table, seats, *place, command)?;
-            Some((taker, came))
-        }
-        Act::Take => take(rt, table, taker),
-        Act::Read => read(rt, table, taker),
+    let Work {
+        mut seats,
+        mut taker,
+        mut texts,
+    } = work;
+    if line == "take" {
+        taker = take(rt, table, taker, &mut texts)?;
+    } else if line == "read" {
+        taker = read(rt, table, taker, &mut texts)?;
+    } else {
+        let call = call_of(alloc, line)?;
+        play_at(rt, alloc, table, &mut seats, call, &mut texts)?;
     }
+    Some(Work {
+        seats,
+        taker,
+        texts,
+    })
 }
 
 /// Closes the table as a whole one, which has to be refused, and then for what is left.
@@ -192,60 +210,82 @@ fn close_twice<N: Name, T: KeyTable + Drop, R: Wait>(
 }
 
 /// The last pass takes steps out of the shard of the key a.
-fn taker_of<N: Name, T: KeyTable>(
+fn work_of<N: Name, T: KeyTable>(
     alloc: Global,
     table: &Table<N, T>,
-    seats: &mut Vec<Seat<N>>,
-) -> Option<Taker<N>> {
+    mut seats: Vec<Seat<N>>,
+) -> Option<Work<N>> {
+    let key = key_of(alloc, b'a')?;
     let seat = seats.pop()?;
-    let shard = table.shard_of(&key_of(alloc, b'a')?);
-    Some(Taker {
+    let taker = Taker {
         seat,
-        reader: Reader { shard, next: 0 },
+        reader: Reader {
+            shard: table.shard_of(&key),
+            next: 0,
+        },
         room: Vec::new(alloc),
-        taken: Vec::new(alloc),
+    };
+    Some(Work {
+        seats,
+        taker,
+        texts: Texts::new(alloc),
     })
 }
 
-fn keep_named<N: Name, R: Wait>(
+/// Puts what is left at the end of the steps, and says from where on it is and how much.
+fn rests_of(alloc: Global, steps: &mut String, rests: &Rests) -> Option<String> {
+    let mut text = String::new(alloc);
+    for rest in &rests.shards {
+        put_steps(steps, &rest.entries)?;
+        writeln!(text, "{} from {}", rest.entries.len(), rest.from).ok()?;
+    }
+    Some(text)
+}
+
+fn close<N: Name, T: KeyTable + Drop, R: Wait>(
     rt: &R,
     alloc: Global,
-    ready: Ready,
-    acts: &[(Act, Came)],
-) -> Option<Kept>
+    table: Table<N, T>,
+    work: Work<N>,
+) -> Option<Kept> {
+    let Work {
+        mut seats,
+        taker,
+        mut texts,
+    } = work;
+    seats.push(taker.seat).ok()?;
+    let (refused, rests) = close_twice(rt, alloc, table, seats)?;
+    let text = rests_of(alloc, &mut texts.steps, &rests)?;
+    Some(Kept {
+        texts,
+        rests: text,
+        draws: rests.draws,
+        refused,
+    })
+}
+
+fn keep_named<N: Name, R: Wait>(rt: &R, alloc: Global, ready: Ready, lines: &str) -> Option<Kept>
     requires of { ready.of ≡ N.of }
     requires keeping { N.of.keeping ≢ Keeping.Whole }
 {
     let (table, passes) = open::<N>(alloc, ready).ok()?;
-    let mut seats = seated::<N>(alloc, passes)?;
-    let mut taker = taker_of(alloc, &table, &mut seats)?;
-    let mut came = Vec::new(alloc);
-    for (act, _) in acts {
-        let (next, one) = act_on(rt, alloc, &table, &mut seats, taker, act)?;
-        taker = next;
-        came.push(one).ok()?;
+    let mut work = work_of(alloc, &table, seated::<N>(alloc, passes)?)?;
+    for line in lines.lines() {
+        work = act_on(rt, alloc, &table, work, line)?;
     }
-    let Taker { seat, taken, .. } = taker;
-    seats.push(seat).ok()?;
-    let (refused, rests) = close_twice(rt, alloc, table, seats)?;
-    Some(Kept {
-        came,
-        taken,
-        refused,
-        rests,
-    })
+    close(rt, alloc, table, work)
 }
 
-/// A run over linked tables. The last pass makes the takes and nothing else.
+/// Plays the lines over linked tables.
 pub fn keep<R: Wait>(
     rt: &R,
     alloc: Global,
     config: Config,
     keeping: Keeping,
-    acts: &[(Act, Came)],
+    lines: &str,
 ) -> Option<Kept>
     requires { keeping ≢ Keeping.Whole }
 {
     let ready = prepare_with(alloc, config, keeping).ok()?;
-    keep_named::<Brand, R>(rt, alloc, ready, acts)
+    keep_named::<Brand, R>(rt, alloc, ready, lines)
 }

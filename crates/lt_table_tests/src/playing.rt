@@ -1,60 +1,13 @@
-//! Commands in short, and lists of them that are played and compared.
+//! Calls as text are played on a whole table, and what comes of them becomes text.
 use crate::linked::run;
-use lt_ids::Access;
-use lt_plain::Reply;
-use lt_table::Config;
-use lt_test_kit::command::{Command, Row, Told};
+use crate::text::rows_of;
+use lt_entry::Entry;
+use lt_table::{Config, Histories};
+use lt_test_kit::command::Told;
+use lt_test_kit::desk::Line;
 use lt_test_kit::run::Ran;
-use std::alloc::{AllocError, Global};
-use std::process::Abort;
+use std::alloc::Global;
 use std::sync::Wait;
-use std::test::Fail;
-
-/// A request of this transaction or of none, with accesses to keys of one byte, `cr` reads c and `aw` writes a, and with
-/// this bound; 0 is none.
-pub fn enter_bounded(
-    alloc: Global,
-    txn: Option<u64>,
-    wall: u64,
-    text: &[u8],
-    longest: u32,
-) -> Result<Command, AllocError> {
-    let mut accesses = Vec::new(alloc);
-    for pair in text.chunks_exact(2) {
-        let access = if pair[1] == b'w' {
-            Access::Write
-        } else {
-            Access::Read
-        };
-        accesses.push((pair[0], access))?;
-    }
-    Ok(Command::Enter {
-        txn,
-        wall,
-        accesses,
-        longest,
-    })
-}
-
-/// A request of a transaction, without a bound.
-pub fn enter(alloc: Global, txn: u64, wall: u64, text: &[u8]) -> Result<Command, AllocError> {
-    enter_bounded(alloc, Some(txn), wall, text, 0)
-}
-
-/// The pass takes the lock of a key that nobody holds.
-pub fn taken(pass: usize, txn: u64, wall: u64, key: u8) -> Row {
-    let take = Command::Acquire { txn, wall, key };
-    (pass, take, Told::Stepped(Reply::Taken))
-}
-
-/// The pass gives the lock of the key up.
-pub fn freed(pass: usize, txn: u64, key: u8) -> Row {
-    (
-        pass,
-        Command::Finish { txn, key },
-        Told::Stepped(Reply::Freed),
-    )
-}
 
 pub fn config(shards: usize, passes: usize) -> Config {
     Config {
@@ -66,33 +19,88 @@ pub fn config(shards: usize, passes: usize) -> Config {
     }
 }
 
-/// Plays the rows, and compares what each command was told.
-pub fn plays<R: Abort + Wait>(
-    rt: &R,
-    alloc: Global,
-    config: Config,
-    rows: &[Row],
-) -> Result<Ran, Fail> {
-    let ran = run(rt, alloc, config, rows, &[]).ok().ok_or("the run")?;
-    assert_eq!(rt; ran.lines.len(), rows.len());
-    let mut number = 0u64;
-    for (line, (_, _, told)) in ran.lines.iter().zip(rows) {
-        assert_eq!(rt; line.told, *told, "at row {number}");
-        number = number.wrapping_add(1);
-    }
-    Ok(ran)
+/// What came of a run, as text.
+#[derive(Drop)]
+pub struct Played {
+    /// What each call was told, a line each, behind the place of its step or a hyphen. Behind a scan and a leave stand the
+    /// replies of their steps.
+    pub told: String,
+    /// All steps, shard by shard, a line each.
+    pub steps: String,
+    /// How many steps each shard made, and how many numbers were drawn.
+    pub counts: String,
 }
 
-/// The replies that the guard kept after the command at this place.
-pub fn replies_at(ran: &Ran, place: usize) -> Option<&[Reply]> {
-    Some(ran.lines.get(place)?.replies.as_slice())
+/// Whether the replies that the guard keeps are of this call.
+fn has_replies(told: Told) -> bool {
+    match told {
+        Told::Scanned(_) | Told::Left | Told::NotLeft(_) => true,
+        _ => false,
+    }
 }
 
-/// How many steps each shard made.
-pub fn steps_of(alloc: Global, ran: &Ran) -> Result<Vec<usize>, AllocError> {
-    let mut steps = Vec::new(alloc);
-    for history in &ran.histories.shards {
-        steps.push(history.len())?;
+/// Puts the place of a call's step at the end, or a hyphen.
+fn put_place(text: &mut String, at: Option<u64>) -> Option<()> {
+    match at {
+        Some(at) => write!(text, "{at} ").ok(),
+        None => write!(text, "- ").ok(),
     }
-    Ok(steps)
+}
+
+/// Puts a line at the end: the place of a call's step, and what the call was told.
+pub fn put_line(text: &mut String, line: &Line) -> Option<()> {
+    put_place(text, line.at)?;
+    if has_replies(line.told) {
+        writeln!(text, "{:?} {:?}", line.told, line.replies.as_slice()).ok()
+    } else {
+        writeln!(text, "{:?}", line.told).ok()
+    }
+}
+
+/// What each call was told, a line each.
+pub fn told_of(alloc: Global, lines: &[Line]) -> Option<String> {
+    let mut text = String::new(alloc);
+    for line in lines {
+        put_line(&mut text, line)?;
+    }
+    Some(text)
+}
+
+/// Puts each step at the end, a line each.
+pub fn put_steps(text: &mut String, steps: &[Entry]) -> Option<()> {
+    for step in steps {
+        writeln!(text, "{step:?}").ok()?;
+    }
+    Some(())
+}
+
+fn steps_of(alloc: Global, histories: &Histories) -> Option<String> {
+    let mut text = String::new(alloc);
+    for history in &histories.shards {
+        put_steps(&mut text, history)?;
+    }
+    Some(text)
+}
+
+fn counts_of(alloc: Global, histories: &Histories) -> Option<String> {
+    let mut counts = Vec::new(alloc);
+    for history in &histories.shards {
+        counts.push(history.len()).ok()?;
+    }
+    format!(in alloc; "{:?} {}", counts.as_slice(), histories.draws).ok()
+}
+
+fn outcome_of(alloc: Global, ran: &Ran) -> Option<Played> {
+    Some(Played {
+        told: told_of(alloc, &ran.lines)?,
+        steps: steps_of(alloc, &ran.histories)?,
+        counts: counts_of(alloc, &ran.histories)?,
+    })
+}
+
+/// Plays the calls of the text (`text`) on a whole table.
+pub fn plays<R: Wait>(rt: &R, alloc: Global, config: Config, text: &str) -> Option<Played> {
+    let rows = rows_of(alloc, text)?;
+    let ran = run(rt, alloc, config, &rows, &[]).ok()?;
+    outcome_of(alloc, &ran)
 }

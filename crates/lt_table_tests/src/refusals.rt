@@ -1,40 +1,38 @@
 //! A script on a table of each way of keeping, for whoever refuses each of its allocations in turn: what was refused is
 //! called again, and all comes out as without a refusal.
-use crate::playing::{config, enter, freed, taken};
+use crate::playing::config;
 use crate::refusing::{Done, Part, Script, play_taken, play_whole};
+use crate::text::rows_of;
 use lt_entry::Entry;
 use lt_plain::Reply;
 use lt_table::{Config, Keeping, Poll, Scan};
 use lt_test_kit::asking::{Question, Sight};
-use lt_test_kit::command::{Command, Row, Told};
-use std::alloc::{AllocError, Global};
+use lt_test_kit::command::{Row, Told};
+use std::alloc::Global;
 use std::process::Abort;
 use std::sync::Wait;
 use std::test::Fail;
 
 /// The lock of the key A, which lies on the heap, is taken, and request 1 comes to write the key and waits.
-fn rows_before(alloc: Global) -> Result<Vec<Row>, AllocError> {
-    let rows = vec![in alloc;
-        taken(1, 9, 10, b'A'),
-        (0, enter(alloc, 1, 20, b"Aw")?, Told::Entered(1)),
-        (0, Command::Scan, Told::Scanned(Scan::Waiting(0))),
-    ]?;
-    Ok(rows)
-}
+const CALLS_BEFORE: &'static str = "1 acquire 9 10 A\n0 enter 1 20 Aw 0\n0 scan\n";
 
 /// The lock comes free, and request 1 goes on, takes it, leaves, and frees it.
-fn rows_after(alloc: Global) -> Result<Vec<Row>, AllocError> {
-    let rows = vec![in alloc;
-        freed(1, 9, b'A'),
-        (0, Command::Poll, Told::Polled(Poll::Through)),
-        (0, Command::Scan, Told::Scanned(Scan::Rescan)),
-        (0, Command::Scan, Told::Scanned(Scan::Proceed)),
-        taken(0, 1, 20, b'A'),
-        (0, Command::Leave, Told::Left),
-        freed(0, 1, b'A'),
-    ]?;
-    Ok(rows)
-}
+const CALLS_AFTER: &'static str =
+    "1 finish 9 A\n0 poll\n0 scan\n0 scan\n0 acquire 1 20 A\n0 leave\n0 finish 1 A\n";
+
+/// What each call is told.
+const TOLD: [Told; 10] = [
+    Told::Stepped(Reply::Taken),
+    Told::Entered(1),
+    Told::Scanned(Scan::Waiting(0)),
+    Told::Stepped(Reply::Freed),
+    Told::Polled(Poll::Through),
+    Told::Scanned(Scan::Rescan),
+    Told::Scanned(Scan::Proceed),
+    Told::Stepped(Reply::Taken),
+    Told::Left,
+    Told::Stepped(Reply::Freed),
+];
 
 /// How the key A stands is asked by a pass and by a guard, and which keys have a record by a pass.
 const BEFORE: [Option<Question>; 3] = [
@@ -109,17 +107,12 @@ fn are_replied<R: Abort>(rt: &R, steps: &[Entry], replies: &[Reply]) -> Result<(
     Ok(())
 }
 
-/// Each row was told what it says.
-fn are_told<R: Abort>(rt: &R, done: &Done, rows: &[&[Row]; 2]) -> Result<(), Fail> {
-    let mut lines = done.lines.iter();
-    for part in rows {
-        for (_, _, told) in *part {
-            let line = lines.next().ok_or("the line")?;
-            assert_eq!(rt; line.told, *told);
-        }
+/// Each call was told what it is to be told.
+fn are_told<R: Abort>(rt: &R, done: &Done) {
+    assert_eq!(rt; done.lines.len(), TOLD.len());
+    for (line, told) in done.lines.iter().zip(&TOLD) {
+        assert_eq!(rt; line.told, *told);
     }
-    assert!(rt; lines.next().is_none());
-    Ok(())
 }
 
 /// Each question was answered so.
@@ -183,13 +176,11 @@ fn play_once<R: Wait>(
     }
 }
 
-/// The rows of this function, which is called again where it is refused memory.
-fn rows_by<F: Fn() -> Result<Vec<Row>, AllocError>>(make: F) -> Result<Vec<Row>, AllocError>
-    requires { F.IsAlwaysCallable make }
-{
-    match make() {
-        Ok(rows) => Ok(rows),
-        Err(_) => make(),
+/// The calls of the text, which is read once more where an allocation fails.
+fn rows_through(alloc: Global, text: &str) -> Option<Vec<Row>> {
+    match rows_of(alloc, text) {
+        Some(rows) => Some(rows),
+        None => rows_of(alloc, text),
     }
 }
 
@@ -200,14 +191,14 @@ fn come_out<R: Abort + Wait>(
     keeping: Keeping,
     kept: Kept,
 ) -> Result<(), Fail> {
-    let before = rows_by(|| rows_before(alloc))?;
-    let after = rows_by(|| rows_after(alloc))?;
+    let before = rows_through(alloc, CALLS_BEFORE).ok_or("the calls")?;
+    let after = rows_through(alloc, CALLS_AFTER).ok_or("the calls")?;
     let mut done = play_once(rt, alloc, keeping, &before, &after);
     if done.is_none() {
         done = play_once(rt, alloc, keeping, &before, &after);
     }
     let done = done.ok_or("the script")?;
-    are_told(rt, &done, &[&before, &after])?;
+    are_told(rt, &done);
     are_seen(rt, &done)?;
     are_kept(rt, &done, kept)
 }

@@ -2,42 +2,22 @@
 ghost use Rattle.std.specs.Prelude.{◌≡◌, ◌≢◌, ◌<◌, [], IfSome};
 ghost use Rattle.lt_words.specs.declared.keeping.Keeping.TheVariants.{Whole};
 
-use crate::playing::config;
+use crate::work::{TURNS, Worked, Worker, limits, lines_of, work_all, workers_of};
 use lt_entry::Entry;
-use lt_ids::Access;
 use lt_plain::KeyTable;
-use lt_table::{
-    Config, Keeping, Reader, Ready, Rest, ScanError, StepError, Table, open, prepare_with,
-};
-use lt_test_kit::command::{Command, Told};
-use lt_test_kit::desk::{Line, play};
+use lt_table::{Config, Keeping, Reader, Ready, Rest, Table, open, prepare_with};
 use lt_test_kit::key::key_of;
 use lt_test_kit::run::{rests_through, seated};
 use lt_test_kit::seat::Seat;
 use lt_words::Name;
-use std::alloc::{AllocError, Global};
-use std::hint::spin_loop;
+use std::alloc::Global;
 use std::marker::Brand;
 use std::sync::Wait;
 use std::sync::atomic::{AtomicBool, Ordering};
-use std::thread::{Threads, join, map_vec};
-
-/// How many rounds each thread makes.
-pub const ROUNDS: usize = 300;
+use std::thread::{Threads, join};
 
 /// How many steps a shard may hold. So the threads can go on only because they are taken out.
 const HELD: u64 = 64;
-
-/// How often a thread tries again at most, where the shard is full.
-const TURNS: u32 = 100_000_000;
-
-/// A thread's seat, its round of commands, and what they were told so far.
-#[derive(Drop)]
-struct Worker<N: Name> {
-    seat: Seat<N>,
-    round: Vec<Command>,
-    lines: Vec<Line>,
-}
 
 /// The reader of a shard, and what it was given.
 #[derive(Drop)]
@@ -58,112 +38,6 @@ struct Taker<N: Name> {
     ghost empty: { room.items ≡ [] },
     ghost first_shard: { first.reader.shard < N.of.shards },
     ghost second_shard: { second.reader.shard < N.of.shards },
-}
-
-/// What came of it: what each thread was told, the history of each shard, how many pieces were taken, and the draws.
-#[derive(Drop)]
-pub struct Streamed {
-    pub lines: Vec<Vec<Line>>,
-    pub shards: Vec<Vec<Entry>>,
-    pub pieces: u64,
-    pub draws: u64,
-}
-
-/// Whether a shard was full.
-fn is_full(told: Told) -> bool {
-    match told {
-        Told::NotScanned(error) => error == ScanError::HistoryFull,
-        Told::NotStepped(error) | Told::NotLeft(error) => error == StepError::HistoryFull,
-        _ => false,
-    }
-}
-
-/// Plays the command, again and again where a shard is full.
-fn play_through<N: Name, T: KeyTable, R: Wait>(
-    rt: &R,
-    alloc: Global,
-    table: &Table<N, T>,
-    seat: Seat<N>,
-    command: &Command,
-) -> Option<(Seat<N>, Line)> {
-    let mut seat = seat;
-    for _ in 0..TURNS {
-        let (next, line) = play(rt, alloc, table, seat, command)?;
-        if !is_full(line.told) {
-            return Some((next, line));
-        }
-        seat = next;
-        spin_loop();
-    }
-    None
-}
-
-/// Plays each command of the round.
-fn play_round<N: Name, T: KeyTable, R: Wait>(
-    rt: &R,
-    alloc: Global,
-    table: &Table<N, T>,
-    worker: Worker<N>,
-) -> Option<Worker<N>> {
-    let Worker {
-        mut seat,
-        round,
-        mut lines,
-    } = worker;
-    for command in &round {
-        let (next, line) = play_through(rt, alloc, table, seat, command)?;
-        seat = next;
-        lines.push(line).ok()?;
-    }
-    Some(Worker { seat, round, lines })
-}
-
-/// A thread's work.
-fn work<N: Name, T: KeyTable, R: Wait>(
-    rt: &R,
-    alloc: Global,
-    table: &Table<N, T>,
-    mut worker: Worker<N>,
-) -> Option<Worker<N>> {
-    for _ in 0..ROUNDS {
-        worker = play_round(rt, alloc, table, worker)?;
-    }
-    Some(worker)
-}
-
-/// A request comes to write a key of its own and passes; then it takes the lock of the key a, which all want, frees it, and
-/// leaves.
-fn round_of(alloc: Global, number: u8) -> Result<Vec<Command>, AllocError> {
-    let txn = u64::from(number);
-    let mut accesses = Vec::new(alloc);
-    accesses.push((b'a'.wrapping_add(number), Access::Write))?;
-    let enter = Command::Enter {
-        txn: Some(txn),
-        wall: 1,
-        accesses,
-        longest: 0,
-    };
-    let take = Command::Acquire {
-        txn,
-        wall: 1,
-        key: b'a',
-    };
-    let free = Command::Finish { txn, key: b'a' };
-    let round = vec![in alloc; enter, Command::Scan, take, free, Command::Leave]?;
-    Ok(round)
-}
-
-/// A worker for each seat: transactions 1, 2 and so on.
-fn workers_of<N: Name>(alloc: Global, seats: Vec<Seat<N>>) -> Option<Vec<Worker<N>>> {
-    let mut workers = Vec::new(alloc);
-    let mut number = 0u8;
-    for seat in seats {
-        number = number.wrapping_add(1);
-        let round = round_of(alloc, number).ok()?;
-        let lines = Vec::new(alloc);
-        workers.push(Worker { seat, round, lines }).ok()?;
-    }
-    Some(workers)
 }
 
 /// Takes out what the shard of the stream holds. The room is empty before and afterwards.
@@ -244,7 +118,7 @@ fn take_until<N: Name, T: KeyTable, R: Wait>(
 }
 
 /// All workers at once, and beside them the taker.
-fn work_all<N: Name + Send + Sync, T: KeyTable + Send, R: Threads + Wait + Sync>(
+fn work_beside<N: Name + Send + Sync, T: KeyTable + Send, R: Threads + Wait + Sync>(
     rt: &R,
     alloc: Global,
     table: &Table<N, T>,
@@ -256,11 +130,7 @@ fn work_all<N: Name + Send + Sync, T: KeyTable + Send, R: Threads + Wait + Sync>
     let (worked, taken) = join(
         rt,
         move || {
-            let worked = map_vec(
-                rt,
-                workers,
-                &|worker: Worker<N>| -> Option<Worker<N>> { work(rt, alloc, table, worker) },
-            );
+            let worked = work_all(rt, alloc, table, workers);
             done.store(true, Ordering::SeqCst);
             worked
         },
@@ -296,25 +166,6 @@ fn taker_of<N: Name, T: KeyTable>(
     })
 }
 
-/// What the threads were told; their seats go to the others.
-fn lines_of<N: Name>(
-    alloc: Global,
-    worked: Vec<Option<Worker<N>>>,
-    seats: &mut Vec<Seat<N>>,
-) -> Option<Vec<Vec<Line>>> {
-    let mut lines = Vec::new(alloc);
-    for worker in worked {
-        let Worker {
-            seat,
-            lines: told,
-            ..
-        } = worker?;
-        seats.push(seat).ok()?;
-        lines.push(told).ok()?;
-    }
-    Some(lines)
-}
-
 /// What was taken of a shard and what is left of it, which follows.
 fn joined(mut taken: Vec<Entry>, rest: Rest) -> Option<Vec<Entry>> {
     if rest.from != taken.len() as u64 {
@@ -347,7 +198,7 @@ fn close<N: Name, T: KeyTable + Drop, R: Wait>(
     table: Table<N, T>,
     worked: Vec<Option<Worker<N>>>,
     taker: Taker<N>,
-) -> Option<Streamed> {
+) -> Option<Worked> {
     let Taker {
         seat,
         first,
@@ -359,7 +210,7 @@ fn close<N: Name, T: KeyTable + Drop, R: Wait>(
     let lines = lines_of(alloc, worked, &mut seats)?;
     let rests = rests_through(rt, alloc, table, seats, &mut Vec::new(alloc))?;
     let pieces = first.pieces.wrapping_add(second.pieces);
-    Some(Streamed {
+    Some(Worked {
         lines,
         shards: histories_of(alloc, first.taken, second.taken, rests.shards)?,
         pieces,
@@ -371,7 +222,7 @@ fn stream_named<N: Name + Send + Sync, R: Threads + Wait + Sync>(
     rt: &R,
     alloc: Global,
     ready: Ready,
-) -> Option<Streamed>
+) -> Option<Worked>
     requires of { ready.of ≡ N.of }
     requires keeping { N.of.keeping ≢ Keeping.Whole }
 {
@@ -379,16 +230,16 @@ fn stream_named<N: Name + Send + Sync, R: Threads + Wait + Sync>(
     let mut seats = seated::<N>(alloc, passes)?;
     let taker = taker_of(alloc, &table, seats.pop()?)?;
     let workers = workers_of(alloc, seats)?;
-    let (worked, taker) = work_all(rt, alloc, &table, workers, taker)?;
+    let (worked, taker) = work_beside(rt, alloc, &table, workers, taker)?;
     close(rt, alloc, table, worked, taker)
 }
 
 /// A table of two shards and five passes.
-pub fn stream_work<R: Threads + Wait + Sync>(rt: &R, alloc: Global) -> Option<Streamed> {
+pub fn stream_work<R: Threads + Wait + Sync>(rt: &R, alloc: Global) -> Option<Worked> {
     let small = Config {
         max_steps: HELD,
-        max_requests: 10_000,
-        ..config(2, 5)
+        passes: 5,
+        ..limits()
     };
     let ready = prepare_with(alloc, small, Keeping::Streamed).ok()?;
     stream_named::<Brand, R>(rt, alloc, ready)

@@ -1,7 +1,9 @@
-//! What four threads were told beside a fifth that takes their steps out.
+//! What four threads were told of a whole table, and of a streamed one beside a fifth thread that takes their steps out.
 ghost use Rattle.std.specs.Prelude.{◌≡◌, length};
 
-use crate::stream::{ROUNDS, Streamed, stream_work};
+use crate::race::race;
+use crate::stream::stream_work;
+use crate::work::{ROUNDS, Worked};
 use lt_entry::Entry;
 use lt_plain::{Call, Reply};
 use lt_table::Scan;
@@ -11,10 +13,6 @@ use lt_test_kit::replay::is_legal;
 use std::alloc::Global;
 use std::process::Abort;
 use std::test::Fail;
-
-/// At least so many pieces are taken. Of 1,200 steps at the keys b and d, and of 3,600 at a, c and e, all but the last 64 are
-/// taken out, and no piece has more than 64: 18 and 56 pieces.
-const PIECES: u64 = 74;
 
 /// The call of transaction `number` that takes the lock, or frees it.
 fn is_call(call: &Call, number: u64, is_taking: bool) -> bool {
@@ -28,12 +26,12 @@ fn is_call(call: &Call, number: u64, is_taking: bool) -> bool {
 /// The line tells the reply of this call, and its place in the history of the shard of the key a holds that step.
 fn is_stored<R: Abort>(
     rt: &R,
-    streamed: &Streamed,
+    worked: &Worked,
     line: &Line,
     pass: u32,
     is_taking: bool,
 ) -> Result<(), Fail> {
-    let history = streamed.shards.get(1).ok_or("the shard")?;
+    let history = worked.shards.get(1).ok_or("the shard")?;
     let at = line.at.ok_or("the place")?;
     let entry = history.get(at as usize).ok_or("the step")?;
     assert_eq!(rt; entry.key().as_bytes(), b"a".as_slice());
@@ -56,12 +54,7 @@ fn compare_request<R: Abort>(rt: &R, round: &[Line]) -> Result<(), Fail>
 }
 
 /// It took the lock of the key a and freed it, or another transaction had it.
-fn compare_lock<R: Abort>(
-    rt: &R,
-    streamed: &Streamed,
-    round: &[Line],
-    pass: u32,
-) -> Result<(), Fail>
+fn compare_lock<R: Abort>(rt: &R, worked: &Worked, round: &[Line], pass: u32) -> Result<(), Fail>
     requires { length round.now ≡ 5 }
 {
     let wanted = match round[2].told {
@@ -69,19 +62,19 @@ fn compare_lock<R: Abort>(
         told => told,
     };
     assert_eq!(rt; round[3].told, wanted);
-    is_stored(rt, streamed, &round[2], pass, true)?;
-    is_stored(rt, streamed, &round[3], pass, false)
+    is_stored(rt, worked, &round[2], pass, true)?;
+    is_stored(rt, worked, &round[3], pass, false)
 }
 
 /// All rounds of each thread.
-fn compare<R: Abort>(rt: &R, streamed: &Streamed) -> Result<(), Fail> {
+fn compare<R: Abort>(rt: &R, worked: &Worked) -> Result<(), Fail> {
     let mut pass = 0u32;
-    for lines in &streamed.lines {
+    for lines in &worked.lines {
         pass = pass.wrapping_add(1);
         assert_eq!(rt; lines.len(), 5 * ROUNDS);
         for round in lines.chunks_exact(5) {
             compare_request(rt, round)?;
-            compare_lock(rt, streamed, round, pass)?;
+            compare_lock(rt, worked, round, pass)?;
         }
     }
     assert_eq!(rt; pass, 4);
@@ -111,25 +104,32 @@ fn count_keys(alloc: Global, shards: &[Vec<Entry>]) -> Option<usize> {
     Some(keys.len())
 }
 
-/// Each round makes four steps: the visit, both calls at the key a, and the leave. Put together, the pieces and what is left
-/// are the legal history of all of them, at five keys.
-#[test]
-fn what_is_taken_while_threads_work_is_their_whole_history(rt: HostRuntime) -> Result<(), Fail> {
-    let alloc = rt.alloc();
-    let streamed = stream_work(&rt, alloc).ok_or("the stream")?;
-    let steps = 4 * 4 * ROUNDS;
-    compare(&rt, &streamed)?;
-    assert_eq!(rt; steps_of(&streamed.shards), steps);
-    assert_eq!(rt; streamed.draws, 4 * ROUNDS as u64);
-    for shard in &streamed.shards {
+/// Each round makes four steps: the visit, both calls at the key a, and the leave. The histories are legal ones of all of
+/// them, at five keys.
+fn expect<R: Abort>(rt: &R, alloc: Global, worked: &Worked) -> Result<(), Fail> {
+    compare(rt, worked)?;
+    assert_eq!(rt; steps_of(&worked.shards), 4 * 4 * ROUNDS);
+    assert_eq!(rt; worked.draws, 4 * ROUNDS as u64);
+    for shard in &worked.shards {
         assert_eq!(rt; is_legal(alloc, shard), Some(true));
     }
-    assert_eq!(rt; count_keys(alloc, &streamed.shards), Some(5));
+    assert_eq!(rt; count_keys(alloc, &worked.shards), Some(5));
+    Ok(())
+}
+
+#[test]
+fn the_place_of_each_answer_holds_its_step(rt: HostRuntime) -> Result<(), Fail> {
+    let worked = race(&rt, rt.alloc()).ok_or("the race")?;
+    expect(&rt, rt.alloc(), &worked)
+}
+
+/// Put together, the pieces and what is left are the whole history.
+#[test]
+fn what_is_taken_while_threads_work_is_their_whole_history(rt: HostRuntime) -> Result<(), Fail> {
+    let worked = stream_work(&rt, rt.alloc()).ok_or("the stream")?;
+    expect(&rt, rt.alloc(), &worked)?;
     // A shard holds 64 steps, so what was made of both was taken out in many pieces.
-    assert!(rt;
-        streamed.pieces >= (steps / 64 - 2) as u64,
-        "{}",
-        streamed.pieces
-    );
+    let pieces = 4 * 4 * ROUNDS as u64 / 64 - 2;
+    assert!(rt; worked.pieces >= pieces, "{}", worked.pieces);
     Ok(())
 }

@@ -13,7 +13,7 @@ use std::test::*;
 use std::thread::Threads;
 
 /// What each run shows, its script, and what it writes. Eight runs are the scripts of `examples/`, whose files say the same.
-const RUNS: [(&'static str, &'static str, &'static str); 30] = [
+const RUNS: [(&'static str, &'static str, &'static str); 32] = [
     ("an empty script", "", "locks 2\n"),
     (
         "a reader at the time of the holder waits",
@@ -149,6 +149,16 @@ const RUNS: [(&'static str, &'static str, &'static str); 30] = [
         "a request that stands already is not refused by its bound",
         "3 acquire 9 10.0 a\n1 open 1 10.0 a:w\n2 open 2 10.0 max=1 a:w\n2 scan\n3 finish 9 a\n1 scan\n2 scan\n2 scan\n2 await\n",
         "1 2 request 1\n1 6 proceed\n2 3 request 2\n2 4 waiting a\n2 7 rescan\n2 8 waiting a\n2 9 waiting\n3 1 taken\n3 5 freed\nlocks 2\na 1 3 acquire 9 10.0 = taken\na 2 2 visit 2.1 2 10.0 w max=1 = wait\na 3 3 finish 9 = freed let 2.1\na 4 1 visit 1.1 1 10.0 w = pass\na 5 2 visit 2.2 2 10.0 w max=1 = wait\n",
+    ),
+    (
+        "the visits before a queue that is too long stand, and the next scan begins at the first key",
+        "3 acquire 9 10.0 b\n1 open 1 1.0 b:w\n1 scan\n2 open 2 1.0 max=1 a:w b:w\n2 scan\n2 await\n1 leave\n2 scan\n3 finish 9 b\n2 scan\n2 scan\n",
+        "1 2 request 1\n1 3 waiting b\n1 7 done\n2 4 request 2\n2 5 long b\n2 6 idle\n2 8 waiting b\n2 10 rescan\n2 11 proceed\n3 1 taken\n3 9 freed\nlocks 2\na 1 2 visit 2.1 2 1.0 w max=1 = pass\na 2 2 visit 2.1 2 1.0 w max=1 = pass\na 3 2 visit 2.2 2 1.0 w max=1 = pass\nb 1 3 acquire 9 10.0 = taken\nb 2 1 visit 1.1 1 1.0 w = wait\nb 3 2 visit 2.1 2 1.0 w max=1 = long\nb 4 1 leave 1 = left\nb 5 2 visit 2.1 2 1.0 w max=1 = wait\nb 6 3 finish 9 = freed let 2.1\nb 7 2 visit 2.2 2 1.0 w max=1 = pass\n",
+    ),
+    (
+        "a queue that is too long ends a scan that was let through, and its wait is forgotten",
+        "3 acquire 9 10.0 a\n3 acquire 9 10.0 b\n1 open 1 1.0 b:w\n1 scan\n2 open 2 1.0 max=1 a:w b:w\n2 scan\n3 finish 9 a\n2 scan\n2 await\n2 look a\n2 look b\n3 finish 9 b\n1 leave\n2 scan\n2 leave\n",
+        "1 3 request 1\n1 4 waiting b\n1 13 done\n2 5 request 2\n2 6 waiting a\n2 8 long b\n2 9 idle\n2 10 reserved\n2 11 nothing\n2 14 proceed\n2 15 done\n3 1 taken\n3 2 taken\n3 7 freed\n3 12 freed\nlocks 2\na 1 3 acquire 9 10.0 = taken\na 2 2 visit 2.1 2 1.0 w max=1 = wait\na 3 3 finish 9 = freed let 2.1\na 4 2 look 2 = reserved\na 5 2 visit 2.2 2 1.0 w max=1 = pass\na 6 2 leave 2 = left\nb 1 3 acquire 9 10.0 = taken\nb 2 1 visit 1.1 1 1.0 w = wait\nb 3 2 visit 2.2 2 1.0 w max=1 = long\nb 4 2 look 2 = nothing\nb 5 3 finish 9 = freed let 1.1\nb 6 1 leave 1 = left\nb 7 2 visit 2.2 2 1.0 w max=1 = pass\nb 8 2 leave 2 = absent\n",
     ),
     (
         "a bound that ends like an access is a key",

@@ -1,4 +1,5 @@
-//! The growing history on real threads: numbers are drawn and steps made through one book, and a let is polled.
+//! The growing history on real threads: numbers are drawn and steps made through one book. [`shard`] makes the steps of a shard,
+//! and polls lets.
 #![tactic(auto)]
 
 #[cfg(test)]
@@ -11,7 +12,5 @@ mod seat;
 mod shard;
 #[cfg(test)]
 mod sharding;
-#[cfg(test)]
-mod shown;
 #[cfg(test)]
 mod tests;

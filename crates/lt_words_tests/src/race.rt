@@ -155,7 +155,7 @@ fn one_step_each<R: Wait>(rt: &R, book: &Book, pass: &mut Pass)
 }
 
 /// A new book of 64 shards, and its two passes.
-pub fn open_for_two(alloc: Global) -> Option<(Book, Seat, Seat)>
+fn open_for_two(alloc: Global) -> Option<(Book, Seat, Seat)>
     ensures shards { IfSome result (λ r. r.0.shards ≡ 64) }
     ensures one { IfSome result (λ r. r.1.pass.of ≡ r.0) }
     ensures two { IfSome result (λ r. r.2.pass.of ≡ r.0) }

@@ -1,8 +1,7 @@
 use crate::named::open_by_name;
-use crate::race::{drawn_by_four, drawn_by_two, open_for_two, spread};
+use crate::race::{drawn_by_four, drawn_by_two, spread};
 use crate::seat::Seat;
 use crate::sharding::shards_of;
-use crate::shown::show_two_lets;
 use lt_words::{Book, Keeping, abandon_all};
 use std::test::Fail;
 
@@ -20,20 +19,6 @@ fn four_threads_draw_each_number_once_and_step_each_shard_once(
 fn two_threads_draw_each_number_once(rt: HostRuntime) -> Result<(), Fail> {
     let numbers = drawn_by_two(&rt, rt.alloc(), 1000).ok_or("the two workers")?;
     assert_eq!(rt; spread(numbers), Some((1, 2000, 2000)));
-    Ok(())
-}
-
-#[test]
-fn a_poll_sees_the_highest_let(rt: HostRuntime) -> Result<(), Fail> {
-    let (book, one, two) = open_for_two(rt.alloc()).ok_or("the book")?;
-    let (mut waiter, mut holder) = (one, two);
-    assert_eq!(rt; book.read(&mut waiter.pass), 0);
-    let shown = show_two_lets(&rt, rt.alloc(), &book, &mut waiter.pass, &mut holder.pass).ok_or(
-        "the steps",
-    )?;
-    // The tickets 1.1 and 2.1, a number times 2^24, and the wait; and no word falls.
-    assert_eq!(rt; shown, (16_777_217, 33_554_433, 33_554_433));
-    assert_eq!(rt; book.read(&mut holder.pass), 0);
     Ok(())
 }
 

@@ -1,0 +1,332 @@
+use crate::linked::run;
+use crate::schedules::cases::Counts;
+use crate::schedules::plain::run_plain;
+use crate::schedules::schedule::{Schedule, random_schedule};
+use crate::schedules::standing::{Standing, Wanted, standing_of};
+use crate::schedules::steps::{Asked, Step};
+use lt_entry::Entry;
+use lt_ids::{Access, Key, Timestamp, TxnId};
+use lt_plain::{Call, Reply};
+use lt_table::{KeyState, ScanError};
+use lt_test_kit::asking::Sight;
+use lt_test_kit::command::{TableCall, Told};
+use lt_test_kit::desk::Line;
+use lt_test_kit::key::key_length;
+use lt_test_kit::run::Ran;
+use lt_test_kit::second::{Let, Time};
+use std::alloc::{AllocError, Global};
+use std::io::Write;
+use std::process::Abort;
+use std::sync::Wait;
+use std::test::Fail;
+
+fn time_of(ts: Timestamp) -> Time {
+    (ts.wall, ts.logical)
+}
+
+fn number_of(txn: Option<TxnId>) -> Option<u64> {
+    Some(txn?.number())
+}
+
+fn asked_of(call: &Call) -> Asked {
+    match *call {
+        Call::Visit {
+            ticket,
+            txn,
+            ts,
+            access,
+            longest,
+        } => Asked::Visit {
+            number: ticket.number(),
+            wait: ticket.wait(),
+            txn: number_of(txn),
+            time: time_of(ts),
+            is_write: access == Access::Write,
+            longest,
+        },
+        Call::Acquire { txn, ts } => Asked::Acquire {
+            txn: txn.number(),
+            time: time_of(ts),
+        },
+        Call::Update { txn, ts } => Asked::Update {
+            txn: txn.number(),
+            time: time_of(ts),
+        },
+        Call::Finish { txn } => Asked::Finish { txn: txn.number() },
+        Call::Leave { number } => Asked::Leave { number },
+        Call::Look { number } => Asked::Look { number },
+    }
+}
+
+fn lets_of(alloc: Global, entry: &Entry) -> Result<Vec<Let>, AllocError> {
+    let mut lets = Vec::new(alloc);
+    for through in entry.lets() {
+        lets.push((through.pass, through.ticket.number(), through.ticket.wait()))?;
+    }
+    Ok(lets)
+}
+
+/// Whether the line has these replies. After a scan that was refused memory and made again, the guard tells those of the
+/// further one alone, until it scans again or leaves.
+fn has_replies(ran: &Ran, line: &Line, wanted: &[Reply]) -> bool {
+    let is_aside = match line.told {
+        Told::Scanned(_) | Told::NotScanned(ScanError::HistoryFull) => false,
+        Told::NotScanned(ScanError::WaitsOut) | Told::Left | Told::NotLeft(_) => false,
+        _ => true,
+    };
+    let replies = line.replies.as_slice();
+    replies == wanted || ran.refused.len() == 1 && is_aside && wanted.ends_with(replies)
+}
+
+/// Each command was told what the rules give, with the same replies and at the same place.
+fn compare_lines<R: Abort>(rt: &R, seed: u64, schedule: &Schedule, ran: &Ran) -> Result<(), Fail> {
+    assert_eq!(rt; ran.lines.len(), schedule.lines.len());
+    let mut number = 0u64;
+    for (line, wanted) in ran.lines.iter().zip(&schedule.lines) {
+        assert_eq!(rt; line.told, wanted.told, "seed {seed}, command {number}");
+        assert_eq!(rt;
+            line.at,
+            wanted.at,
+            "the place, seed {seed}, command {number}"
+        );
+        assert!(rt;
+            has_replies(ran, line, &wanted.replies),
+            "the replies differ, seed {seed}, command {number}"
+        );
+        number = number.wrapping_add(1);
+    }
+    Ok(())
+}
+
+/// The key is the one that the letter names.
+fn is_key(key: &Key, letter: u8) -> bool {
+    let bytes = key.as_bytes();
+    bytes.len() == key_length(letter) && bytes.iter().all(|byte| *byte == letter)
+}
+
+/// The entry is this step.
+fn compare_entry<R: Abort>(
+    rt: &R,
+    alloc: Global,
+    seed: u64,
+    entry: &Entry,
+    step: &Step,
+) -> Result<(), Fail> {
+    assert!(rt; is_key(entry.key(), step.key), "the key, seed {seed}");
+    assert_eq!(rt; entry.pass(), step.pass, "the pass, seed {seed}");
+    assert_eq!(rt;
+        asked_of(&entry.call()),
+        step.asked,
+        "the call, seed {seed}"
+    );
+    assert_eq!(rt; entry.reply(), step.reply, "the reply, seed {seed}");
+    let mut lets = lets_of(alloc, entry);
+    if lets.is_err() {
+        lets = lets_of(alloc, entry);
+    }
+    assert!(rt; lets? == step.lets, "the lets differ, seed {seed}");
+    Ok(())
+}
+
+/// The history is that of the shard at this place, from 0.
+fn compare_history<R: Abort>(
+    rt: &R,
+    alloc: Global,
+    seed: u64,
+    schedule: &Schedule,
+    shard: u64,
+    history: &[Entry],
+) -> Result<(), Fail> {
+    let mut entries = history.iter();
+    for step in schedule.second.steps() {
+        if schedule.second.shard_of(step.key) == shard {
+            let entry = entries.next().ok_or("an entry")?;
+            compare_entry(rt, alloc, seed, entry, step)?;
+        }
+    }
+    assert!(rt; entries.next().is_none(), "an entry too many, seed {seed}");
+    Ok(())
+}
+
+/// The key stands so.
+fn compare_standing<R: Abort>(
+    rt: &R,
+    alloc: Global,
+    seed: u64,
+    state: &KeyState,
+    wanted: &Standing,
+) -> Result<(), Fail> {
+    let mut told = standing_of(alloc, state);
+    if told.is_err() {
+        told = standing_of(alloc, state);
+    }
+    assert_eq!(rt; told?, *wanted, "how a key stands, seed {seed}");
+    Ok(())
+}
+
+/// The keys are those that the letters name, in their order.
+fn are_keys(keys: &[Key], letters: &[u8]) -> bool {
+    keys.len() == letters.len()
+        && keys
+            .iter()
+            .zip(letters)
+            .all(|(key, letter)| is_key(key, *letter))
+}
+
+/// The table answered as the rules give.
+fn compare_sight<R: Abort>(
+    rt: &R,
+    alloc: Global,
+    seed: u64,
+    sight: &Sight,
+    wanted: &Wanted,
+) -> Result<(), Fail> {
+    match (sight, wanted) {
+        (Sight::State(state), Wanted::State(standing)) => {
+            compare_standing(rt, alloc, seed, state, standing)
+        }
+        (Sight::Keys(keys), Wanted::Keys(letters)) => {
+            assert!(rt; are_keys(keys, letters), "the keys of a shard, seed {seed}");
+            Ok(())
+        }
+        _ => Err("an answer to another question")?,
+    }
+}
+
+/// Each question was answered as the rules give.
+fn compare_sights<R: Abort>(
+    rt: &R,
+    alloc: Global,
+    seed: u64,
+    schedule: &Schedule,
+    ran: &Ran,
+) -> Result<(), Fail> {
+    assert_eq!(rt; ran.sights.len(), schedule.wanted.len(), "seed {seed}");
+    for (sight, wanted) in ran.sights.iter().zip(&schedule.wanted) {
+        compare_sight(rt, alloc, seed, sight, wanted)?;
+    }
+    Ok(())
+}
+
+/// The run came out as the rules give, and no more than one call was refused memory.
+fn compare<R: Abort>(
+    rt: &R,
+    alloc: Global,
+    seed: u64,
+    schedule: &Schedule,
+    ran: &Ran,
+) -> Result<(), Fail> {
+    compare_lines(rt, seed, schedule, ran)?;
+    compare_sights(rt, alloc, seed, schedule, ran)?;
+    assert!(rt; ran.refused.len() <= 1, "seed {seed}");
+    assert_eq!(rt;
+        ran.histories.draws,
+        schedule.second.draws(),
+        "the draws, seed {seed}"
+    );
+    assert_eq!(rt;
+        ran.histories.shards.len(),
+        schedule.config.shards,
+        "seed {seed}"
+    );
+    let mut shard = 0;
+    for history in &ran.histories.shards {
+        compare_history(rt, alloc, seed, schedule, shard, history)?;
+        shard = shard.wrapping_add(1);
+    }
+    Ok(())
+}
+
+/// The schedule, run by `make`, and once more where memory was refused outside of its rows. It tells the call that was
+/// refused.
+fn compare_run<R: Abort, F: Fn() -> Result<Ran, TableCall>>(
+    rt: &R,
+    alloc: Global,
+    seed: u64,
+    schedule: &Schedule,
+    make: F,
+) -> Result<Option<TableCall>, Fail>
+    requires { F.IsAlwaysCallable make }
+{
+    match make() {
+        Ok(ran) => {
+            compare(rt, alloc, seed, schedule, &ran)?;
+            Ok(ran.refused.first().copied())
+        }
+        Err(call) => {
+            let ran = make().ok().ok_or("the run")?;
+            compare(rt, alloc, seed, schedule, &ran)?;
+            Ok(Some(call))
+        }
+    }
+}
+
+/// One schedule on both tables. What was refused memory beside a call is done again. It tells the call of the linked table
+/// and that of the plain one that was refused.
+fn compare_both<R: Abort + Wait>(
+    rt: &R,
+    alloc: Global,
+    seed: u64,
+    counts: &mut Counts,
+) -> Result<[Option<TableCall>; 2], Fail> {
+    let mut schedule = random_schedule(alloc, seed, counts);
+    if schedule.is_none() {
+        schedule = random_schedule(alloc, seed, counts);
+    }
+    let schedule = schedule.ok_or("the schedule")?;
+    let config = schedule.config;
+    let rows = schedule.rows.as_slice();
+    let asked = schedule.questions.as_slice();
+    let linked = compare_run(
+        rt,
+        alloc,
+        seed,
+        &schedule,
+        || run(rt, alloc, config, rows, asked),
+    )?;
+    let plain = compare_run(
+        rt,
+        alloc,
+        seed,
+        &schedule,
+        || run_plain(rt, alloc, config, rows, asked),
+    )?;
+    Ok([linked, plain])
+}
+
+/// Says which call of which table was refused, if one was.
+fn tell<W: Write>(
+    alloc: Global,
+    writer: &mut W,
+    table: &str,
+    call: Option<TableCall>,
+) -> Option<()> {
+    let Some(call) = call else {
+        return Some(());
+    };
+    let line = format!(in alloc; "refused: {table} {call:?}\n").ok()?;
+    writer.write_all(line.as_bytes()).ok()
+}
+
+#[test]
+fn both_tables_agree_with_the_rules_read_a_second_time(rt: HostRuntime) -> Result<(), Fail> {
+    let mut counts = Counts::new();
+    for seed in 0..1_000 {
+        compare_both(&rt, rt.alloc(), seed, &mut counts)?;
+    }
+    assert_eq!(rt; counts.missing(), None);
+    Ok(())
+}
+
+/// Few schedules, for whoever refuses each of their allocations in turn: a call that was refused is made again, and all
+/// comes out as ever. It prints which call of which table was refused.
+#[test]
+fn schedules_come_out_alike_whatever_is_refused(rt: HostRuntime) -> Result<(), Fail> {
+    let mut counts = Counts::new();
+    for seed in 0..5 {
+        let [linked, plain] = compare_both(&rt, rt.alloc(), seed, &mut counts)?;
+        tell(rt.alloc(), &mut rt.stdout(), "linked", linked).ok_or("a line")?;
+        tell(rt.alloc(), &mut rt.stdout(), "plain", plain).ok_or("a line")?;
+    }
+    Ok(())
+}

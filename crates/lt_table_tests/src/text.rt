@@ -1,0 +1,134 @@
+//! Calls of a table as lines of text.
+//!
+//! A line begins with the place of the pass that makes the call, from 0. A key is named by a byte, and times have the logical
+//! part 0.
+//!
+//! | line | the call |
+//! |---|---|
+//! | `0 enter 1 20 crawbw 0` | a request of transaction 1, or `-` for none, at time 20, that reads c and writes a and b, with this bound; 0 is none |
+//! | `0 scan`, `0 poll`, `0 leave` | of the request that the pass is in |
+//! | `0 look 1` | the same, at the key of this index |
+//! | `0 acquire 9 10 a`, `0 update 9 10 a` | of transaction 9 at time 10 at the key a |
+//! | `0 finish 9 a` | of transaction 9 at the key a |
+
+use lt_ids::Access;
+use lt_test_kit::command::{Command, Row, Told};
+use std::alloc::Global;
+
+/// The words of a line.
+fn words_of(alloc: Global, line: &str) -> Option<Vec<&str>> {
+    let mut words = Vec::new(alloc);
+    for word in line.split_ascii_whitespace() {
+        words.push(word).ok()?;
+    }
+    Some(words)
+}
+
+fn number_at(words: &[&str], at: usize) -> Option<u64> {
+    words.get(at)?.parse::<u64>().ok()
+}
+
+fn index_at(words: &[&str], at: usize) -> Option<usize> {
+    words.get(at)?.parse::<usize>().ok()
+}
+
+fn bound_at(words: &[&str], at: usize) -> Option<u32> {
+    words.get(at)?.parse::<u32>().ok()
+}
+
+fn key_at(words: &[&str], at: usize) -> Option<u8> {
+    words.get(at)?.as_bytes().first().copied()
+}
+
+fn access_of(byte: u8) -> Access {
+    if byte == b'w' {
+        Access::Write
+    } else {
+        Access::Read
+    }
+}
+
+fn accesses_of(alloc: Global, text: &[u8]) -> Option<Vec<(u8, Access)>> {
+    let mut accesses = Vec::new(alloc);
+    for pair in text.chunks_exact(2) {
+        accesses.push((pair[0], access_of(pair[1]))).ok()?;
+    }
+    Some(accesses)
+}
+
+fn enter_of(alloc: Global, words: &[&str]) -> Option<Command> {
+    let wall = number_at(words, 3)?;
+    let text = words.get(4)?.as_bytes();
+    let longest = bound_at(words, 5)?;
+    Some(Command::Enter {
+        txn: number_at(words, 2),
+        wall,
+        accesses: accesses_of(alloc, text)?,
+        longest,
+    })
+}
+
+fn acquire_of(words: &[&str]) -> Option<Command> {
+    Some(Command::Acquire {
+        txn: number_at(words, 2)?,
+        wall: number_at(words, 3)?,
+        key: key_at(words, 4)?,
+    })
+}
+
+fn update_of(words: &[&str]) -> Option<Command> {
+    Some(Command::Update {
+        txn: number_at(words, 2)?,
+        wall: number_at(words, 3)?,
+        key: key_at(words, 4)?,
+    })
+}
+
+fn finish_of(words: &[&str]) -> Option<Command> {
+    Some(Command::Finish {
+        txn: number_at(words, 2)?,
+        key: key_at(words, 3)?,
+    })
+}
+
+fn look_of(words: &[&str]) -> Option<Command> {
+    Some(Command::Look {
+        index: index_at(words, 2)?,
+    })
+}
+
+/// The call of these words.
+fn command_of(alloc: Global, words: &[&str]) -> Option<Command> {
+    match *words.get(1)? {
+        "enter" => enter_of(alloc, words),
+        "scan" => Some(Command::Scan),
+        "poll" => Some(Command::Poll),
+        "look" => look_of(words),
+        "acquire" => acquire_of(words),
+        "update" => update_of(words),
+        "finish" => finish_of(words),
+        "leave" => Some(Command::Leave),
+        _ => None,
+    }
+}
+
+/// The pass and the call of a line. None where it is no call, or an allocation fails.
+pub fn call_of(alloc: Global, line: &str) -> Option<(usize, Command)> {
+    let words = words_of(alloc, line)?;
+    let pass = index_at(&words, 0)?;
+    Some((pass, command_of(alloc, &words)?))
+}
+
+fn row_of(alloc: Global, line: &str) -> Option<Row> {
+    let (pass, command) = call_of(alloc, line)?;
+    Some((pass, command, Told::Nothing))
+}
+
+/// The calls of a text, in the order of its lines. None where a line is no call, or an allocation fails.
+pub fn rows_of(alloc: Global, text: &str) -> Option<Vec<Row>> {
+    let mut rows = Vec::new(alloc);
+    for line in text.lines() {
+        rows.push(row_of(alloc, line)?).ok()?;
+    }
+    Some(rows)
+}

@@ -1,0 +1,198 @@
+//! Passes are lent to threads, in a holder that may be dropped.
+ghost use Rattle.std.specs.Prelude.{◌≡◌, IfSome};
+ghost use Rattle.std.specs.Option.{ForSome};
+ghost use Rattle.std.specs.List.{All};
+
+use crate::waiting::queue::{TIME, leave, proceed};
+use lt_ids::{Access, Key, TxnId};
+use lt_plain::{KeyTable, Reply};
+use lt_table::{Answer, Config, EnterRefused, Guard, Ready, StepError, Table, open, prepare};
+use lt_test_kit::run::close_all;
+use lt_words::{Name, Pass, abandon_all};
+use std::alloc::Global;
+use std::marker::{Brand, PhantomData};
+use std::mem;
+use std::sync::Wait;
+use std::thread::{Threads, join};
+
+/// A thread's place at the table that `N` names. Unlike a pass it may be dropped: its pass is then given up.
+pub struct Seat<N: Name> {
+    pass: Option<Pass>,
+    name: PhantomData<N>,
+    pub ghost of: { ForSome pass (λ p. p.of ≡ N.of) },
+}
+
+impl<N: Name> Drop for Seat<N> {
+    fn drop(self) {
+        let Seat { pass, name: _ } = self;
+        give_up(pass);
+    }
+}
+
+fn give_up(pass: Option<Pass>) {
+    if let Some(pass) = pass {
+        pass.abandon();
+    }
+}
+
+impl<N: Name> Seat<N> {
+    pub fn new(pass: Pass) -> Seat<N>
+        requires { pass.of ≡ N.of }
+    {
+        Seat {
+            pass: Some(pass),
+            name: PhantomData,
+        }
+    }
+
+    /// Takes the pass out, if it is there.
+    pub fn take(&mut self) -> Option<Pass>
+        ensures { IfSome result (λ pass. pass.of ≡ N.of) }
+    {
+        self.pass.take()
+    }
+
+    /// Puts the pass back.
+    pub fn put(&mut self, pass: Pass)
+        requires { pass.of ≡ N.of }
+    {
+        give_up(mem::replace(&mut self.pass, Some(pass)));
+    }
+}
+
+/// The request enters to write the key. Where it is refused, the pass is back in the seat.
+fn enter<N: Name, T: KeyTable, R: Wait>(
+    rt: &R,
+    alloc: Global,
+    table: &Table<N, T>,
+    seat: &mut Seat<N>,
+    key: &Key,
+    txn: TxnId,
+) -> Option<Guard>
+    ensures { IfSome result (λ guard. guard.pass.of ≡ N.of) }
+{
+    let mut accesses = Vec::new(alloc);
+    accesses.push((key.copy().ok()?, Access::Write)).ok()?;
+    let pass = seat.take()?;
+    match table.enter(rt, alloc, pass, Some(txn), TIME, &accesses, 0) {
+        Ok(guard) => Some(guard),
+        Err(EnterRefused { pass, error: _ }) => {
+            seat.put(pass);
+            None
+        }
+    }
+}
+
+/// Whether the transaction holds the lock that it asked for. It may not: of two requests that met no lock, both proceeded,
+/// and the other one's transaction came first.
+fn is_ours(answered: Result<Answer, StepError>) -> bool {
+    match answered {
+        Ok(answer) => matches!(&answer.reply, Reply::Taken | Reply::Raised | Reply::Kept),
+        Err(_) => false,
+    }
+}
+
+/// A thread's work: its request enters, waits for its turn, locks the key and leaves, whatever came before; then the lock
+/// comes free, and the pass goes back into the seat.
+fn work<N: Name, T: KeyTable, R: Wait>(
+    rt: &R,
+    alloc: Global,
+    table: &Table<N, T>,
+    seat: &mut Seat<N>,
+    key: &Key,
+    txn: TxnId,
+) -> Option<()> {
+    let mut guard = enter(rt, alloc, table, seat, key, txn)?;
+    let is_locked = proceed(rt, table, &mut guard)
+        && is_ours(table.acquire_in(rt, &mut guard, key, txn, TIME));
+    let mut pass = leave(rt, table, guard)?;
+    let is_freed = table.finish(rt, &mut pass, key, txn).is_ok();
+    seat.put(pass);
+    if is_locked && is_freed {
+        Some(())
+    } else {
+        None
+    }
+}
+
+/// Two threads work at a key each, with the seats that they are lent.
+fn work_on_two<N: Name + Send + Sync, T: KeyTable + Send, R: Threads + Wait + Sync>(
+    rt: &R,
+    alloc: Global,
+    table: &Table<N, T>,
+    one: &mut Seat<N>,
+    other: &mut Seat<N>,
+) -> Option<()> {
+    let (key, other_key) = (
+        Key::from_bytes(alloc, b"a").ok()?,
+        Key::from_bytes(alloc, b"b").ok()?,
+    );
+    let (txn, other_txn) = (TxnId::new(1)?, TxnId::new(2)?);
+    let (at, other_at) = (&key, &other_key);
+    let (done, also_done) = join(
+        rt,
+        move || work(rt, alloc, table, one, at, txn),
+        move || work(rt, alloc, table, other, other_at, other_txn),
+    );
+    done?;
+    also_done
+}
+
+/// Puts the passes of both seats among those that a close takes.
+fn back<N: Name>(
+    alloc: Global,
+    mut one: Seat<N>,
+    mut other: Seat<N>,
+) -> Option<Vec<lt_test_kit::seat::Seat<N>>> {
+    let mut seats = Vec::new(alloc);
+    seats.push(lt_test_kit::seat::Seat::free(one.take()?)).ok()?;
+    seats
+        .push(lt_test_kit::seat::Seat::free(other.take()?))
+        .ok()?;
+    Some(seats)
+}
+
+/// The seat of one of the passes.
+fn seat_of<N: Name>(passes: &mut Vec<Pass>) -> Option<Seat<N>>
+    requires { All (λ p. p.of ≡ N.of) passes.old.items }
+    ensures { All (λ p. p.of ≡ N.of) passes.new.items }
+{
+    Some(Seat::new(passes.pop()?))
+}
+
+/// A seat for each of two passes.
+fn seats_of<N: Name>(mut passes: Vec<Pass>) -> Option<(Seat<N>, Seat<N>)>
+    requires { All (λ p. p.of ≡ N.of) passes.items }
+{
+    let one = seat_of(&mut passes);
+    let other = seat_of(&mut passes);
+    abandon_all(passes);
+    Some((one?, other?))
+}
+
+fn lent_named<N: Name + Send + Sync, R: Threads + Wait + Sync>(
+    rt: &R,
+    alloc: Global,
+    ready: Ready,
+) -> Option<usize>
+    requires { ready.of ≡ N.of }
+{
+    let (table, passes) = open::<N>(alloc, ready).ok()?;
+    let (mut one, mut other) = seats_of::<N>(passes)?;
+    work_on_two(rt, alloc, &table, &mut one, &mut other)?;
+    let histories = close_all(rt, alloc, table, back(alloc, one, other)?)?;
+    Some(histories.shards.first()?.len())
+}
+
+/// Two threads that are lent a pass each work at one key. The answer is how many steps were made.
+pub fn lend_to_two<R: Threads + Wait + Sync>(rt: &R, alloc: Global) -> Option<usize> {
+    let config = Config {
+        shards: 1,
+        passes: 2,
+        max_steps: 100,
+        max_requests: 10,
+        max_waits: 10,
+    };
+    let ready = prepare(alloc, config).ok()?;
+    lent_named::<Brand, R>(rt, alloc, ready)
+}

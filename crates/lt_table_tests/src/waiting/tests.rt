@@ -1,0 +1,93 @@
+use crate::waiting::handing::hand_over;
+use crate::waiting::lent::lend_to_two;
+use crate::waiting::queue::take_turns;
+use crate::waiting::timed::wait_twice;
+use crate::waiting::waking::wake_three;
+use lt_table::{Keeping, Poll};
+use std::test::Fail;
+use std::time::Duration;
+
+/// How many turns each of two threads takes. In each turn both wait once: these are 100,000 waits.
+const TURNS: u64 = 50_000;
+
+/// How many threads wait at one key.
+const THREADS: usize = 64;
+
+/// So many threads wait at one key for 200 milliseconds. They take next to no processor time meanwhile, and then go on in the
+/// order of their numbers.
+#[test]
+fn threads_sleep_and_go_in_order(rt: HostRuntime) -> Result<(), Fail> {
+    let turns = take_turns(&rt, rt.alloc(), THREADS).ok_or("the turns")?;
+    assert_eq!(rt; turns.numbers.len(), THREADS);
+    let mut next = 1u64;
+    for number in &turns.numbers {
+        assert_eq!(rt; *number, next);
+        next = next.wrapping_add(1);
+    }
+    assert!(rt;
+        turns.processor < Duration::from_millis(10),
+        "{:?}",
+        turns.processor
+    );
+    Ok(())
+}
+
+/// A thread begins to wait and tells so, and the other one lets it through at once, mostly between its last poll and its
+/// sleep. If that let were missed, it would sleep for ever, and the test would not end.
+#[test]
+fn a_let_before_the_sleep_is_not_missed(rt: HostRuntime) -> Result<(), Fail> {
+    let waits = hand_over(&rt, rt.alloc(), TURNS).ok_or("the turns")?;
+    assert_eq!(rt; waits, (2 * TURNS, 2 * TURNS));
+    Ok(())
+}
+
+/// A step lets a writer and two readers through: the waker is told of each once, with its pass, its number and its wait, and
+/// each poll after that hears it.
+#[test]
+fn a_waker_is_told_of_each_let_once(rt: HostRuntime) -> Result<(), Fail> {
+    let woken = wake_three(&rt, rt.alloc()).ok_or("the lets")?;
+    assert_eq!(rt; woken.early, 0);
+    assert_eq!(rt; woken.count, 3);
+    assert_eq!(rt; woken.told.as_slice(), [111, 221, 331].as_slice());
+    let polls: &[Poll] = &[Poll::Through, Poll::Through, Poll::Through];
+    assert_eq!(rt; woken.polls.as_slice(), polls);
+    Ok(())
+}
+
+/// A wait ends at its time, and a later one where the request is let through.
+#[test]
+fn a_wait_ends_at_its_time(rt: HostRuntime) -> Result<(), Fail> {
+    let timed = wait_twice(&rt, rt.alloc(), Keeping::Whole).ok_or("the waits")?;
+    assert_eq!(rt; timed.first, Poll::Waiting);
+    assert!(rt; timed.took >= Duration::from_millis(30), "{:?}", timed.took);
+    assert_eq!(rt; timed.second, Poll::Through);
+    Ok(())
+}
+
+/// So does a wait of a table whose steps can be taken out.
+#[test]
+fn a_wait_of_a_streamed_table_ends_at_its_time(rt: HostRuntime) -> Result<(), Fail> {
+    let timed = wait_twice(&rt, rt.alloc(), Keeping::Streamed).ok_or("the waits")?;
+    assert_eq!(rt; timed.first, Poll::Waiting);
+    assert!(rt; timed.took >= Duration::from_millis(30), "{:?}", timed.took);
+    assert_eq!(rt; timed.second, Poll::Through);
+    Ok(())
+}
+
+/// So does a wait of a table that stores no steps.
+#[test]
+fn a_wait_of_an_unrecorded_table_ends_at_its_time(rt: HostRuntime) -> Result<(), Fail> {
+    let timed = wait_twice(&rt, rt.alloc(), Keeping::Unrecorded).ok_or("the waits")?;
+    assert_eq!(rt; timed.first, Poll::Waiting);
+    assert!(rt; timed.took >= Duration::from_millis(30), "{:?}", timed.took);
+    assert_eq!(rt; timed.second, Poll::Through);
+    Ok(())
+}
+
+/// Two threads that are lent a pass each lock a key each: each visits it, locks it, leaves and frees it.
+#[test]
+fn two_threads_are_lent_their_passes(rt: HostRuntime) -> Result<(), Fail> {
+    let steps = lend_to_two(&rt, rt.alloc()).ok_or("the threads")?;
+    assert_eq!(rt; steps, 8);
+    Ok(())
+}
