@@ -1,8 +1,12 @@
 //! A table is closed without its last pass, and then with all.
 ghost use Rattle.std.specs.Prelude.{◌≡◌};
 
-use lt_table::{CloseError, CloseRefused, Config, Histories, Ready, abandon_guards, open, prepare};
+use lt_plain::KeyTable;
+use lt_table::{
+    CloseError, CloseRefused, Config, Histories, Ready, Table, abandon_guards, open, prepare,
+};
 use lt_test_kit::run::{close_all, gather, seated};
+use lt_test_kit::seat::Seat;
 use lt_words::Name;
 use std::alloc::Global;
 use std::marker::Brand;
@@ -17,12 +21,13 @@ pub struct Closed {
     pub histories: Histories,
 }
 
-fn close_twice_named<N: Name, R: Wait>(rt: &R, alloc: Global, ready: Ready) -> Option<Closed>
-    requires { ready.of ≡ N.of }
-{
-    let (table, passes) = open::<N>(alloc, ready).ok()?;
-    let mut seats = seated::<N>(alloc, passes)?;
-    let last = seats.pop()?;
+/// Closes the table without its last pass, which has to be refused: the table, the passes that came back, and the refusal.
+fn close_early<N: Name, T: KeyTable + Drop, R: Wait>(
+    rt: &R,
+    alloc: Global,
+    table: Table<N, T>,
+    seats: Vec<Seat<N>>,
+) -> Option<(Table<N, T>, Vec<Seat<N>>, CloseError)> {
     let Ok((passes, guards)) = gather(alloc, seats) else {
         return None;
     };
@@ -36,15 +41,35 @@ fn close_twice_named<N: Name, R: Wait>(rt: &R, alloc: Global, ready: Ready) -> O
         error,
     } = refused;
     abandon_guards(guards);
-    let back = passes.len();
-    let mut seats = seated::<N>(alloc, passes)?;
+    let seats = seated::<N>(alloc, passes)?;
+    Some((table, seats, error))
+}
+
+/// Closes the table without its last pass, and then with all.
+fn close_both<N: Name, T: KeyTable + Drop, R: Wait>(
+    rt: &R,
+    alloc: Global,
+    table: Table<N, T>,
+    mut seats: Vec<Seat<N>>,
+) -> Option<Closed> {
+    let last = seats.pop()?;
+    let (table, mut seats, refused) = close_early(rt, alloc, table, seats)?;
+    let back = seats.len();
     seats.push(last).ok()?;
     let histories = close_all(rt, alloc, table, seats)?;
     Some(Closed {
-        refused: error,
+        refused,
         back,
         histories,
     })
+}
+
+fn close_twice_named<N: Name, R: Wait>(rt: &R, alloc: Global, ready: Ready) -> Option<Closed>
+    requires { ready.of ≡ N.of }
+{
+    let (table, passes) = open::<N>(alloc, ready).ok()?;
+    let seats = seated::<N>(alloc, passes)?;
+    close_both(rt, alloc, table, seats)
 }
 
 /// Closes a new table without its last pass, and then with all.

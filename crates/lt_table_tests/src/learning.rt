@@ -3,8 +3,10 @@ ghost use Rattle.std.specs.Prelude.{◌≡◌};
 
 use crate::playing::{config, told_of};
 use crate::text::rows_of;
-use lt_table::{Config, Ready, open, prepare};
+use lt_plain::KeyTable;
+use lt_table::{Config, Ready, Table, open, prepare};
 use lt_test_kit::command::Row;
+use lt_test_kit::desk::Line;
 use lt_test_kit::run::{Work, close_all, play_rows, seated};
 use lt_test_kit::seat::Seat;
 use lt_words::Name;
@@ -38,30 +40,42 @@ fn learn_from_the_other<N: Name>(seats: &mut Vec<Seat<N>>) -> Option<()> {
 }
 
 /// Plays the rows before, lets the first request learn what the second has seen, and plays the others.
+fn learn_on<N: Name, T: KeyTable, R: Wait>(
+    rt: &R,
+    alloc: Global,
+    table: &Table<N, T>,
+    work: &mut Work<N>,
+    before: &[Row],
+    after: &[Row],
+) -> Option<()> {
+    play_rows(rt, alloc, table, work, before, &[])?;
+    learn_from_the_other(&mut work.seats)?;
+    play_rows(rt, alloc, table, work, after, &[])
+}
+
 fn learn_named<N: Name, R: Wait>(
     rt: &R,
     alloc: Global,
     ready: Ready,
     before: &[Row],
     after: &[Row],
-) -> Option<String>
+) -> Option<Vec<Line>>
     requires { ready.of ≡ N.of }
 {
     let (table, passes) = open::<N>(alloc, ready).ok()?;
     let mut work = Work::new(alloc, seated::<N>(alloc, passes)?);
-    play_rows(rt, alloc, &table, &mut work, before, &[])?;
-    learn_from_the_other(&mut work.seats)?;
-    play_rows(rt, alloc, &table, &mut work, after, &[])?;
+    learn_on(rt, alloc, &table, &mut work, before, after)?;
     let Work { seats, lines, .. } = work;
     close_all(rt, alloc, table, seats)?;
-    told_of(alloc, &lines)
+    Some(lines)
 }
 
 fn learn_in<R: Wait>(rt: &R, alloc: Global, config: Config) -> Option<String> {
     let before = rows_of(alloc, BEFORE)?;
     let after = rows_of(alloc, "0 poll\n")?;
     let ready = prepare(alloc, config).ok()?;
-    learn_named::<Brand, R>(rt, alloc, ready, &before, &after)
+    let lines = learn_named::<Brand, R>(rt, alloc, ready, &before, &after)?;
+    told_of(alloc, &lines)
 }
 
 /// Whoever freed the lock tells what was shown, and the next poll says that the wait is over.

@@ -98,7 +98,38 @@ fn play<N: Name, T: KeyTable, R: Wait>(
     play_rows(rt, alloc, table, work, part.rows, part.questions)
 }
 
-/// The table keeps its steps whole, and nothing is taken.
+/// Plays both parts, with a take between them.
+fn play_around_a_take<N: Name, T: KeyTable, R: Wait>(
+    rt: &R,
+    alloc: Global,
+    table: &Table<N, T>,
+    work: &mut Work<N>,
+    script: Script<'_>,
+) -> Option<Taken>
+    requires { N.of.keeping ≢ Keeping.Whole }
+{
+    play(rt, alloc, table, work, script.before)?;
+    let taken = take(rt, alloc, table, &mut work.seats)?;
+    play(rt, alloc, table, work, script.after)?;
+    Some(taken)
+}
+
+/// Plays both parts, and takes nothing.
+fn play_both<N: Name, T: KeyTable, R: Wait>(
+    rt: &R,
+    alloc: Global,
+    table: &Table<N, T>,
+    work: &mut Work<N>,
+    script: Script<'_>,
+) -> Option<Taken> {
+    play(rt, alloc, table, work, script.before)?;
+    play(rt, alloc, table, work, script.after)?;
+    Some(Taken {
+        from: 0,
+        steps: Vec::new(alloc),
+    })
+}
+
 fn whole_named<N: Name, R: Wait>(
     rt: &R,
     alloc: Global,
@@ -109,12 +140,7 @@ fn whole_named<N: Name, R: Wait>(
 {
     let (table, passes) = open::<N>(alloc, ready).ok()?;
     let mut work = Work::new(alloc, seated::<N>(alloc, passes)?);
-    play(rt, alloc, &table, &mut work, script.before)?;
-    play(rt, alloc, &table, &mut work, script.after)?;
-    let taken = Taken {
-        from: 0,
-        steps: Vec::new(alloc),
-    };
+    let taken = play_both(rt, alloc, &table, &mut work, script)?;
     close(rt, alloc, table, work, taken)
 }
 
@@ -129,9 +155,7 @@ fn taken_named<N: Name, R: Wait>(
 {
     let (table, passes) = open::<N>(alloc, ready).ok()?;
     let mut work = Work::new(alloc, seated::<N>(alloc, passes)?);
-    play(rt, alloc, &table, &mut work, script.before)?;
-    let taken = take(rt, alloc, &table, &mut work.seats)?;
-    play(rt, alloc, &table, &mut work, script.after)?;
+    let taken = play_around_a_take(rt, alloc, &table, &mut work, script)?;
     close(rt, alloc, table, work, taken)
 }
 
