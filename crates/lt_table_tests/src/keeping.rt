@@ -22,6 +22,34 @@ use std::alloc::Global;
 use std::marker::Brand;
 use std::sync::Wait;
 
+/// What a line does.
+#[derive(Drop)]
+enum Act {
+    /// The pass at this place, from 0, makes the call.
+    Play(usize, Command),
+    Take,
+    Read,
+}
+
+fn act_of(alloc: Global, line: &str) -> Option<Act> {
+    match line {
+        "take" => Some(Act::Take),
+        "read" => Some(Act::Read),
+        _ => {
+            let (place, command) = call_of(alloc, line)?;
+            Some(Act::Play(place, command))
+        }
+    }
+}
+
+fn acts_of(alloc: Global, lines: &str) -> Option<Vec<Act>> {
+    let mut acts = Vec::new(alloc);
+    for line in lines.lines() {
+        acts.push(act_of(alloc, line)?).ok()?;
+    }
+    Some(acts)
+}
+
 /// What came of it, as text.
 #[derive(Drop)]
 pub struct Kept {
@@ -128,7 +156,7 @@ fn play_at<N: Name, T: KeyTable, R: Wait>(
     alloc: Global,
     table: &Table<N, T>,
     seats: &mut Vec<Seat<N>>,
-    call: (usize, Command),
+    call: (usize, &Command),
     texts: &mut Texts,
 ) -> Option<()> {
     let (place, command) = call;
@@ -136,7 +164,7 @@ fn play_at<N: Name, T: KeyTable, R: Wait>(
         return None;
     }
     let seat = seats.remove(place);
-    let (seat, line) = play(rt, alloc, table, seat, &command)?;
+    let (seat, line) = play(rt, alloc, table, seat, command)?;
     seats.insert(place, seat).ok()?;
     put_line(&mut texts.told, &line)?;
     put_line(&mut texts.came, &line)
@@ -155,7 +183,7 @@ fn act_on<N: Name, T: KeyTable, R: Wait>(
     alloc: Global,
     table: &Table<N, T>,
     work: Work<N>,
-    line: &str,
+    act: &Act,
 ) -> Option<Work<N>>
     requires { N.of.keeping ≢ Keeping.Whole }
 {
@@ -164,13 +192,12 @@ fn act_on<N: Name, T: KeyTable, R: Wait>(
         mut taker,
         mut texts,
     } = work;
-    if line == "take" {
-        taker = take(rt, table, taker, &mut texts)?;
-    } else if line == "read" {
-        taker = read(rt, table, taker, &mut texts)?;
-    } else {
-        let call = call_of(alloc, line)?;
-        play_at(rt, alloc, table, &mut seats, call, &mut texts)?;
+    match act {
+        Act::Play(place, command) => {
+            play_at(rt, alloc, table, &mut seats, (*place, command), &mut texts)?;
+        }
+        Act::Take => taker = take(rt, table, taker, &mut texts)?,
+        Act::Read => taker = read(rt, table, taker, &mut texts)?,
     }
     Some(Work {
         seats,
@@ -264,14 +291,14 @@ fn close<N: Name, T: KeyTable + Drop, R: Wait>(
     })
 }
 
-fn keep_named<N: Name, R: Wait>(rt: &R, alloc: Global, ready: Ready, lines: &str) -> Option<Kept>
+fn keep_named<N: Name, R: Wait>(rt: &R, alloc: Global, ready: Ready, acts: &[Act]) -> Option<Kept>
     requires of { ready.of ≡ N.of }
     requires keeping { N.of.keeping ≢ Keeping.Whole }
 {
     let (table, passes) = open::<N>(alloc, ready).ok()?;
     let mut work = work_of(alloc, &table, seated::<N>(alloc, passes)?)?;
-    for line in lines.lines() {
-        work = act_on(rt, alloc, &table, work, line)?;
+    for act in acts {
+        work = act_on(rt, alloc, &table, work, act)?;
     }
     close(rt, alloc, table, work)
 }
@@ -286,6 +313,7 @@ pub fn keep<R: Wait>(
 ) -> Option<Kept>
     requires { keeping ≢ Keeping.Whole }
 {
+    let acts = acts_of(alloc, lines)?;
     let ready = prepare_with(alloc, config, keeping).ok()?;
-    keep_named::<Brand, R>(rt, alloc, ready, lines)
+    keep_named::<Brand, R>(rt, alloc, ready, &acts)
 }

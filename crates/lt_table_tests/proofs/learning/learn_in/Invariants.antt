@@ -1,4 +1,4 @@
-use Rattle.lt_table_tests.proofs.learning.learn_from.Given as goal
+use Rattle.lt_table_tests.proofs.learning.learn_in.Given as goal
 
 -- the name of the book that was just opened
 abbrev pub ghosts-learn_named : goal.ghosts-learn_named
