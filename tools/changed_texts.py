@@ -134,8 +134,8 @@ class Program:
         answered = self.answer(RUN, text)
         if answered is None or answered[0] == 1:
             return answered is not None
-        histories = answered[1][answered[1].index(b'locks 2\n'):]
-        return is_of_the_form(histories) and self.answer(['check'], histories) is not None and self.accepts(histories)
+        _, first, rest = answered[1].partition(b'locks 2\n')
+        return is_of_the_form(first + rest) and self.accepts(first + rest)
 
     def accepts(self, text):
         answered = self.answer(['check'], text)

@@ -5,10 +5,10 @@
 //!
 //! | line | the call |
 //! |---|---|
-//! | `0 enter 1 20 crawbw 0` | a request of transaction 1, or `-` for none, at time 20, that reads c and writes a and b, with this bound; 0 is none |
+//! | `0 enter 1 20 crawbw 0` | a request of transaction 1, or `-` for none, at time 20, that reads c and writes a and b, or has no accesses where `-` stands, with this bound; 0 is none |
+//! | `0 many 128 2` | a request of transaction 1 that writes 128 keys, of which two are named twice |
 //! | `0 scan`, `0 poll`, `0 leave` | of the request that the pass is in |
-//! | `0 look 1` | the same, at the key of this index |
-//! | `0 acquire 9 10 a`, `0 update 9 10 a` | of transaction 9 at time 10 at the key a |
+//! | `0 acquire 9 10 a` | of transaction 9 at time 10 at the key a |
 //! | `0 finish 9 a` | of transaction 9 at the key a |
 
 use lt_ids::Access;
@@ -76,14 +76,6 @@ fn acquire_of(words: &[&str]) -> Option<Command> {
     })
 }
 
-fn update_of(words: &[&str]) -> Option<Command> {
-    Some(Command::Update {
-        txn: number_at(words, 2)?,
-        wall: number_at(words, 3)?,
-        key: key_at(words, 4)?,
-    })
-}
-
 fn finish_of(words: &[&str]) -> Option<Command> {
     Some(Command::Finish {
         txn: number_at(words, 2)?,
@@ -91,9 +83,10 @@ fn finish_of(words: &[&str]) -> Option<Command> {
     })
 }
 
-fn look_of(words: &[&str]) -> Option<Command> {
-    Some(Command::Look {
-        index: index_at(words, 2)?,
+fn many_of(words: &[&str]) -> Option<Command> {
+    Some(Command::EnterMany {
+        keys: index_at(words, 2)?,
+        twice: index_at(words, 3)?,
     })
 }
 
@@ -101,11 +94,10 @@ fn look_of(words: &[&str]) -> Option<Command> {
 fn command_of(alloc: Global, words: &[&str]) -> Option<Command> {
     match *words.get(1)? {
         "enter" => enter_of(alloc, words),
+        "many" => many_of(words),
         "scan" => Some(Command::Scan),
         "poll" => Some(Command::Poll),
-        "look" => look_of(words),
         "acquire" => acquire_of(words),
-        "update" => update_of(words),
         "finish" => finish_of(words),
         "leave" => Some(Command::Leave),
         _ => None,

@@ -26,6 +26,27 @@ fn numbers_and_waits_run_out(rt: HostRuntime) -> Result<(), Fail> {
     Ok(())
 }
 
+/// A key that is given to read and to write is visited once, as a write: the read alone would pass a later lock.
+#[test]
+fn a_request_names_1_to_256_accesses(rt: HostRuntime) -> Result<(), Fail> {
+    let played = plays(
+        &rt,
+        rt.alloc(),
+        config(1, 2),
+        "0 enter 1 1 - 0\n0 many 257 0\n0 many 256 1\n0 many 256 0\n0 scan\n0 leave\n0 many 128 128\n0 scan\n0 leave\n1 acquire 9 10 a\n0 enter 1 5 ar 0\n0 scan\n0 leave\n0 enter 1 5 araw 0\n0 scan\n",
+    )
+    .ok_or("the run")?;
+    let refused =
+        "- NotEntered(NoKeys)\n- NotEntered(TooManyKeys)\n- NotEntered(TooManyKeys)\n- Entered(1)\n- Scanned(Proceed) [Passed, ";
+    assert!(rt; played.told.starts_with(refused), "{}", played.told);
+    let last =
+        "768 Stepped(Taken)\n- Entered(3)\n- Scanned(Proceed) [Passed]\n- Left [Absent]\n- Entered(4)\n- Scanned(Waiting(0)) [MustWait]\n";
+    assert!(rt; played.told.ends_with(last), "{}", played.told);
+    // Two steps for each key of a request that scans and leaves, the acquire, and the last scan.
+    assert_eq!(rt; played.counts.as_str(), "[772] 4");
+    Ok(())
+}
+
 #[test]
 fn a_table_closes_with_all_its_passes(rt: HostRuntime) -> Result<(), Fail> {
     let closed = close_twice(&rt, rt.alloc(), config(2, 2)).ok_or("the closes")?;
