@@ -1,19 +1,18 @@
 #!/usr/bin/env python3
-"""Has the proved programs meet what their contracts do not say: refused memory, failing streams, odd texts, long runs.
+"""Fault injection, fuzzing and a soak test of the proved programs: what happens when memory, streams or inputs fail.
 
     python3 tools/hostile.py [--seconds S] [--texts N] [--runs N] [--waits N]
 
 The programs must have been built, as `rt ci` does. Each part prints what it tried; the last line is `N passed, M failed`.
 
-- Tests that hold whichever one allocation is refused run once for each of their allocations.
-- `lockrun` runs the scripts of examples/, checks and upgrades their histories and tells its help, once for each allocation that is
-  refused, each read that fails, each write that fails, and each write that takes one byte. It must end as
-  docs/FORMATS.md says: status 4 or 5 with its message and, but for a failed write, nothing written; a front of the
-  output after a failed write; or just what it writes otherwise.
-- Scripts and histories of examples/, cut at every byte, are told as docs/FORMATS.md says.
-- tools/changed_texts.py has `lockrun` run and check N scripts and histories that were changed by chance.
-- `lockbench soak` plays random requests on threads for S seconds, a third of them on tables that keep their history whole, a third
-  on streamed ones, and a third on one that records nothing and may not grow. `lockrun check` reads the histories that are left.
+- Tests that pass under any single allocation failure run once for each of their allocations, which then fails.
+- `lockrun` runs the scripts of examples/, checks and upgrades their histories and prints its help, once for each allocation, read and
+  write that fails, and for each write that takes one byte. It must end as docs/FORMATS.md says: status 4 or 5 with its message and,
+  unless a write failed, no output; a prefix of the output after a failed write; or exactly what it writes otherwise.
+- Scripts and histories of examples/, cut at every byte, are answered as docs/FORMATS.md says.
+- tools/changed_texts.py has `lockrun` run and check N scripts and histories that were changed at random.
+- `lockbench soak` plays random requests on threads for S seconds: a third of them on tables that keep their history whole, a third on
+  streamed ones, and a third on one that records nothing and may not grow. `lockrun check` reads the histories that are left.
 - The tests of waits run N times each, on processors that are busy with the others. `lockbench load --wait` has more sleeping
   threads than processors, in each way of keeping the history, and must end.
 - tools/random_runs.py compares N random scripts with what the rules of a pass say.
@@ -32,7 +31,7 @@ from concurrent.futures import ThreadPoolExecutor
 HERE = os.path.dirname(os.path.abspath(__file__))
 CRATES = os.path.join(os.path.dirname(HERE), 'crates')
 
-# Tests that hold whichever one allocation is refused, by crate: those whose names begin so.
+# Tests that pass under any single allocation failure, by crate: those whose names begin so.
 TESTS = [
     ('lt_links', 'links::tests::after_refused_memory'),
     ('lt_rules_tests', 'linked::the_'),

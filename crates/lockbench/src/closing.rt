@@ -1,4 +1,8 @@
-//! A table is closed, however it kept its steps, and what was taken of it is put together with what is left.
+//! How is a table closed, for each way in which it keeps its steps? [`close`] joins the steps that were taken
+//! while it ran with those that are left.
+//!
+//! [`crate::taking`] takes the steps of a streamed table. [`crate::load`] and [`crate::soak`] call [`close`] at
+//! the end.
 use crate::taking::Piece;
 use lt_entry::Entry;
 use lt_plain::KeyTable;
@@ -9,19 +13,19 @@ use lt_words::Name;
 use std::alloc::Global;
 use std::sync::Wait;
 
-/// What came of a table that was closed.
+/// The result of a closed table.
 #[derive(Drop)]
 pub struct Ending {
-    /// The history of each shard. Of an unrecorded table there is none; of a streamed one, of which what was taken was not
-    /// kept, there is only its end.
+    /// The history of each shard. An unrecorded table has none. A streamed table whose taken steps were not kept
+    /// has only the last steps, those that were left at the close.
     pub histories: Vec<Vec<Entry>>,
-    /// How many steps were made.
+    /// The number of steps that were made.
     pub steps: u64,
-    /// How many numbers were drawn.
+    /// The number of request numbers that were drawn.
     pub draws: u64,
 }
 
-/// How many steps the histories have.
+/// The number of steps in the histories.
 fn steps_in(histories: &Histories) -> u64 {
     let mut steps = 0u64;
     for history in &histories.shards {
@@ -30,7 +34,7 @@ fn steps_in(histories: &Histories) -> u64 {
     steps
 }
 
-/// How many steps were made of the shards of which this is left.
+/// The number of steps that the shards made, given what is left of each: the steps before it and its own.
 fn steps_before(rests: &[Rest]) -> u64 {
     let mut steps = 0u64;
     for rest in rests {
@@ -40,7 +44,7 @@ fn steps_before(rests: &[Rest]) -> u64 {
     steps
 }
 
-/// Closes the table for what is left. None if that is refused.
+/// Closes the table and returns the steps that are left. None if the close fails.
 fn close_rest<N: Name, T: KeyTable + Drop, R: Wait>(
     rt: &R,
     alloc: Global,
@@ -59,8 +63,8 @@ fn close_rest<N: Name, T: KeyTable + Drop, R: Wait>(
     }
 }
 
-/// What was taken of each shard, with what is left behind it. None if what is left does not begin behind what was taken, or
-/// memory is refused.
+/// Each shard's taken steps, followed by those that are left. None if what is left does not continue what was
+/// taken, or an allocation fails.
 fn joined(alloc: Global, pieces: Vec<Piece>, rests: Vec<Rest>) -> Option<Vec<Vec<Entry>>> {
     let mut histories = Vec::new(alloc);
     let mut rests = rests.into_iter();
@@ -79,8 +83,8 @@ fn joined(alloc: Global, pieces: Vec<Piece>, rests: Vec<Rest>) -> Option<Vec<Vec
     Some(histories)
 }
 
-/// Closes a table that kept its steps in this way, and of which these pieces were taken. None if a call or memory is refused, or
-/// what is left does not begin behind what was taken.
+/// Closes a table that keeps its steps in the given way and from which these pieces were taken. None if the close
+/// fails, an allocation fails, or what is left does not continue what was taken.
 pub fn close<N: Name, T: KeyTable + Drop, R: Wait>(
     rt: &R,
     alloc: Global,

@@ -1,22 +1,26 @@
-//! The rounds that a load's passes make on a table: enter, scan, acquire, finish and leave.
+//! What does each pass of a load do? It makes rounds on a table: enter, scan, acquire, finish and leave. [`drive`]
+//! makes the rounds of one pass on its thread; [`drive_in_turn`] makes those of all passes on one thread.
 //!
-//! Each pass goes round and round. It enters a request of two different keys (of one key twice, if there is only one), one
-//! to write and one to read, and scans. Keys are `k0`, `k1` and so on, and are drawn evenly by a xorshift generator that is
-//! seeded by the pass's number. A round's time is its number within the pass, its transaction the pass's number. If the scan
-//! waits, the pass polls a bounded number of times, or it sleeps until it is let through. It scans on once it is let through;
-//! if it is not, it leaves. Once the request proceeds, the pass acquires the key that it writes, finishes there, and leaves. It
-//! stops at the first end of a round at which it has made at least the given number of key steps.
+//! **A round.** The pass enters a request of two different keys, one to write and one to read, and scans. If there
+//! is only one key, the request names it twice. The keys are `k0`, `k1` and so on; a xorshift generator, seeded by
+//! the pass's number, draws them evenly. The round's timestamp is its number within the pass, and its transaction
+//! is the pass's number. If the scan waits, the pass polls a bounded number of times, or sleeps until it is let
+//! through. When it is let through, it scans again; if it gives up, it leaves. Once the request proceeds, the pass
+//! acquires the key that it writes, finishes there, and leaves. It stops at the end of the round in which its
+//! total of key steps reaches the given number.
 //!
-//! With threads each pass has a thread of its own. Without them the passes take turns on one thread, in an order that is
-//! drawn by a further generator; a turn is one stage of a round: enter and scan (and, if that waits, leave at once), acquire,
-//! finish, or leave.
+//! **Threads and turns.** With threads, each pass has its own thread. Without them, the passes take turns on one
+//! thread, in an order that another generator draws. A turn is one stage of a round: enter and scan (and, if the
+//! scan waits, leave at once), acquire, finish, or leave.
 //!
-//! A pass that meets a full shard yields its time slice and tries again, since the taker of a streamed table empties the shard.
+//! **Full shards.** A pass that finds a shard full yields its time slice and tries again, because the taker of a
+//! streamed table empties the shard.
 //!
-//! A pass that sleeps is always let through. A request holds a lock only after it proceeds, and then it waits for nothing. So
-//! each held lock comes free, and that lets the waiting readers through. A waiting writer may also stand behind the
-//! reservation of a smaller number. The request with that reservation writes no other key, so it can only wait to read, and
-//! a read passes every reservation: it proceeds, and its turn ends. Numbers rise, so only finitely many requests go first.
+//! **Why a sleeping pass is always let through.** A request holds a lock only after it proceeds, and from then on
+//! it waits for nothing. So each held lock comes free, which lets the waiting readers through. A waiting writer
+//! can also be queued behind the reservation of a smaller number. The request with that reservation writes no
+//! other key, so it can only wait to read. A read passes every reservation, so that request proceeds, and its turn
+//! ends. Numbers rise, so only finitely many requests go first.
 ghost use Rattle.std.specs.Prelude.{◌≡◌, ◌<◌, IfSome};
 
 use crate::load::Load;
@@ -32,13 +36,14 @@ use std::alloc::Global;
 use std::sync::Wait;
 use std::{hint, thread};
 
-/// How often a thread polls before it gives up waiting.
+/// How many times a thread polls before it gives up waiting.
 const POLLS: u32 = 1_000;
 
-/// After how many polls each further one gives the time slice away.
+/// After this many polls, the thread yields its time slice after each further poll.
 const SPINS: u32 = 100;
 
-/// What was counted.
+/// The counts of one or more passes: key steps; scans that proceed; waits; waits that ended with a let; waits that
+/// were given up.
 #[derive(Clone, Copy, Debug)]
 pub struct Tally {
     pub steps: u64,
@@ -70,7 +75,7 @@ impl Tally {
     }
 }
 
-/// Marsaglia's xorshift, of 64 bits.
+/// Marsaglia's xorshift generator, with 64 bits.
 #[derive(Clone, Copy, Debug)]
 struct XorShift {
     state: u64,
@@ -97,7 +102,7 @@ impl XorShift {
     }
 }
 
-/// What a pass does next.
+/// The stage of a round that a pass executes next.
 #[derive(Clone, Copy, Debug, PartialEq, Eq)]
 enum Stage {
     Enter,
@@ -109,21 +114,21 @@ enum Stage {
 /// How a pass waits for its request to be let through.
 #[derive(Clone, Copy, Debug, PartialEq, Eq)]
 enum Waiting {
-    /// It sleeps.
+    /// It sleeps until it is let through.
     Sleep,
-    /// It polls so many times, and then gives up.
+    /// It polls at most this many times, and then gives up.
     Poll(u32),
 }
 
-/// What is the same for all turns of a pass.
+/// The part of a pass's work that is the same in all turns.
 #[derive(Clone, Copy, Debug)]
-struct Plan {
+struct TurnPlan {
     txn: TxnId,
     steps: u64,
     waiting: Waiting,
 }
 
-/// Where a pass is in its rounds.
+/// The progress of a pass in its rounds. `write` is the index of the key that the current round writes.
 #[derive(Clone, Copy, Debug)]
 struct Course {
     random: XorShift,
@@ -133,11 +138,11 @@ struct Course {
     tally: Tally,
 }
 
-/// A pass at work. Only in the middle of a turn, or after a call that was refused, has it no seat.
+/// A pass at work. It has a seat except in the middle of a turn and after a call that failed.
 #[derive(Drop)]
 pub struct Driver<N: Name> {
     seat: Option<Seat<N>>,
-    plan: Plan,
+    plan: TurnPlan,
     course: Course,
 }
 
@@ -145,7 +150,7 @@ fn at(wall: u64) -> Timestamp {
     Timestamp { wall, logical: 0 }
 }
 
-/// The places of the key to write and of the key to read: two different ones, if there are two.
+/// The indices of the key to write and of the key to read. They differ if there are at least two keys.
 fn two_of(random: &mut XorShift, len: usize) -> (usize, usize)
     requires { 0 < len }
     ensures write { result.0 < len }
@@ -163,7 +168,7 @@ fn two_of(random: &mut XorShift, len: usize) -> (usize, usize)
     }
 }
 
-/// The accesses of the next round. None if there is no key, or memory is refused.
+/// Starts the next round and returns its accesses. None if there is no key or an allocation fails.
 fn next_accesses(keys: &[Key], course: &mut Course) -> Option<[(Key, Access); 2]> {
     if keys.is_empty() {
         return None;
@@ -177,7 +182,7 @@ fn next_accesses(keys: &[Key], course: &mut Course) -> Option<[(Key, Access); 2]
     ])
 }
 
-/// Whether the request is let through within so many polls.
+/// Polls until the request is let through, at most `polls` times. True if it was let through.
 fn is_let_in<N: Name, T: KeyTable>(table: &Table<N, T>, guard: &mut Guard, polls: u32) -> bool
     requires { guard.old.pass.of ≡ N.of }
     ensures { guard.new.pass.of ≡ N.of }
@@ -195,7 +200,7 @@ fn is_let_in<N: Name, T: KeyTable>(table: &Table<N, T>, guard: &mut Guard, polls
     false
 }
 
-/// Waits until the request is let through. Whether it was.
+/// Waits in the given way for the request to be let through. True if it was.
 fn wait<N: Name, T: KeyTable, R: Wait>(
     rt: &R,
     table: &Table<N, T>,
@@ -211,7 +216,7 @@ fn wait<N: Name, T: KeyTable, R: Wait>(
     }
 }
 
-/// Waits until the request is let through, and counts that. Whether it was.
+/// Waits in the given way for the request to be let through, and counts the wait. True if it was let through.
 fn wait_on<N: Name, T: KeyTable, R: Wait>(
     rt: &R,
     table: &Table<N, T>,
@@ -232,11 +237,11 @@ fn wait_on<N: Name, T: KeyTable, R: Wait>(
     is_let
 }
 
-/// Scans until the request proceeds, or gives up. None if a scan is refused for another reason than a full shard.
+/// Scans until the request proceeds or gives up. None if a scan fails for another reason than a full shard.
 fn scan_on<N: Name, T: KeyTable, R: Wait>(
     rt: &R,
     table: &Table<N, T>,
-    plan: &Plan,
+    plan: &TurnPlan,
     tally: &mut Tally,
     guard: &mut Guard,
 ) -> Option<bool>
@@ -264,7 +269,7 @@ fn scan_on<N: Name, T: KeyTable, R: Wait>(
     None
 }
 
-/// A request enters through the pass, which is seated alone. None if that is refused.
+/// Makes a request enter by the free pass in the seat. None if that fails.
 fn enter<N: Name, T: KeyTable, R: Wait>(
     rt: &R,
     alloc: Global,
@@ -288,11 +293,12 @@ fn enter<N: Name, T: KeyTable, R: Wait>(
     }
 }
 
-/// Scans for the seated request: whether it proceeds. None if no request is seated, or a scan is refused.
+/// Scans for the request in the seat. True if it proceeds, false if it gives up. None if the seat has no request,
+/// or a scan fails.
 fn scan<N: Name, T: KeyTable, R: Wait>(
     rt: &R,
     table: &Table<N, T>,
-    plan: &Plan,
+    plan: &TurnPlan,
     course: &mut Course,
     seat: &mut Seat<N>,
 ) -> Option<bool> {
@@ -302,7 +308,8 @@ fn scan<N: Name, T: KeyTable, R: Wait>(
     }
 }
 
-/// Ends the round. If a shard is full, the next turn goes on. None if the leave is refused for another reason.
+/// Leaves, which ends the round. If a shard is full, the next turn tries again. None if the leave fails for
+/// another reason.
 fn leave<N: Name, T: KeyTable, R: Wait>(
     rt: &R,
     table: &Table<N, T>,
@@ -326,7 +333,8 @@ fn leave<N: Name, T: KeyTable, R: Wait>(
     }
 }
 
-/// Whether a step was made. If a full shard refused it, the time slice is given away. None if memory was refused.
+/// Whether a step was made. If a full shard refused it, yields the time slice and returns false. None if the call
+/// ran out of memory.
 fn is_made(answered: Result<Answer, StepError>) -> Option<bool> {
     match answered {
         Ok(_) => Some(true),
@@ -338,7 +346,7 @@ fn is_made(answered: Result<Answer, StepError>) -> Option<bool> {
     }
 }
 
-/// Whether the request's transaction acquires the key: not if a shard is full. None if memory is refused.
+/// Acquires the key for the request's transaction. False if the shard is full. None if the call runs out of memory.
 fn acquire<N: Name, T: KeyTable, R: Wait>(
     rt: &R,
     table: &Table<N, T>,
@@ -353,7 +361,7 @@ fn acquire<N: Name, T: KeyTable, R: Wait>(
     is_made(table.acquire_in(rt, guard, key, txn, ts))
 }
 
-/// Whether the request's transaction finishes at the key: not if a shard is full. None if memory is refused.
+/// Finishes the request's transaction at the key. False if the shard is full. None if the call runs out of memory.
 fn finish<N: Name, T: KeyTable, R: Wait>(
     rt: &R,
     table: &Table<N, T>,
@@ -367,13 +375,13 @@ fn finish<N: Name, T: KeyTable, R: Wait>(
     is_made(table.finish_in(rt, guard, key, txn))
 }
 
-/// Makes a step of the seated request's transaction at the key that it writes: acquires it, or finishes there. If the shard is
-/// full, the next turn tries again. None if no request is seated, or memory is refused.
+/// Makes the step of this stage at the key that the request writes: acquires it, or finishes there. If the shard
+/// is full, the next turn tries again. None if the seat has no request, or the call runs out of memory.
 fn make_step<N: Name, T: KeyTable, R: Wait>(
     rt: &R,
     table: &Table<N, T>,
     key: &Key,
-    plan: &Plan,
+    plan: &TurnPlan,
     course: &mut Course,
     seat: &mut Seat<N>,
 ) -> Option<()> {
@@ -395,8 +403,8 @@ fn make_step<N: Name, T: KeyTable, R: Wait>(
     Some(())
 }
 
-/// Makes one stage of a round: enters and scans, and leaves at once if the scan's waits come to nothing; or acquires,
-/// finishes or leaves. None if a call is refused.
+/// Makes one stage of a round: enters and scans, and leaves at once if the request gives up waiting; or acquires,
+/// finishes or leaves. None if a call fails.
 fn turn<N: Name, T: KeyTable, R: Wait>(
     rt: &R,
     alloc: Global,
@@ -424,12 +432,12 @@ fn turn<N: Name, T: KeyTable, R: Wait>(
     leave(rt, table, &mut driver.course, &mut driver.seat)
 }
 
-/// Whether the pass has made its steps, and stands between two rounds.
+/// Whether the pass has made its steps and is between two rounds.
 fn is_done<N: Name>(driver: &Driver<N>) -> bool {
     driver.course.stage == Stage::Enter && driver.course.tally.steps >= driver.plan.steps
 }
 
-/// Acquires the key. If the shard is full, it tries again. None if memory is refused.
+/// Acquires the key, and tries again while the shard is full. None if a call runs out of memory.
 fn acquire_at_last<N: Name, T: KeyTable, R: Wait>(
     rt: &R,
     table: &Table<N, T>,
@@ -449,7 +457,7 @@ fn acquire_at_last<N: Name, T: KeyTable, R: Wait>(
     None
 }
 
-/// Finishes at the key. If the shard is full, it tries again. None if memory is refused.
+/// Finishes at the key, and tries again while the shard is full. None if a call runs out of memory.
 fn finish_at_last<N: Name, T: KeyTable, R: Wait>(
     rt: &R,
     table: &Table<N, T>,
@@ -468,12 +476,13 @@ fn finish_at_last<N: Name, T: KeyTable, R: Wait>(
     None
 }
 
-/// Acquires the key that the request writes, finishes there, and counts both steps. None if memory is refused.
+/// Acquires the key that the request writes, finishes there, and counts both steps. None if a call runs out of
+/// memory.
 fn write_once<N: Name, T: KeyTable, R: Wait>(
     rt: &R,
     table: &Table<N, T>,
     key: &Key,
-    plan: &Plan,
+    plan: &TurnPlan,
     course: &mut Course,
     guard: &mut Guard,
 ) -> Option<()>
@@ -486,12 +495,12 @@ fn write_once<N: Name, T: KeyTable, R: Wait>(
     Some(())
 }
 
-/// Scans for a request and, if it proceeds, writes. None if a call is refused.
+/// Scans for the request and, if it proceeds, acquires and finishes. None if a call fails.
 fn work<N: Name, T: KeyTable, R: Wait>(
     rt: &R,
     table: &Table<N, T>,
     keys: &[Key],
-    plan: &Plan,
+    plan: &TurnPlan,
     course: &mut Course,
     guard: &mut Guard,
 ) -> Option<()>
@@ -504,7 +513,7 @@ fn work<N: Name, T: KeyTable, R: Wait>(
     Some(())
 }
 
-/// Ends a round. If a shard is full, it tries again. None if the leave is refused for another reason; the pass is then
+/// Leaves, and tries again while a shard is full. None if the leave fails for another reason; the pass is then
 /// given up.
 fn leave_at_last<N: Name, T: KeyTable, R: Wait>(
     rt: &R,
@@ -537,7 +546,7 @@ fn leave_at_last<N: Name, T: KeyTable, R: Wait>(
     None
 }
 
-/// Makes a round. None if a call is refused; the pass is then given up.
+/// Makes a whole round. None if a call fails; the pass is then given up.
 fn round<N: Name, T: KeyTable, R: Wait>(
     rt: &R,
     alloc: Global,
@@ -569,7 +578,8 @@ fn round<N: Name, T: KeyTable, R: Wait>(
     leave_at_last(rt, table, &mut course.tally, guard)
 }
 
-/// Makes the rounds of one pass. It goes from call to call without its seat.
+/// Makes the rounds of one pass. None if a call fails. The pass stays outside its seat until the last round has
+/// ended.
 pub fn drive<N: Name, T: KeyTable, R: Wait>(
     rt: &R,
     alloc: Global,
@@ -589,7 +599,7 @@ pub fn drive<N: Name, T: KeyTable, R: Wait>(
     Some(driver)
 }
 
-/// Makes the rounds of all passes in turn. None if a call is refused.
+/// Makes the rounds of all passes in turn, on this thread. None if a call fails.
 pub fn drive_in_turn<N: Name, T: KeyTable, R: Wait>(
     rt: &R,
     alloc: Global,
@@ -601,7 +611,7 @@ pub fn drive_in_turn<N: Name, T: KeyTable, R: Wait>(
     let mut busy = drivers;
     let mut done = Vec::new(alloc);
     if busy.len() == 1 {
-        // One pass takes no turns.
+        // A single pass needs no turns.
         done.push(drive(rt, alloc, table, keys, busy.pop()?)?).ok()?;
         return Some(done);
     }
@@ -619,8 +629,8 @@ pub fn drive_in_turn<N: Name, T: KeyTable, R: Wait>(
     Some(done)
 }
 
-/// How the passes of the load wait. Passes that take turns on one thread give up at once, since none could let another through
-/// meanwhile.
+/// How the passes of the load wait. Passes that take turns on one thread give up at once, because no other pass
+/// could let them through in the meantime.
 fn waiting_of(load: &Load) -> Waiting {
     if load.waits {
         Waiting::Sleep
@@ -631,7 +641,7 @@ fn waiting_of(load: &Load) -> Waiting {
     }
 }
 
-/// A driver for each seat.
+/// One driver for each seat. None if an allocation fails.
 pub fn drivers_of<N: Name>(
     alloc: Global,
     seats: Vec<Seat<N>>,
@@ -641,7 +651,7 @@ pub fn drivers_of<N: Name>(
     let mut number = 0u64;
     for seat in seats {
         number = number.saturating_add(1);
-        let plan = Plan {
+        let plan = TurnPlan {
             txn: TxnId::new(number)?,
             steps: load.steps,
             waiting: waiting_of(load),
@@ -659,7 +669,7 @@ pub fn drivers_of<N: Name>(
     Some(drivers)
 }
 
-/// The seats of the drivers, and what all of them counted.
+/// The seats of the drivers, and the sum of their counts. None if a driver has no seat, or an allocation fails.
 pub fn gathered<N: Name>(alloc: Global, drivers: Vec<Driver<N>>) -> Option<(Vec<Seat<N>>, Tally)> {
     let mut seats = Vec::new(alloc);
     let mut tally = Tally::none();
@@ -671,7 +681,7 @@ pub fn gathered<N: Name>(alloc: Global, drivers: Vec<Driver<N>>) -> Option<(Vec<
     Some((seats, tally))
 }
 
-/// All drivers, if all came back.
+/// All drivers, if each of them succeeded. None otherwise, or if an allocation fails.
 pub fn all_of<N: Name>(alloc: Global, drivers: Vec<Option<Driver<N>>>) -> Option<Vec<Driver<N>>> {
     let mut list = Vec::new(alloc);
     for driver in drivers {

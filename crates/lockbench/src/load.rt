@@ -1,7 +1,9 @@
-//! The load of a store's transactions on a table, in memory: rounds of enter, scan, acquire, finish and leave.
+//! How fast is a table under the load of a store's transactions? [`report`] plays rounds of enter, scan, acquire,
+//! finish and leave, all in memory, and prints the times.
 //!
-//! The table keeps its history whole until it is closed, or streams it to a thread that takes the steps while others are made,
-//! or records none. [`crate::drivers`] says what each pass does.
+//! The table keeps its history whole until it is closed, streams it to a thread that takes the steps while others
+//! are made, or records none. Read [`crate::drivers`] for what each pass does, and [`crate::taking`] for the
+//! thread that takes the steps.
 ghost use Rattle.std.specs.Prelude.{◌≡◌};
 
 use crate::closing::{Ending, close};
@@ -24,11 +26,11 @@ use std::sync::atomic::{AtomicBool, Ordering};
 use std::thread::{Threads, join, map_vec};
 use std::time::{Clock, CpuClock, Duration, Instant};
 
-/// How many steps a shard of a streamed table holds at most.
+/// The most steps that a shard of a streamed table holds.
 const HELD: u64 = 1 << 20;
 
-/// What is played: so many passes, keys and shards; about so many key steps of each pass; on threads or in turn; on a table
-/// that keeps its steps in this way.
+/// The parameters of a load: how many passes, keys and shards; about how many key steps each pass makes; on
+/// threads or in turn; and how the table keeps its steps.
 #[derive(Clone, Copy, Debug)]
 pub struct Load {
     pub passes: usize,
@@ -36,14 +38,14 @@ pub struct Load {
     pub steps: u64,
     pub shards: usize,
     pub threads: bool,
-    /// Whether a pass sleeps until it is let through, where it else polls.
+    /// Whether a waiting pass sleeps until it is let through. Otherwise it polls.
     pub waits: bool,
     pub keeping: Keeping,
-    /// Whether the steps that are taken of a streamed table are kept, for a trace.
+    /// Whether the steps that are taken from a streamed table are kept, for a trace.
     pub traces: bool,
 }
 
-/// The keys `k0`, `k1` and so on. None if memory is refused.
+/// The keys `k0`, `k1` and so on. None if an allocation fails.
 fn keys_of(alloc: Global, keys: usize) -> Option<Vec<Key>> {
     let mut list = Vec::new(alloc);
     for place in 0..keys {
@@ -54,14 +56,14 @@ fn keys_of(alloc: Global, keys: usize) -> Option<Vec<Key>> {
     Some(list)
 }
 
-/// Who calls a table: its drivers, and whoever takes its steps, if it is streamed.
+/// The callers of a table: its drivers and, if it is streamed, the taker of its steps.
 #[derive(Drop)]
-struct Crew<N: Name> {
+struct LoadCallers<N: Name> {
     drivers: Vec<Driver<N>>,
     taker: Option<Taker<N>>,
 }
 
-/// A taker with a seat of its own, if the table is streamed. An error if memory is refused.
+/// A taker with a seat of its own, if the table is streamed. An error if no seat is left or an allocation fails.
 fn taker_of<N: Name>(
     alloc: Global,
     seats: &mut Vec<Seat<N>>,
@@ -84,8 +86,12 @@ fn taker_of<N: Name>(
     }
 }
 
-/// The callers of a table. An error if memory is refused.
-fn crew_of<N: Name>(alloc: Global, mut seats: Vec<Seat<N>>, load: &Load) -> anyhow::Result<Crew<N>>
+/// The callers of a table. An error if there are too few seats or an allocation fails.
+fn crew_of<N: Name>(
+    alloc: Global,
+    mut seats: Vec<Seat<N>>,
+    load: &Load,
+) -> anyhow::Result<LoadCallers<N>>
     requires shards { N.of.shards ≡ load.now.shards }
     requires keeping { N.of.keeping ≡ load.now.keeping }
 {
@@ -93,10 +99,10 @@ fn crew_of<N: Name>(alloc: Global, mut seats: Vec<Seat<N>>, load: &Load) -> anyh
     let Some(drivers) = drivers_of(alloc, seats, load) else {
         bail!("memory was refused");
     };
-    Ok(Crew { drivers, taker })
+    Ok(LoadCallers { drivers, taker })
 }
 
-/// Makes the rounds of all drivers, on threads or in turn. None if a call is refused.
+/// Makes the rounds of all drivers, on threads or in turn. None if a call fails.
 fn drive_all<N: Name + Send + Sync, T: KeyTable + Send, H: Threads + Wait + Sync>(
     threads: &H,
     alloc: Global,
@@ -116,19 +122,19 @@ fn drive_all<N: Name + Send + Sync, T: KeyTable + Send, H: Threads + Wait + Sync
     all_of(alloc, came.ok()?)
 }
 
-/// Makes the rounds of all drivers while the taker takes the steps. None if a call is refused, or steps are lost.
+/// Makes the rounds of all drivers while the taker takes the steps. None if a call fails or steps are lost.
 fn drive_beside<N: Name + Send + Sync, T: KeyTable + Send, H: Threads + Wait + Clock + Sync>(
     threads: &H,
     alloc: Global,
     table: &Table<N, T>,
     keys: &[Key],
-    crew: Crew<N>,
+    crew: LoadCallers<N>,
     at_once: bool,
-) -> Option<Crew<N>> {
-    let Crew { drivers, taker } = crew;
+) -> Option<LoadCallers<N>> {
+    let LoadCallers { drivers, taker } = crew;
     let Some(taker) = taker else {
         let drivers = drive_all(threads, alloc, table, keys, drivers, at_once)?;
-        return Some(Crew {
+        return Some(LoadCallers {
             drivers,
             taker: None,
         });
@@ -144,15 +150,18 @@ fn drive_beside<N: Name + Send + Sync, T: KeyTable + Send, H: Threads + Wait + C
         },
         move || take_until(threads, alloc, table, taker, done),
     );
-    Some(Crew {
+    Some(LoadCallers {
         drivers: driven?,
         taker: Some(taken?),
     })
 }
 
-/// The seats of all callers, what was taken, and what was counted. None if memory is refused.
-fn dismissed<N: Name>(alloc: Global, crew: Crew<N>) -> Option<(Vec<Seat<N>>, Vec<Piece>, Tally)> {
-    let Crew { drivers, taker } = crew;
+/// The seats of all callers, the steps that were taken, and the counts. None if an allocation fails.
+fn dismissed<N: Name>(
+    alloc: Global,
+    crew: LoadCallers<N>,
+) -> Option<(Vec<Seat<N>>, Vec<Piece>, Tally)> {
+    let LoadCallers { drivers, taker } = crew;
     let (mut seats, tally) = gathered(alloc, drivers)?;
     let Some(taker) = taker else {
         return Some((seats, Vec::new(alloc), tally));
@@ -162,30 +171,30 @@ fn dismissed<N: Name>(alloc: Global, crew: Crew<N>) -> Option<(Vec<Seat<N>>, Vec
     Some((seats, pieces, tally))
 }
 
-/// How long the rounds took, and how much processor time all threads used meanwhile.
+/// The wall time of the rounds, and the processor time that all threads of the process used during them.
 #[derive(Clone, Copy, Debug)]
 struct Spent {
     wall: Duration,
     processor: Duration,
 }
 
-/// What came of a load.
+/// The result of a load.
 #[derive(Drop)]
-struct Played {
+struct LoadRun {
     ending: Ending,
     tally: Tally,
     spent: Spent,
 }
 
-/// Makes the rounds, and times them, from the first call to the last.
+/// Makes the rounds and times them, from the first call to the last.
 fn timed<N: Name + Send + Sync, T: KeyTable + Send, H: Threads + Wait + Clock + CpuClock + Sync>(
     threads: &H,
     alloc: Global,
     table: &Table<N, T>,
     keys: &[Key],
-    crew: Crew<N>,
+    crew: LoadCallers<N>,
     at_once: bool,
-) -> anyhow::Result<(Crew<N>, Spent)> {
+) -> anyhow::Result<(LoadCallers<N>, Spent)> {
     let start = Instant::now(threads)?;
     let before = threads.process_cpu_time()?;
     let driven = drive_beside(threads, alloc, table, keys, crew, at_once);
@@ -197,12 +206,13 @@ fn timed<N: Name + Send + Sync, T: KeyTable + Send, H: Threads + Wait + Clock + 
     Ok((crew, Spent { wall, processor }))
 }
 
-/// Closes the table, with the seats of its callers.
+/// Closes the table with the seats of its callers. None if the close or an allocation fails, or what is left does
+/// not continue what was taken.
 fn close_with<N: Name, T: KeyTable + Drop, H: Wait>(
     rt: &H,
     alloc: Global,
     table: Table<N, T>,
-    crew: Crew<N>,
+    crew: LoadCallers<N>,
     keeping: Keeping,
 ) -> Option<(Ending, Tally)> {
     let (seats, pieces, tally) = dismissed(alloc, crew)?;
@@ -210,14 +220,14 @@ fn close_with<N: Name, T: KeyTable + Drop, H: Wait>(
     Some((ending, tally))
 }
 
-/// Plays the load on a new table, and closes it.
+/// Opens a table, plays the load on it, and closes it.
 fn play<N: Name + Send + Sync, H: Threads + Wait + Clock + CpuClock + Sync>(
     threads: &H,
     alloc: Global,
     ready: Ready,
     load: &Load,
     keys: &[Key],
-) -> anyhow::Result<Played>
+) -> anyhow::Result<LoadRun>
     requires named { ready.of ≡ N.of }
     requires many { ready.of.shards ≡ load.now.shards }
     requires keeping { ready.of.keeping ≡ load.now.keeping }
@@ -231,14 +241,14 @@ fn play<N: Name + Send + Sync, H: Threads + Wait + Clock + CpuClock + Sync>(
     let Some((ending, tally)) = close_with(threads, alloc, table, crew, load.keeping) else {
         bail!("the table was not closed");
     };
-    Ok(Played {
+    Ok(LoadRun {
         ending,
         tally,
         spent,
     })
 }
 
-/// The table of the load: with one pass more than the load has, if it is streamed.
+/// The configuration of the load's table. A streamed table has one pass more than the load, for the taker.
 fn config_of(load: &Load) -> Config
     ensures { result.shards ≡ load.now.shards }
 {
@@ -255,7 +265,7 @@ fn config_of(load: &Load) -> Config
     }
 }
 
-/// The name of a way to keep steps, as the words of the program have it.
+/// The name of a way to keep steps, as on the command line.
 fn name_of(keeping: Keeping) -> &'static str {
     match keeping {
         Keeping::Whole => "whole",
@@ -264,7 +274,7 @@ fn name_of(keeping: Keeping) -> &'static str {
     }
 }
 
-/// Prints what was played.
+/// Prints the parameters of the load.
 fn tell_load<R: Runtime>(rt: &R, load: &Load) -> anyhow::Result<()> {
     let at_once = if load.threads { load.passes } else { 1 };
     print!(rt;
@@ -276,7 +286,7 @@ fn tell_load<R: Runtime>(rt: &R, load: &Load) -> anyhow::Result<()> {
     Ok(())
 }
 
-/// Prints how many steps were made in which time.
+/// Prints the number of steps and the times.
 fn tell_times<R: Runtime>(rt: &R, steps: u64, spent: &Spent) -> anyhow::Result<()> {
     let wall = spent.wall.as_nanos();
     let made = (steps as u128).max(1);
@@ -297,14 +307,14 @@ fn tell_times<R: Runtime>(rt: &R, steps: u64, spent: &Spent) -> anyhow::Result<(
     Ok(())
 }
 
-/// Prints how the requests fared.
+/// Prints the counts of the requests.
 fn tell_requests<R: Runtime>(rt: &R, tally: &Tally) -> anyhow::Result<()> {
     print!(rt; " proceeds={} waits={}", tally.proceeds, tally.waits)?;
     println!(rt; " lets={} gave_up={}", tally.lets, tally.gave_up)?;
     Ok(())
 }
 
-/// Writes the histories to the file, if one is named.
+/// Writes the histories to the named file. Does nothing if `name` is None.
 fn write_trace<F: Files>(
     files: &F,
     alloc: Global,
@@ -319,8 +329,8 @@ fn write_trace<F: Files>(
     Ok(())
 }
 
-/// Plays the load, prints one line of what it took, and writes the trace to the file, if one is named. The steps of the
-/// table are compared with those that the calls told of.
+/// Plays the load, prints one line with its times and counts, and writes the trace to the file, if one is named.
+/// An error if the table's number of steps differs from the number that the calls reported.
 pub fn report<H: Threads + Wait + Clock + CpuClock + Sync, R: Runtime>(
     threads: &H,
     rt: &R,

@@ -1,8 +1,9 @@
-//! Times calls of the lock table, and plays at it by chance. Without a word it says what it can do.
+//! `lockbench`: what do the calls of the lock table cost, and does it stay right under random requests? Without
+//! arguments the program prints its help.
 //!
-//! - `load` times rounds of a store's transactions on a table, on one thread or many, that keeps its history whole, streams it,
-//!   or records none;
-//! - `soak --seconds N` plays random requests on threads for so long, and checks the histories.
+//! - `load` times rounds of a store's transactions, on one thread or many. The table keeps its history whole,
+//!   streams it, or records none. Read [`load`] and then [`drivers`].
+//! - `soak --seconds N` plays random requests on threads for N seconds and checks the histories. Read [`soak`].
 #![tactic(auto)]
 
 mod closing;
@@ -13,13 +14,13 @@ mod soak;
 mod taking;
 mod words;
 
-use crate::words::Job;
+use crate::words::BenchJob;
 use std::env;
 use std::sync::Wait;
 use std::thread::Threads;
 use std::time::{Clock, CpuClock};
 
-/// Does what the words say.
+/// Runs the job that the command line names.
 fn run<H: Threads + Wait + Clock + CpuClock + Sync>(
     threads: &H,
     rt: &HostRuntime,
@@ -27,12 +28,12 @@ fn run<H: Threads + Wait + Clock + CpuClock + Sync>(
 ) -> anyhow::Result<()> {
     let alloc = rt.alloc();
     match words::asked(alloc, words)? {
-        Job::Soak(soak) => soak::report(threads, rt, alloc, &soak),
-        Job::Load(load, trace) => {
+        BenchJob::Soak(soak) => soak::report(threads, rt, alloc, &soak),
+        BenchJob::Load(load, trace) => {
             let name = trace.as_ref().map(|name| name.as_str());
             load::report(threads, rt, alloc, &load, name)
         }
-        Job::Help(text) => {
+        BenchJob::Help(text) => {
             print!(rt; "{text}")?;
             Ok(())
         }

@@ -1,14 +1,17 @@
-//! Random requests on as many threads as there are processors, over tables of random sizes, for as long as is told.
+//! Does the table stay right under random requests, on as many threads as there are processors, for a given time?
+//! [`report`] plays rounds on tables of random sizes and counts what is wrong.
 //!
-//! A round opens a table of linked queues with a pass for each thread. Each thread plays the calls of one request after
-//! another, by chance among those that make sense, until its shards are full, its numbers are used up, or it has made enough
-//! calls. Then the table is closed, and the text of its histories is checked, and left in a file.
-//! What is wrong is counted: an answer that the rules of a request (`docs/RULES.md`) exclude, histories with another number
-//! of steps or of draws than the calls told of, and a check that says something else.
+//! A round opens a table of linked queues with one pass for each thread. Each thread plays one request after
+//! another, and chooses at random among the calls that make sense. It stops when a full shard stops its leave, the
+//! request numbers are used up, or its limit of calls or time is reached. Then the table is closed, the text of
+//! its histories is checked, and the text is left in a file. Three things are counted as wrong: an answer that the
+//! rules of a request (`docs/RULES.md`) exclude; a number of steps or draws in the table that differs from what
+//! the calls reported; and a check that finds another number of steps.
 //!
-//! A streamed table has a further pass, and a thread that takes the steps meanwhile, so a full shard comes free again; what was
-//! taken and what is left are put together and checked as above. An unrecorded table has no histories, and only the numbers of
-//! steps and draws are compared; there is one round, on one table, for the whole time.
+//! A streamed table has one more pass, and a thread that takes the steps while others are made, so that a full
+//! shard has room again. The taken steps and those that are left are joined and checked as above. An unrecorded
+//! table has no histories, so only the numbers of steps and draws are compared, and a single round on one table
+//! lasts for the whole time.
 ghost use Rattle.std.specs.Prelude.{◌≡◌, ◌<◌};
 
 use crate::closing::{Ending, close};
@@ -21,8 +24,8 @@ use lt_plain::{KeyTable, Reply};
 use lt_table::{
     Config, Keeping, Poll, Ready, Scan, ScanError, StepError, Table, open, prepare_with,
 };
-use lt_test_kit::command::{Command, Told};
-use lt_test_kit::desk::{Line, play};
+use lt_test_kit::command::{CallOutcome, TableCommand};
+use lt_test_kit::play::{PlayedCommand, play};
 use lt_test_kit::random::Random;
 use lt_test_kit::run::seated;
 use lt_test_kit::seat::Seat;
@@ -36,90 +39,92 @@ use std::sync::atomic::{AtomicBool, Ordering};
 use std::thread::{Threads, available_parallelism, join, map_vec, sleep};
 use std::time::{Clock, Duration, Instant};
 
-/// The file for the histories, in the folder in which the program runs.
+/// The file for the histories, in the working directory.
 const FILE: &str = "lockbench.histories";
 
-/// How many calls a thread makes in a round, at most, if the steps are recorded: what they all make fits into one text.
+/// The most calls that a thread makes in a round if the steps are recorded, so that the steps of all threads fit
+/// into one text.
 const CALLS: u64 = 40_000;
 
-/// After how many calls a thread looks at the clock.
+/// A thread reads the clock once in this many calls.
 const LOOKS: u64 = 1_024;
 
-/// How many microseconds a thread sleeps after a shard was too full for it to leave.
+/// How many microseconds a thread sleeps after a full shard stopped its leave.
 const PAUSE: u64 = 100;
 
-/// What is played: for so many seconds, on tables that keep their steps in this way.
+/// The parameters of a soak test: how many seconds it lasts, and how its tables keep their steps.
 #[derive(Clone, Copy, Debug)]
 pub struct Soak {
     pub seconds: u64,
     pub keeping: Keeping,
 }
 
-/// When a thread is done: after so many calls, or from this time on.
+/// When a thread is done: after this many calls, or from this time on.
 #[derive(Clone, Copy, Debug)]
 struct Limit {
     calls: u64,
     time: Instant,
 }
 
-/// What was counted: the steps that calls told of, the numbers that were drawn, and answers that cannot be.
+/// The counts: the steps that the calls reported, the request numbers that were drawn, and what was wrong.
 #[derive(Clone, Copy, Debug)]
-struct Tally {
+struct SoakTally {
     steps: u64,
     draws: u64,
     wrong: u64,
 }
 
-impl Tally {
+impl SoakTally {
     fn none() -> Self {
-        Tally {
+        SoakTally {
             steps: 0,
             draws: 0,
             wrong: 0,
         }
     }
 
-    fn and(&self, other: &Tally) -> Tally {
-        Tally {
+    fn and(&self, other: &SoakTally) -> SoakTally {
+        SoakTally {
             steps: self.steps.saturating_add(other.steps),
             draws: self.draws.saturating_add(other.draws),
             wrong: self.wrong.saturating_add(other.wrong),
         }
     }
 
-    /// The same, and wrong once more if the table or the check of its histories says otherwise.
-    fn compared(&self, ending: &Ending, checked: u64) -> Tally {
+    /// These counts, with one more wrong if the table or the check of its histories disagrees with them.
+    fn compared(&self, ending: &Ending, checked: u64) -> SoakTally {
         let is_right = ending.steps == self.steps
             && ending.draws == self.draws
             && checked == self.steps;
-        Tally {
+        SoakTally {
             wrong: self.wrong.saturating_add(if is_right { 0 } else { 1 }),
             ..*self
         }
     }
 }
 
-/// A pass at work on a table that keeps its steps in this way: what its latest call was told, and what all came to.
+/// A pass at work, with the outcome of its latest call and the counts so far. `keeping` is how the table keeps its
+/// steps.
 #[derive(Drop)]
 struct Worker<N: Name> {
     seat: Seat<N>,
     random: Random,
     keeping: Keeping,
-    told: Told,
-    tally: Tally,
+    told: CallOutcome,
+    tally: SoakTally,
 }
 
 fn random_key(random: &mut Random) -> u8 {
     b'a' + random.below(12) as u8
 }
 
-/// One of few, so that locks are often freed.
+/// One of four transactions. They are few, so that locks are often freed.
 fn random_txn(random: &mut Random) -> u64 {
     1 + random.below(4)
 }
 
-/// A request of one to four accesses.
-fn random_enter(alloc: Global, random: &mut Random) -> Result<Command, AllocError> {
+/// The enter of a request with one to four accesses. None of these requests has a bound.
+fn random_enter(alloc: Global, random: &mut Random) -> Result<TableCommand, AllocError> {
     let mut accesses = Vec::new(alloc);
     for _ in 0..1 + random.below(4) {
         let access = if random.below(2) == 0 {
@@ -129,7 +134,7 @@ fn random_enter(alloc: Global, random: &mut Random) -> Result<Command, AllocErro
         };
         accesses.push((random_key(random), access))?;
     }
-    Ok(Command::Enter {
+    Ok(TableCommand::Enter {
         txn: Some(random_txn(random)),
         wall: random.below(9),
         accesses,
@@ -137,59 +142,62 @@ fn random_enter(alloc: Global, random: &mut Random) -> Result<Command, AllocErro
     })
 }
 
-/// A transaction frees a key, if it holds it.
-fn random_finish(random: &mut Random) -> Command {
-    Command::Finish {
+/// The finish of a random transaction at a random key. It frees the key only if the transaction holds it.
+fn random_finish(random: &mut Random) -> TableCommand {
+    TableCommand::Finish {
         txn: random_txn(random),
         key: random_key(random),
     }
 }
 
-/// A call of a request that waits: it polls, sees to it that a lock comes free, or gives up.
-fn waiting_call(random: &mut Random) -> Command {
+/// A random call of a waiting request: it polls, finishes a transaction that may hold a lock, or leaves.
+fn waiting_call(random: &mut Random) -> TableCommand {
     match random.below(32) {
-        0 => Command::Leave,
+        0 => TableCommand::Leave,
         1..=8 => random_finish(random),
-        _ => Command::Poll,
+        _ => TableCommand::Poll,
     }
 }
 
-/// A call of a request that need not wait.
-fn random_call(random: &mut Random) -> Command {
+/// A random call of a request that need not wait.
+fn random_call(random: &mut Random) -> TableCommand {
     let txn = random_txn(random);
     let wall = random.below(9);
     let key = random_key(random);
     match random.below(8) {
-        0 => Command::Acquire { txn, wall, key },
-        1 => Command::Update { txn, wall, key },
+        0 => TableCommand::Acquire { txn, wall, key },
+        1 => TableCommand::Update { txn, wall, key },
         2..=4 => random_finish(random),
-        5 => Command::Look {
+        5 => TableCommand::Look {
             index: random.below(4) as usize,
         },
-        6 => Command::Scan,
-        _ => Command::Leave,
+        6 => TableCommand::Scan,
+        _ => TableCommand::Leave,
     }
 }
 
-/// The next call after one that was answered so. None if there is no more to do: a full shard of a table that is not streamed
-/// stays full.
+/// The next call after a call with the outcome `told`. None if there is nothing left to do, for instance after a
+/// full shard stopped a leave: unless the table is streamed, the shard stays full. None also if an allocation
+/// fails.
 fn next_command(
     alloc: Global,
     random: &mut Random,
     keeping: Keeping,
-    told: Told,
-) -> Option<Command> {
+    told: CallOutcome,
+) -> Option<TableCommand> {
     match told {
-        Told::NotLeft(_) if keeping == Keeping::Streamed => Some(Command::Leave),
-        Told::NotEntered(_) | Told::NotLeft(_) => None,
-        Told::Left => random_enter(alloc, random).ok(),
-        Told::Scanned(Scan::Waiting(_)) | Told::Polled(Poll::Waiting) => Some(waiting_call(random)),
-        Told::Entered(_) | Told::Scanned(Scan::Rescan) | Told::Polled(_) => Some(Command::Scan),
-        Told::Scanned(Scan::TooLong(_)) => Some(Command::Leave),
-        Told::NotScanned(_) | Told::NotStepped(_) => Some(Command::Leave),
-        Told::Scanned(Scan::Proceed) | Told::Stepped(_) | Told::Nothing => Some(random_call(
-            random,
-        )),
+        CallOutcome::NotLeft(_) if keeping == Keeping::Streamed => Some(TableCommand::Leave),
+        CallOutcome::NotEntered(_) | CallOutcome::NotLeft(_) => None,
+        CallOutcome::Left => random_enter(alloc, random).ok(),
+        CallOutcome::Scanned(Scan::Waiting(_)) | CallOutcome::Polled(Poll::Waiting) => Some(
+            waiting_call(random),
+        ),
+        CallOutcome::Entered(_) | CallOutcome::Scanned(Scan::Rescan) | CallOutcome::Polled(_) =>
+            Some(TableCommand::Scan),
+        CallOutcome::Scanned(Scan::TooLong(_)) => Some(TableCommand::Leave),
+        CallOutcome::NotScanned(_) | CallOutcome::NotStepped(_) => Some(TableCommand::Leave),
+        CallOutcome::Scanned(Scan::Proceed) | CallOutcome::Stepped(_) | CallOutcome::Nothing =>
+            Some(random_call(random)),
     }
 }
 
@@ -197,51 +205,57 @@ fn are_passed(replies: &[Reply]) -> bool {
     replies.iter().all(|reply| *reply == Reply::Passed)
 }
 
-/// Whether a shard may be full: one that records steps.
+/// Whether a shard of the table can be full. A table that records no steps has no full shards.
 fn may_be_full(keeping: Keeping) -> bool {
     keeping != Keeping::Unrecorded
 }
 
-/// Whether a call may be answered so, when memory is ample: `before` is what the one before was answered.
-fn is_possible(keeping: Keeping, before: Told, line: &Line) -> bool {
+/// Whether the rules allow this outcome of a call, if no allocation fails. `before` is the outcome of the call
+/// before it.
+fn is_possible(keeping: Keeping, before: CallOutcome, line: &PlayedCommand) -> bool {
     match line.told {
-        Told::Scanned(Scan::Waiting(_)) => match line.replies.split_last() {
+        CallOutcome::Scanned(Scan::Waiting(_)) => match line.replies.split_last() {
             Some((last, others)) => *last == Reply::MustWait && are_passed(others),
             None => false,
         },
         // No request has a bound.
-        Told::Scanned(Scan::TooLong(_)) => false,
-        Told::Scanned(_) => are_passed(&line.replies),
-        Told::NotScanned(ScanError::HistoryFull) => {
+        CallOutcome::Scanned(Scan::TooLong(_)) => false,
+        CallOutcome::Scanned(_) => are_passed(&line.replies),
+        CallOutcome::NotScanned(ScanError::HistoryFull) => {
             may_be_full(keeping) && are_passed(&line.replies)
         }
-        Told::NotScanned(ScanError::WaitsOut) => are_passed(&line.replies),
-        Told::NotScanned(ScanError::StillWaiting) => before != Told::Polled(Poll::Through),
-        Told::NotScanned(_) => false,
-        Told::Polled(Poll::Idle) => false,
-        Told::NotStepped(error) | Told::NotLeft(error) => {
+        CallOutcome::NotScanned(ScanError::WaitsOut) => are_passed(&line.replies),
+        CallOutcome::NotScanned(ScanError::StillWaiting) => before
+            != CallOutcome::Polled(Poll::Through),
+        CallOutcome::NotScanned(_) => false,
+        CallOutcome::Polled(Poll::Idle) => false,
+        CallOutcome::NotStepped(error) | CallOutcome::NotLeft(error) => {
             may_be_full(keeping) && error == StepError::HistoryFull
         }
         _ => !line.told.is_out_of_memory(),
     }
 }
 
-/// How many steps a line tells of. A request that could not leave and goes on to leave tells of all its steps in the end.
-fn steps_of(keeping: Keeping, line: &Line) -> u64 {
+/// How many steps a line reports. On a streamed table a leave that stops is made again and then reports all of its
+/// steps, so the one that stopped counts as 0.
+fn steps_of(keeping: Keeping, line: &PlayedCommand) -> u64 {
     match line.told {
-        Told::Stepped(_) => 1,
-        Told::NotLeft(_) if keeping == Keeping::Streamed => 0,
-        Told::Scanned(_) | Told::Left | Told::NotLeft(_) => line.replies.len() as u64,
-        Told::NotScanned(ScanError::StillWaiting) | Told::NotScanned(ScanError::Leaving) => 0,
-        Told::NotScanned(_) => line.replies.len() as u64,
+        CallOutcome::Stepped(_) => 1,
+        CallOutcome::NotLeft(_) if keeping == Keeping::Streamed => 0,
+        CallOutcome::Scanned(_) | CallOutcome::Left | CallOutcome::NotLeft(_) => line
+            .replies
+            .len() as u64,
+        CallOutcome::NotScanned(ScanError::StillWaiting)
+        | CallOutcome::NotScanned(ScanError::Leaving) => 0,
+        CallOutcome::NotScanned(_) => line.replies.len() as u64,
         _ => 0,
     }
 }
 
-fn tally_of(keeping: Keeping, before: Told, line: &Line) -> Tally {
-    Tally {
+fn tally_of(keeping: Keeping, before: CallOutcome, line: &PlayedCommand) -> SoakTally {
+    SoakTally {
         steps: steps_of(keeping, line),
-        draws: if let Told::Entered(_) = line.told {
+        draws: if let CallOutcome::Entered(_) = line.told {
             1
         } else {
             0
@@ -254,13 +268,13 @@ fn tally_of(keeping: Keeping, before: Told, line: &Line) -> Tally {
     }
 }
 
-/// Makes one call. None if memory is refused.
+/// Makes one call. None if an allocation outside the call fails.
 fn make<N: Name, T: KeyTable, R: Wait>(
     rt: &R,
     alloc: Global,
     table: &Table<N, T>,
     worker: Worker<N>,
-    command: &Command,
+    command: &TableCommand,
 ) -> Option<Worker<N>> {
     let Worker {
         seat,
@@ -279,7 +293,7 @@ fn make<N: Name, T: KeyTable, R: Wait>(
     })
 }
 
-/// Whether it is that time or later, or the clock cannot be read.
+/// Whether this time is reached, or the clock cannot be read.
 fn is_past(clock: &impl Clock, time: Instant) -> bool {
     match Instant::now(clock) {
         Ok(now) => now.checked_duration_since(time).is_some(),
@@ -287,21 +301,22 @@ fn is_past(clock: &impl Clock, time: Instant) -> bool {
     }
 }
 
-/// Whether a thread that made so many calls is done.
+/// Whether a thread that has made `calls` calls is done.
 fn is_done(clock: &impl Clock, limit: &Limit, calls: u64) -> bool {
     calls >= limit.calls || calls % LOOKS == 0 && is_past(clock, limit.time)
 }
 
-/// Whether the pass could not leave, since a shard was full.
-fn is_stopped(told: Told) -> bool {
+/// Whether a full shard stopped the pass's leave.
+fn is_stopped(told: CallOutcome) -> bool {
     match told {
-        Told::NotLeft(_) => true,
+        CallOutcome::NotLeft(_) => true,
         _ => false,
     }
 }
 
-/// Whether a thread that made so many calls goes on. It sleeps for a moment before it tries again to leave.
-fn goes_on<R: Wait + Clock>(rt: &R, limit: &Limit, told: Told, calls: u64) -> bool {
+/// Whether a thread that has made `calls` calls continues. If its leave stopped, it sleeps for a moment and then
+/// continues past the limit, since the leave has to be made again.
+fn goes_on<R: Wait + Clock>(rt: &R, limit: &Limit, told: CallOutcome, calls: u64) -> bool {
     if is_stopped(told) {
         sleep(rt, Duration::from_micros(PAUSE));
         return true;
@@ -309,8 +324,8 @@ fn goes_on<R: Wait + Clock>(rt: &R, limit: &Limit, told: Told, calls: u64) -> bo
     !is_done(rt, limit, calls)
 }
 
-/// Makes calls with the pass until there is no more to do, or the limit is reached; a request that goes on to leave does so
-/// first. None if memory is refused.
+/// Makes calls with the pass until there is nothing left to do or the limit is reached. On a streamed table a
+/// leave that stopped is first made again. None if an allocation outside the calls fails.
 fn work<N: Name, T: KeyTable, R: Wait + Clock>(
     rt: &R,
     alloc: Global,
@@ -332,7 +347,7 @@ fn work<N: Name, T: KeyTable, R: Wait + Clock>(
     Some(worker)
 }
 
-/// A worker for each seat.
+/// One worker for each seat. None if an allocation fails.
 fn workers_of<N: Name>(
     alloc: Global,
     seats: Vec<Seat<N>>,
@@ -345,29 +360,30 @@ fn workers_of<N: Name>(
             seat,
             random: Random::new(random.next()),
             keeping,
-            told: Told::Left,
-            tally: Tally::none(),
+            told: CallOutcome::Left,
+            tally: SoakTally::none(),
         };
         workers.push(worker).ok()?;
     }
     Some(workers)
 }
 
-/// Who calls a table: its workers, and whoever takes its steps, if it is streamed.
+/// The callers of a table: its workers and, if it is streamed, the taker of its steps.
 #[derive(Drop)]
-struct Crew<N: Name> {
+struct SoakCallers<N: Name> {
     workers: Vec<Worker<N>>,
     taker: Option<Taker<N>>,
 }
 
-/// The callers of a table of so many shards, which keeps its steps in this way. None if memory is refused.
+/// The callers of a table with `shards` shards that keeps its steps in the given way. None if there are too few
+/// seats or an allocation fails.
 fn crew_of<N: Name>(
     alloc: Global,
     mut seats: Vec<Seat<N>>,
     shards: usize,
     keeping: Keeping,
     random: &mut Random,
-) -> Option<Crew<N>>
+) -> Option<SoakCallers<N>>
     requires shards { N.of.shards ≡ shards }
     requires keeping { N.of.keeping ≡ keeping }
 {
@@ -376,10 +392,10 @@ fn crew_of<N: Name>(
         Keeping::Streamed => Some(Taker::new(alloc, seats.pop()?, shards, true)?),
     };
     let workers = workers_of(alloc, seats, random, keeping)?;
-    Some(Crew { workers, taker })
+    Some(SoakCallers { workers, taker })
 }
 
-/// Each worker works on a thread of its own. None if memory is refused.
+/// Runs each worker on a thread of its own. None if an allocation fails.
 fn work_all<N: Name + Send + Sync, T: KeyTable + Send, R: Threads + Wait + Clock + Sync>(
     rt: &R,
     alloc: Global,
@@ -399,18 +415,18 @@ fn work_all<N: Name + Send + Sync, T: KeyTable + Send, R: Threads + Wait + Clock
     Some(done)
 }
 
-/// All workers work while the taker takes the steps. None if memory is refused, or steps are lost.
+/// Runs all workers while the taker takes the steps. None if an allocation fails or steps are lost.
 fn work_beside<N: Name + Send + Sync, T: KeyTable + Send, R: Threads + Wait + Clock + Sync>(
     rt: &R,
     alloc: Global,
     table: &Table<N, T>,
-    crew: Crew<N>,
+    crew: SoakCallers<N>,
     limit: &Limit,
-) -> Option<Crew<N>> {
-    let Crew { workers, taker } = crew;
+) -> Option<SoakCallers<N>> {
+    let SoakCallers { workers, taker } = crew;
     let Some(taker) = taker else {
         let workers = work_all(rt, alloc, table, workers, limit)?;
-        return Some(Crew {
+        return Some(SoakCallers {
             workers,
             taker: None,
         });
@@ -426,17 +442,20 @@ fn work_beside<N: Name + Send + Sync, T: KeyTable + Send, R: Threads + Wait + Cl
         },
         move || take_until(rt, alloc, table, taker, done),
     );
-    Some(Crew {
+    Some(SoakCallers {
         workers: worked?,
         taker: Some(taken?),
     })
 }
 
-/// The seats of all callers, what was taken, and what was counted. None if memory is refused.
-fn dismissed<N: Name>(alloc: Global, crew: Crew<N>) -> Option<(Vec<Seat<N>>, Vec<Piece>, Tally)> {
-    let Crew { workers, taker } = crew;
+/// The seats of all callers, the steps that were taken, and the counts. None if an allocation fails.
+fn dismissed<N: Name>(
+    alloc: Global,
+    crew: SoakCallers<N>,
+) -> Option<(Vec<Seat<N>>, Vec<Piece>, SoakTally)> {
+    let SoakCallers { workers, taker } = crew;
     let mut seats = Vec::new(alloc);
-    let mut tally = Tally::none();
+    let mut tally = SoakTally::none();
     for worker in workers {
         tally = tally.and(&worker.tally);
         seats.push(worker.seat).ok()?;
@@ -449,15 +468,15 @@ fn dismissed<N: Name>(alloc: Global, crew: Crew<N>) -> Option<(Vec<Seat<N>>, Vec
     Some((seats, pieces, tally))
 }
 
-/// Plays on all seats at once, and closes the table.
+/// Opens the table, plays on all seats at once, and closes the table. None if an allocation fails or steps are lost.
 fn play_named<N: Name + Send + Sync, R: Threads + Wait + Clock + Sync>(
     rt: &R,
     alloc: Global,
     ready: Ready,
     shards: usize,
     random: &mut Random,
-    plan: &Plan,
-) -> Option<(Ending, Tally)>
+    plan: &RoundPlan,
+) -> Option<(Ending, SoakTally)>
     requires named { ready.of ≡ N.of }
     requires many { ready.of.shards ≡ shards }
     requires keeping { ready.of.keeping ≡ plan.now.keeping }
@@ -471,15 +490,15 @@ fn play_named<N: Name + Send + Sync, R: Threads + Wait + Clock + Sync>(
     Some((ending, tally))
 }
 
-/// How a round is played: by so many threads, on a table that keeps its steps in this way, up to a limit for each thread.
+/// How a round is played: the number of threads, how the table keeps its steps, and the limit of each thread.
 #[derive(Clone, Copy, Debug)]
-struct Plan {
+struct RoundPlan {
     threads: usize,
     keeping: Keeping,
     limit: Limit,
 }
 
-/// How many passes a table has beside those of the threads: one for the taker, if it is streamed.
+/// How many passes a table has besides those of the threads: one for the taker if it is streamed, otherwise none.
 fn takers(keeping: Keeping) -> usize {
     match keeping {
         Keeping::Whole | Keeping::Unrecorded => 0,
@@ -487,7 +506,8 @@ fn takers(keeping: Keeping) -> usize {
     }
 }
 
-/// How many requests a table takes: of an unrecorded one so many that it is played on for the whole time.
+/// How many requests a table accepts. An unrecorded table accepts the most possible, so that one table lasts the
+/// whole time.
 fn random_requests(random: &mut Random, keeping: Keeping) -> u64 {
     match keeping {
         Keeping::Whole | Keeping::Streamed => 500 + random.below(20_000),
@@ -495,8 +515,8 @@ fn random_requests(random: &mut Random, keeping: Keeping) -> u64 {
     }
 }
 
-/// A table of random size. Its limits are met in one round or another.
-fn random_config(random: &mut Random, plan: &Plan) -> Config {
+/// A table of random size. The sizes are small enough that some rounds reach each limit.
+fn random_config(random: &mut Random, plan: &RoundPlan) -> Config {
     Config {
         shards: 1 + random.below(8) as usize,
         passes: plan.threads.saturating_add(takers(plan.keeping)),
@@ -506,19 +526,19 @@ fn random_config(random: &mut Random, plan: &Plan) -> Config {
     }
 }
 
-/// One round. None if memory is refused.
+/// Plays one round. None if an allocation fails or steps are lost.
 fn round<R: Threads + Wait + Clock + Sync>(
     rt: &R,
     alloc: Global,
     random: &mut Random,
-    plan: &Plan,
-) -> Option<(Ending, Tally)> {
+    plan: &RoundPlan,
+) -> Option<(Ending, SoakTally)> {
     let config = random_config(random, plan);
     let ready = prepare_with(alloc, config, plan.keeping).ok()?;
     play_named::<Brand, R>(rt, alloc, ready, config.shards, random, plan)
 }
 
-/// What a check says of the histories' text, written to the file.
+/// Writes the text of the histories to the file, and checks the text.
 fn report_of<F: Files>(
     files: &F,
     alloc: Global,
@@ -529,7 +549,8 @@ fn report_of<F: Files>(
     Ok(check(alloc, text.as_slice())?)
 }
 
-/// How many steps the check of the histories tells of. An unrecorded table has none to check, and its own count stands.
+/// The number of steps that the check of the histories reports. An unrecorded table has no histories to check, so
+/// this is the table's own count.
 fn checked_steps<F: Files>(
     files: &F,
     alloc: Global,
@@ -544,14 +565,14 @@ fn checked_steps<F: Files>(
     }
 }
 
-/// What came of all rounds.
+/// The result of all rounds.
 #[derive(Clone, Copy, Debug)]
-struct Played {
+struct SoakRun {
     rounds: u64,
-    tally: Tally,
+    tally: SoakTally,
 }
 
-/// How a thread's round ends: after so many calls, if steps are recorded, and from this time on.
+/// The limit of a thread: this time, and also a number of calls if the steps are recorded.
 fn limit_of(keeping: Keeping, time: Instant) -> Limit {
     let calls = match keeping {
         Keeping::Whole | Keeping::Streamed => CALLS,
@@ -560,15 +581,16 @@ fn limit_of(keeping: Keeping, time: Instant) -> Limit {
     Limit { calls, time }
 }
 
-/// Plays one round after another until the time of the plan's limit.
+/// Plays one round after another until the time of the plan's limit. An error if a round, the file or the check
+/// fails.
 fn play_rounds<H: Threads + Wait + Clock + Sync, R: Runtime + Files>(
     threads: &H,
     rt: &R,
     alloc: Global,
     random: &mut Random,
-    plan: &Plan,
-) -> anyhow::Result<Played> {
-    let mut all = Tally::none();
+    plan: &RoundPlan,
+) -> anyhow::Result<SoakRun> {
+    let mut all = SoakTally::none();
     let mut rounds = 0u64;
     for _ in 0..u64::MAX {
         if is_past(rt, plan.limit.time) {
@@ -581,10 +603,10 @@ fn play_rounds<H: Threads + Wait + Clock + Sync, R: Runtime + Files>(
         all = all.and(&tally.compared(&ending, checked));
         rounds = rounds.saturating_add(1);
     }
-    Ok(Played { rounds, tally: all })
+    Ok(SoakRun { rounds, tally: all })
 }
 
-/// Prints what the process has in memory, if the system tells it.
+/// Prints the process's resident memory at both times, if the system reports it.
 fn tell_memory<R: Runtime>(rt: &R, begin: Option<u64>, end: Option<u64>) -> anyhow::Result<()> {
     if let (Some(begin), Some(end)) = (begin, end) {
         println!(rt; "{begin} KiB in memory at the beginning, {end} KiB at the end")?;
@@ -592,7 +614,8 @@ fn tell_memory<R: Runtime>(rt: &R, begin: Option<u64>, end: Option<u64>) -> anyh
     Ok(())
 }
 
-/// Plays rounds for so many seconds and prints what came of them. The histories of the latest round are left in the file.
+/// Plays rounds for the given number of seconds and prints the counts. The file keeps the histories of the last
+/// round.
 pub fn report<H: Threads + Wait + Clock + Sync, R: Runtime + Files>(
     threads: &H,
     rt: &R,
@@ -604,14 +627,14 @@ pub fn report<H: Threads + Wait + Clock + Sync, R: Runtime + Files>(
     let Some(time) = Instant::now(rt)?.checked_add(length) else {
         bail!("the clock does not go so far");
     };
-    let plan = Plan {
+    let plan = RoundPlan {
         threads: passes,
         keeping: soak.keeping,
         limit: limit_of(soak.keeping, time),
     };
     let begin = resident(rt);
     let mut random = Random::new(soak.seconds);
-    let Played { rounds, tally } = play_rounds(threads, rt, alloc, &mut random, &plan)?;
+    let SoakRun { rounds, tally } = play_rounds(threads, rt, alloc, &mut random, &plan)?;
     println!(rt;
         "{rounds} rounds on {passes} threads, {} requests",
         tally.draws

@@ -1,8 +1,9 @@
-//! The steps of a streamed table are taken out while its callers make more.
+//! How are the steps of a streamed table taken out while its callers make more?
 //!
-//! A taker has a pass of its own. It goes round the shards, takes what each has that it was not given yet, keeps it or
-//! lets it go, and then sleeps for a moment, so that it does not contend for the shards' locks. The room that it hands in is the
-//! room that it was given last, emptied: after the first rounds no shard's store grows under its lock.
+//! A [`Taker`] has a pass of its own. In each round it takes from every shard the steps that it has not taken yet,
+//! and keeps or drops them. Then it sleeps for a moment, so that it does not contend for the shards' locks. It
+//! passes in the buffer that it was given last, emptied, so after the first rounds no shard's list grows while its
+//! lock is held.
 ghost use Rattle.std.specs.Prelude.{◌≡◌, ◌≢◌, ◌<◌, []};
 ghost use Rattle.lt_words.specs.declared.keeping.Keeping.TheVariants.{Whole};
 
@@ -18,30 +19,30 @@ use std::sync::atomic::{AtomicBool, Ordering};
 use std::thread::sleep;
 use std::time::{Clock, Duration};
 
-/// How many milliseconds a taker sleeps after it went round the shards.
+/// How many milliseconds a taker sleeps after each round over the shards.
 const PAUSE: u64 = 1;
 
-/// What was taken of a shard.
+/// The steps that were taken from a shard.
 #[derive(Drop)]
 pub struct Piece {
-    /// How many steps were taken: the first ones.
+    /// How many steps were taken: the first ones of the shard.
     pub count: u64,
-    /// These steps, in order, if they were kept.
+    /// Those steps, in order, if they were kept.
     pub entries: Vec<Entry>,
 }
 
-/// A shard of the table that `N` names, of which steps are taken.
+/// A shard of the table that `N` names, from which steps are taken.
 #[derive(Drop)]
 struct Stream<N: Name> {
     shard: usize,
-    /// How many steps were taken: the first ones.
+    /// How many steps were taken: the first ones of the shard.
     next: u64,
     kept: Vec<Entry>,
     name: PhantomData<N>,
     ghost below: { shard < N.of.shards },
 }
 
-/// Whoever takes the steps of the table that `N` names.
+/// The caller that takes the steps of the table that `N` names.
 #[derive(Drop)]
 pub struct Taker<N: Name> {
     seat: Seat<N>,
@@ -51,7 +52,8 @@ pub struct Taker<N: Name> {
 }
 
 impl<N: Name> Taker<N> {
-    /// A taker of so many shards, which keeps what it takes or lets it go. None if memory is refused.
+    /// A taker for `shards` shards, which keeps the steps if `keeps` is true and otherwise drops them. None if an
+    /// allocation fails.
     pub fn new(alloc: Global, seat: Seat<N>, shards: usize, keeps: bool) -> Option<Taker<N>>
         requires shards { N.of.shards ≡ shards }
         requires keeping { N.of.keeping ≢ Keeping.Whole }
@@ -73,7 +75,7 @@ impl<N: Name> Taker<N> {
         })
     }
 
-    /// Its seat, and what it took of each shard. None if memory is refused.
+    /// The taker's seat, and what it took from each shard. None if an allocation fails.
     pub fn into_pieces(self, alloc: Global) -> Option<(Seat<N>, Vec<Piece>)> {
         let Taker { seat, streams, .. } = self;
         let mut pieces = Vec::new(alloc);
@@ -89,7 +91,7 @@ impl<N: Name> Taker<N> {
     }
 }
 
-/// Takes what the stream's shard has. Whether it was taken, and kept if it has to be.
+/// Takes the new steps of the stream's shard. True if they were taken and, if `keeps` is true, kept.
 fn take_piece<N: Name, T: KeyTable, R: Wait>(
     rt: &R,
     table: &Table<N, T>,
@@ -115,7 +117,7 @@ fn take_piece<N: Name, T: KeyTable, R: Wait>(
     is_taken && is_kept
 }
 
-/// Takes what each shard has, in turn. Whether all was taken, and kept if it has to be.
+/// Takes the new steps of each shard in turn. True if all were taken and, if `keeps` is true, kept.
 fn take_round<N: Name, T: KeyTable, R: Wait>(
     rt: &R,
     table: &Table<N, T>,
@@ -142,8 +144,9 @@ fn take_round<N: Name, T: KeyTable, R: Wait>(
     is_well
 }
 
-/// Takes what the shards have, round after round, until the callers are done. None if steps were lost: another took them, or
-/// memory to keep them was refused. Even then it goes on until the callers are done, so that no shard stays full.
+/// Takes the steps of the shards, round after round, until the callers are done. None if steps were lost: another
+/// caller took them, or the allocation to keep them failed. Even then it continues until the callers are done, so
+/// that no shard stays full.
 pub fn take_until<N: Name, T: KeyTable, R: Wait + Clock>(
     rt: &R,
     alloc: Global,

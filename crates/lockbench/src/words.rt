@@ -1,4 +1,7 @@
-//! What the words of the program ask for, read by clap.
+//! Which job does the command line ask for? [`asked`] reads it with clap and returns the job, or an error with the
+//! fault.
+//!
+//! The defaults and ranges of the options are in [`load_of`] and [`soak_of`]; their help texts are with the options.
 use crate::load::Load;
 use crate::soak::Soak;
 use anyhow::bail;
@@ -7,17 +10,17 @@ use clap::{Arg, ArgAction, ArgMatches, Command, Error};
 use lt_table::Keeping;
 use std::alloc::{AllocError, Global};
 
-/// What is asked for.
+/// The job that the command line asks for.
 #[derive(Drop)]
-pub enum Job {
+pub enum BenchJob {
     Soak(Soak),
-    /// The file is for a trace.
+    /// A load, and the name of the file for its trace.
     Load(Load, Option<String>),
-    /// To print this text.
+    /// The help text, to be printed.
     Help(String),
 }
 
-/// An option that bears a number.
+/// An option with a number as its value.
 fn number<'a>(alloc: Global, name: &'a str, help: &'a str) -> Arg<'a> {
     Arg::new(alloc, name).long(name).value_name("N").help(help)
 }
@@ -30,7 +33,7 @@ fn history<'a>(alloc: Global) -> Arg<'a> {
         .help("How the table keeps its steps: whole, streamed or unrecorded; whole if left out")
 }
 
-/// An option that is there or not.
+/// An option without a value.
 fn flag<'a>(alloc: Global, name: &'a str, help: &'a str) -> Arg<'a> {
     Arg::new(alloc, name)
         .long(name)
@@ -45,7 +48,7 @@ fn soak<'a>(alloc: Global) -> Result<Command<'a>, AllocError> {
         .arg(history(alloc))
 }
 
-/// The file for a trace.
+/// The option with the name of the file for a trace.
 fn trace<'a>(alloc: Global) -> Arg<'a> {
     Arg::new(alloc, "trace")
         .long("trace")
@@ -89,7 +92,8 @@ fn command<'a>(alloc: Global) -> Result<Command<'a>, AllocError> {
         .subcommand(soak(alloc)?)
 }
 
-/// The number of an option, at most so great; where it is left out, the default.
+/// The number of an option, from 1 to `most`, or the default if the option is left out. An error if the value is
+/// not such a number.
 fn number_of(matches: &ArgMatches<'_>, name: &str, default: u64, most: u64) -> anyhow::Result<u64> {
     let Some(word) = matches.get_str(name) else {
         return Ok(default);
@@ -100,7 +104,7 @@ fn number_of(matches: &ArgMatches<'_>, name: &str, default: u64, most: u64) -> a
     }
 }
 
-/// How a table is to keep its steps.
+/// How the table keeps its steps; whole if the option is left out.
 fn keeping_of(matches: &ArgMatches<'_>) -> anyhow::Result<Keeping> {
     match matches.get_str("history") {
         None | Some("whole") => Ok(Keeping::Whole),
@@ -123,8 +127,8 @@ fn load_of(matches: &ArgMatches<'_>) -> anyhow::Result<Load> {
     })
 }
 
-/// A load, and the file for its trace.
-fn load_job(alloc: Global, matches: &ArgMatches<'_>) -> anyhow::Result<Job> {
+/// The job of a load. An error if `--wait` is given without `--threads`, or `--trace` without `--history streamed`.
+fn load_job(alloc: Global, matches: &ArgMatches<'_>) -> anyhow::Result<BenchJob> {
     let load = load_of(matches)?;
     if load.waits && !load.threads {
         bail!("--wait needs --threads");
@@ -136,7 +140,7 @@ fn load_job(alloc: Global, matches: &ArgMatches<'_>) -> anyhow::Result<Job> {
         Some(name) => Some(String::from_str(alloc, name)?),
         None => None,
     };
-    Ok(Job::Load(load, file))
+    Ok(BenchJob::Load(load, file))
 }
 
 fn soak_of(matches: &ArgMatches<'_>) -> anyhow::Result<Soak> {
@@ -146,20 +150,21 @@ fn soak_of(matches: &ArgMatches<'_>) -> anyhow::Result<Soak> {
     })
 }
 
-fn job_of(alloc: Global, matches: &ArgMatches<'_>) -> anyhow::Result<Job> {
+fn job_of(alloc: Global, matches: &ArgMatches<'_>) -> anyhow::Result<BenchJob> {
     let Some((name, inner)) = matches.subcommand() else {
         bail!("there is no word");
     };
     Ok(match name {
-        "soak" => Job::Soak(soak_of(inner)?),
+        "soak" => BenchJob::Soak(soak_of(inner)?),
         _ => load_job(alloc, inner)?,
     })
 }
 
-fn told(alloc: Global, error: &Error) -> anyhow::Result<Job> {
+/// The job of a command line that clap refuses: help, or an error whose text has no `error: ` prefix.
+fn told(alloc: Global, error: &Error) -> anyhow::Result<BenchJob> {
     let text = format!(in alloc; "{error}")?;
     match error.kind() {
-        ErrorKind::DisplayHelp => Ok(Job::Help(text)),
+        ErrorKind::DisplayHelp => Ok(BenchJob::Help(text)),
         _ => match text.strip_prefix("error: ") {
             Some(fault) => bail!("{fault}"),
             None => bail!("{text}"),
@@ -167,15 +172,15 @@ fn told(alloc: Global, error: &Error) -> anyhow::Result<Job> {
     }
 }
 
-fn read(alloc: Global, words: &[&str]) -> anyhow::Result<Job> {
+fn read(alloc: Global, words: &[&str]) -> anyhow::Result<BenchJob> {
     match command(alloc)?.try_get_matches_from(words) {
         Ok(matches) => job_of(alloc, &matches),
         Err(error) => told(alloc, &error),
     }
 }
 
-/// What the words ask for; without a word, for help.
-pub fn asked(alloc: Global, words: &[&str]) -> anyhow::Result<Job> {
+/// The job that the command line asks for; help if it is empty.
+pub fn asked(alloc: Global, words: &[&str]) -> anyhow::Result<BenchJob> {
     if words.is_empty() {
         return read(alloc, &["--help"]);
     }

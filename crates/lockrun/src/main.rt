@@ -1,6 +1,7 @@
-//! Runs a script over an empty lock table, checks a text of histories, or upgrades one: `lockrun run [SCRIPT]`,
-//! `lockrun check [FILE]`, `lockrun upgrade [FILE]`.
-//! The program hands its words and streams over to `lt_tool`, which decides everything.
+//! The program: `lockrun run [SCRIPT]` runs a script over an empty lock table, `lockrun check [FILE]` checks a text
+//! of histories, and `lockrun upgrade [FILE]` upgrades one.
+//!
+//! It passes its words and its streams to `lt_tool`, which decides everything. Read next: `lt_tool/src/job.rt`.
 #![tactic(auto)]
 
 use lt_tool::{Failure, Finish, complain, perform, status};
@@ -11,7 +12,7 @@ use std::process::ExitCode;
 use std::sync::Wait;
 use std::thread::Threads;
 
-/// The words behind the program's name.
+/// The words after the program's name.
 fn words(rt: &HostRuntime) -> Result<Vec<String>, Failure> {
     match env::args(rt) {
         Ok(args) => match args.skip(1).collect(rt.alloc()) {
@@ -27,7 +28,8 @@ fn texts<'a>(rt: &HostRuntime, words: &'a [String]) -> Result<Vec<&'a str>, Allo
     words.iter().map(|word| word.as_str()).collect(rt.alloc())
 }
 
-/// Does what the words ask for. Only `main` may name its runtime as one that has threads, so it hands it over as both.
+/// Does what the words ask for. Both parameters are the same runtime: only `main` may name it as one that has
+/// threads, so `main` passes it as both.
 fn run<H: Threads + Wait + Sync>(threads: &H, rt: &HostRuntime) -> Result<Finish, Failure> {
     let words = words(rt)?;
     let Ok(texts) = texts(rt, &words) else {

@@ -1,4 +1,4 @@
--- The matches of a subcommand that was met, and the jobs that the command line names.
+-- The matches of a subcommand, and the jobs that the command line names.
 use Rattle.std.proofs.Common.{◌≡◌, List, Option, Some, None, refl, option_map, codes}
 use Rattle.std.specs.Prelude.{Box}
 use Rattle.std.specs.Box.{box_value}

@@ -1,7 +1,7 @@
--- How a script is run: what the options of `run` may say, and what each stands for where it is left out.
+-- How a script is run: what the options of `run` may say, and the default of each.
 use Rattle.std.specs.Prelude.{ℕ, ◌≤◌, ◌^◌, ◌&&◌, nat_le, Bool, false, List, Option, Some, None, codes, if◌then◌else◌}
 use Rattle.std.specs.Str.{bytes_eq}
-use Rattle.lt_text.specs.Number.{number_of}
+use Rattle.lt_text.specs.Number.{decimal_of}
 use Rattle.lt_command_line.specs.declared.options.Options.{Options}
 
 abbrev pub default_options : Options
@@ -18,29 +18,29 @@ pub record AreInRange (o : Options) : Type 0 where
 
 -- ---- one option
 
--- the number, if it is from 1 to `most`
+-- The number, if it is from 1 to `most`.
 abbrev pub within : ℕ → Option ℕ → Option ℕ
 within most None = None
 within most (Some n) = if nat_le 1 n && nat_le n most then Some n else None
 
--- the number that the word of an option spells, if it is from 1 to `most`; where there is no word, the default
+-- The number that an option's word spells, if it is from 1 to `most`; the default if there is no word.
 abbrev pub number_or : ℕ → ℕ → Option (List ℕ) → Option ℕ
 number_or default most None = Some default
-number_or default most (Some word) = within most (number_of word)
+number_or default most (Some word) = within most (decimal_of word)
 
--- a flag that is given has the value `true`
+-- Whether a flag was given. Its value is then `true`.
 abbrev pub is_set : Option (List ℕ) → Bool
 is_set None = false
 is_set (Some value) = bytes_eq value (codes "true")
 
 -- ---- all of them
 
--- options of which each number is there
+-- The options, if each of their numbers is there.
 abbrev pub joined : Option ℕ → Option ℕ → Bool → Option ℕ → Option Options
 joined (Some shards) (Some steps) threads (Some turns) = Some (record { shards = shards; steps = steps; threads = threads; turns = turns })
 joined _ _ threads _ = None
 
--- what the words of the options say together, if each number is in its range
+-- The options that these words spell, if each number is in its range.
 abbrev pub options_of : Option (List ℕ) → Option (List ℕ) → Option (List ℕ) → Option (List ℕ) → Option Options
 options_of shards steps threads turns =
     joined (number_or default_options.shards 64 shards) (number_or default_options.steps (2 ^ 32) steps) (is_set threads)

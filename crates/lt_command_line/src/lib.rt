@@ -1,11 +1,12 @@
 //! Reads the words of the command line.
 //!
-//! [`read_words`] tells what the words behind the program's name ask for: to run a script with its [`Options`], to check
-//! a text of histories or to upgrade it, or to help. It promises that a job is taken just where clap's rules find no fault
-//! in the words, and each number is in its range; what the words say is written out for those that are of use.
+//! [`read_words`] says what the words after the program's name ask for: to run a script with its [`Options`], to
+//! check or upgrade a text of histories, or to print help. It promises that the words name a job only if clap's
+//! rules find no fault in them and each number is in its range. The contract also spells out the answer for the
+//! command lines that are of use.
 //!
-//! `specs/Words.antt` says what the words ask for, `specs/Options.antt` what the options of a run may say;
-//! `docs/FORMATS.md` has the same for readers. `lt_tool` does what is asked for.
+//! Read next: `specs/Words.antt` for what the words ask for, and `specs/Options.antt` for what the options of a run
+//! may say. `docs/FORMATS.md` describes the same for readers. `lt_tool` does what is asked for.
 #![tactic(auto)]
 
 mod options;

@@ -1,15 +1,16 @@
+//! The options of a run, with their defaults.
 ghost use Rattle.std.specs.Prelude.{◌≡◌, false};
 
-/// How a script is run. Shards are from 1 to 64, steps from 1 to 2^32, turns from 1 to 1,000,000,000.
+/// How a script is run. Shards range from 1 to 64, steps from 1 to 2^32, turns from 1 to 1,000,000,000.
 #[derive(Clone, Copy, Debug, PartialEq, Eq)]
 pub struct Options {
-    /// Shards of the table.
+    /// The number of shards of the table.
     pub shards: usize,
-    /// Key steps that each shard can hold.
+    /// How many key steps each shard can hold.
     pub steps: u64,
     /// Whether each pass runs on a thread of its own.
     pub threads: bool,
-    /// Polls of one `await` with threads.
+    /// How often one line `await` polls at most, with threads.
     pub turns: u64,
 }
 

@@ -1,8 +1,12 @@
+//! Which job do the words of the command line ask for?
+//!
+//! The first half of the file builds the command line for clap, a command or an option at a time. The second half
+//! turns clap's matches into a [`Job`]. [`read_words`] combines the two. Read next: `specs/Words.antt`.
 ghost use Rattle.std.specs.Prelude.{◌≡◌, ◌<◌, ◌≤◌, ◌^◌, [], ◌∷◌, ℕ, List, None, Some, true, false, IfOk, IfSome, codes, decimal, option_map};
 ghost use Rattle.clap.specs.Words.{Text, app_of, found_of, new_app, rows_of, rule_of, kind_of, subcommand_rows_of, with_rule};
 ghost use Rattle.clap.specs.declared.builder.command.Command.TheViews.{out-Command};
 ghost use Rattle.lt_command_line.specs.Options.{AreInRange, default_options, is_set, joined, number_or, options_of};
-ghost use Rattle.lt_command_line.specs.Words.{file_rule, number_rule, threads_rule, program, reader, runner, lockrun, order, order_of, run_of, chosen_of, IsToldBy, run as runs, check as checks, upgrade as upgrades, texts, HasOptionsInRange, IsReadOf, is_option, HasMost, IsOutOfRange, IsCommand, ReadsHistories, IsStray, Gives, Helps, Refuses};
+ghost use Rattle.lt_command_line.specs.Words.{file_rule, number_rule, threads_rule, program, reader, runner, lockrun, order, order_of, run_of, chosen_of, IsToldBy, run as runs, check as checks, upgrade as upgrades, texts, HasOptionsInRange, IsReadOf, is_option, HasMost, IsOutOfRange, IsCommand, ReadsHistories, IsStray, IsJobOf, Helps, Refuses};
 
 use crate::Options;
 use clap::error::ErrorKind;
@@ -10,29 +14,29 @@ use clap::{Arg, ArgAction, ArgMatches, Command, Error};
 use lt_text::number::number;
 use std::alloc::{AllocError, Global};
 
-/// What the program is asked to do, and with which file: without a file it reads standard input.
+/// What the program is asked to do. A job without a file name reads standard input.
 #[derive(Clone, Copy, Debug, PartialEq, Eq)]
 pub enum Job<'a> {
-    /// To run a script.
+    /// Run a script.
     Run(Option<&'a str>, Options),
-    /// To check a text of histories.
+    /// Check a text of histories.
     Check(Option<&'a str>),
-    /// To write a text of histories as one of the latest version.
+    /// Rewrite a text of histories as one of the latest version.
     Upgrade(Option<&'a str>),
 }
 
 /// Why the words name no job.
 #[derive(Debug, Drop)]
 pub enum WordsError {
-    /// They ask for help. This is its text.
+    /// They ask for help, and this is its text.
     Help(String),
-    /// They are none of the program's.
+    /// They are not a command line of the program.
     Refused,
     /// Memory ran out.
     Memory,
 }
 
-/// The file that a command reads.
+/// The argument for the file that a command reads.
 fn file<'a>(alloc: Global, name: &'a str, help: &'a str) -> Arg<'a>
     ensures rule { rule_of result ≡ file_rule }
     ensures alone { result.global ≡ false }
@@ -55,7 +59,7 @@ fn reader<'a>(
     Command::new(alloc, name).about(about).arg(file)
 }
 
-/// An option that bears a number.
+/// An option that takes a number.
 fn number_option<'a>(alloc: Global, name: &'a str, help: &'a str) -> Arg<'a>
     ensures rule { rule_of result ≡ number_rule name.now }
     ensures alone { result.global ≡ false }
@@ -159,7 +163,7 @@ fn checker<'a>(alloc: Global) -> Result<Command<'a>, AllocError>
     )
 }
 
-/// The command that writes histories as a text of the latest version.
+/// The command that rewrites histories as a text of the latest version.
 fn upgrader<'a>(alloc: Global) -> Result<Command<'a>, AllocError>
     ensures reads { IfOk result (λ c. app_of c ≡ reader (codes "upgrade")) }
     ensures alone { IfOk result (λ c. (out-Command c).has_globals ≡ false) }
@@ -171,7 +175,7 @@ fn upgrader<'a>(alloc: Global) -> Result<Command<'a>, AllocError>
     )
 }
 
-/// The program's command line.
+/// The command line of the program.
 fn command<'a>(alloc: Global) -> Result<Command<'a>, AllocError>
     ensures { IfOk result (λ c. app_of c ≡ lockrun) }
 {
@@ -184,7 +188,7 @@ fn command<'a>(alloc: Global) -> Result<Command<'a>, AllocError>
         .subcommand(upgrade)
 }
 
-/// The number that an option's word spells, if it is from 1 to `most`; where there is no word, the default.
+/// The number that an option's word spells, if it is from 1 to `most`; the default if there is no word.
 fn number_or(default: u64, most: u64, word: Option<&str>) -> Option<u64>
     requires some { 1 ≤ default }
     requires few { default ≤ most }
@@ -198,7 +202,7 @@ fn number_or(default: u64, most: u64, word: Option<&str>) -> Option<u64>
     if 1 <= n && n <= most { Some(n) } else { None }
 }
 
-/// Whether a flag is given: its value is `true` then.
+/// Whether a flag was given. Its value is then `true`.
 fn is_set(value: Option<&str>) -> bool
     ensures { result ≡ is_set (option_map (λ s. s.now) value.entry) }
 {
@@ -208,7 +212,7 @@ fn is_set(value: Option<&str>) -> bool
     }
 }
 
-/// Options of which each number is there.
+/// The options, if each of their numbers is there.
 fn joined(
     shards: Option<u64>,
     steps: Option<u64>,
@@ -232,7 +236,7 @@ fn joined(
     })
 }
 
-/// What the words of the options say together, if each number is in its range.
+/// The options that these words spell, if each number is in its range.
 fn options_of(
     shards: Option<&str>,
     steps: Option<&str>,
@@ -251,7 +255,7 @@ fn options_of(
     )
 }
 
-/// What the options of `run` say, if their numbers are in range.
+/// The options of `run`, if their numbers are in range.
 fn chosen_of(matches: &ArgMatches<'_>) -> Option<Options>
     ensures said { result ≡ chosen_of (rows_of (found_of matches.now)) }
     ensures range { IfSome result AreInRange }
@@ -293,7 +297,7 @@ fn job_of<'a>(matches: &ArgMatches<'a>) -> Option<Job<'a>>
     None
 }
 
-/// What clap's error comes to.
+/// Translates an error of clap.
 fn told(alloc: Global, error: &Error) -> WordsError
     ensures { IsToldBy (kind_of error.now) result }
 {
@@ -324,36 +328,36 @@ fn parsed<'a>(alloc: Global, words: &'a [&'a str]) -> Result<Job<'a>, WordsError
     }
 }
 
-/// Reads the words behind the program's name: `run`, `check` or `upgrade`, and a file's name or none, and behind `run` its
-/// options. Without a word it is `run`.
+/// Reads the words after the program's name: `run`, `check` or `upgrade`, at most one file name, and for `run` its
+/// options. No words at all mean `run`.
 ///
-/// An option's number is decimal digits alone, as `lt_text` reads numbers: no sign, and no zero before other digits. A number
-/// that is out of its range, or a word that spells none, is refused as the command line.
+/// The number of an option consists of decimal digits only, as `lt_text` reads numbers: no sign, and no leading
+/// zero. A number out of its range, or a word that is not a number, makes the command line refused.
 pub fn read_words<'a>(alloc: Global, words: &'a [&'a str]) -> Result<Job<'a>, WordsError>
-    // It is what clap's rules find in the words, where the numbers are in range.
+    // The result is what clap's rules find in the words, if the numbers are in range.
     ensures read { IsReadOf (texts words.now) result }
     ensures options { IfOk result HasOptionsInRange }
 
-    ensures none { texts words.now ≡ [] → Gives result (runs None default_options) }
-    ensures run { texts words.now ≡ codes "run" ∷ [] → Gives result (runs None default_options) }
-    ensures script { (file : Text) → is_option file ≡ false → texts words.now ≡ codes "run" ∷ file ∷ [] → Gives result (runs (Some file) default_options) }
-    ensures check { texts words.now ≡ codes "check" ∷ [] → Gives result (checks None) }
-    ensures histories { (file : Text) → is_option file ≡ false → texts words.now ≡ codes "check" ∷ file ∷ [] → Gives result (checks (Some file)) }
-    ensures upgrade { texts words.now ≡ codes "upgrade" ∷ [] → Gives result (upgrades None) }
-    ensures upgraded { (file : Text) → is_option file ≡ false → texts words.now ≡ codes "upgrade" ∷ file ∷ [] → Gives result (upgrades (Some file)) }
+    ensures none { texts words.now ≡ [] → IsJobOf result (runs None default_options) }
+    ensures run { texts words.now ≡ codes "run" ∷ [] → IsJobOf result (runs None default_options) }
+    ensures script { (file : Text) → is_option file ≡ false → texts words.now ≡ codes "run" ∷ file ∷ [] → IsJobOf result (runs (Some file) default_options) }
+    ensures check { texts words.now ≡ codes "check" ∷ [] → IsJobOf result (checks None) }
+    ensures histories { (file : Text) → is_option file ≡ false → texts words.now ≡ codes "check" ∷ file ∷ [] → IsJobOf result (checks (Some file)) }
+    ensures upgrade { texts words.now ≡ codes "upgrade" ∷ [] → IsJobOf result (upgrades None) }
+    ensures upgraded { (file : Text) → is_option file ≡ false → texts words.now ≡ codes "upgrade" ∷ file ∷ [] → IsJobOf result (upgrades (Some file)) }
 
-    // Each option says what it says, and those that are left out have their defaults.
-    ensures threads { texts words.now ≡ codes "run" ∷ codes "--threads" ∷ [] → Gives result (runs None (record default_options { threads = true })) }
-    ensures shards { (n : ℕ) → 1 ≤ n → n ≤ 64 → texts words.now ≡ codes "run" ∷ codes "--shards" ∷ decimal n ∷ [] → Gives result (runs None (record default_options { shards = n })) }
-    ensures steps { (n : ℕ) → 1 ≤ n → n ≤ 2 ^ 32 → texts words.now ≡ codes "run" ∷ codes "--steps" ∷ decimal n ∷ [] → Gives result (runs None (record default_options { steps = n })) }
-    ensures turns { (n : ℕ) → 1 ≤ n → n ≤ 1000000000 → texts words.now ≡ codes "run" ∷ codes "--turns" ∷ decimal n ∷ [] → Gives result (runs None (record default_options { turns = n })) }
-    ensures together { (file : Text) → is_option file ≡ false → texts words.now ≡ codes "run" ∷ file ∷ codes "--shards" ∷ codes "1" ∷ codes "--steps" ∷ codes "2" ∷ [] → Gives result (runs (Some file) (record default_options { shards = 1; steps = 2 })) }
+    // Each option sets its own value, and an option that is left out has its default.
+    ensures threads { texts words.now ≡ codes "run" ∷ codes "--threads" ∷ [] → IsJobOf result (runs None (record default_options { threads = true })) }
+    ensures shards { (n : ℕ) → 1 ≤ n → n ≤ 64 → texts words.now ≡ codes "run" ∷ codes "--shards" ∷ decimal n ∷ [] → IsJobOf result (runs None (record default_options { shards = n })) }
+    ensures steps { (n : ℕ) → 1 ≤ n → n ≤ 2 ^ 32 → texts words.now ≡ codes "run" ∷ codes "--steps" ∷ decimal n ∷ [] → IsJobOf result (runs None (record default_options { steps = n })) }
+    ensures turns { (n : ℕ) → 1 ≤ n → n ≤ 1000000000 → texts words.now ≡ codes "run" ∷ codes "--turns" ∷ decimal n ∷ [] → IsJobOf result (runs None (record default_options { turns = n })) }
+    ensures together { (file : Text) → is_option file ≡ false → texts words.now ≡ codes "run" ∷ file ∷ codes "--shards" ∷ codes "1" ∷ codes "--steps" ∷ codes "2" ∷ [] → IsJobOf result (runs (Some file) (record default_options { shards = 1; steps = 2 })) }
 
     ensures help { texts words.now ≡ codes "--help" ∷ [] → Helps result }
     ensures help_of { (name : Text) → IsCommand name → texts words.now ≡ name ∷ codes "--help" ∷ [] → Helps result }
 
-    // A first word that is no command and no option, two files, an option of check or upgrade, and a number of run that is
-    // out of its range, or no number, are refused.
+    // Refused: a first word that is neither a command, nor an option, nor `help`; two files; a number option of run
+    // given to check or upgrade; and for run a number out of its range, or a word that is not a number.
     ensures stray { (word : Text) (rest : List Text) → IsStray word → texts words.now ≡ word ∷ rest → Refuses result }
     ensures two { (name first second : Text) → IsCommand name → is_option first ≡ false → is_option second ≡ false → texts words.now ≡ name ∷ first ∷ second ∷ [] → Refuses result }
     ensures out_of_range { (name word : Text) (most : ℕ) → HasMost name most → is_option word ≡ false → IsOutOfRange word most → texts words.now ≡ codes "run" ∷ name ∷ word ∷ [] → Refuses result }

@@ -1,7 +1,7 @@
 -- What one more entry changes in a history: the events of its own key, and of no other.
 --
--- Whoever keeps a table beside the list of the steps that were made of it takes from here that the list stays legal,
--- and that each key's steps, played again from nothing, give the table's record there.
+-- A proof about a table that is kept together with the list of its steps finds here that the list stays legal, and
+-- that replaying each key's steps from the empty record gives the table's record there.
 use Rattle.std.proofs.Common.{◌≡◌, ◌≢◌, ℕ, Bool, true, false, List, [], ◌∷◌, ◌++◌, Option, unwrap_or, map, refl, sym, ap, subst, ◌∙◌}
 use Rattle.std.specs.List.{AllByRecursion}
 use Rattle.std.specs.Str.{bytes_eq}
@@ -14,7 +14,7 @@ use Rattle.lt_plain.specs.Rules.{Record, empty}
 use Rattle.lt_plain.specs.Step.{Event, step, IsLegal, IsLegalFrom, record_after}
 use Rattle.lt_plain.specs.Table.{Records, record_at, IsStep}
 use Rattle.lt_entry.specs.declared.entry.Entry.{Entry}
-use Rattle.lt_entry.specs.Legal.{event_of, part, AreLegalKeys}
+use Rattle.lt_entry.specs.Legal.{event_of, key_part, AreLegalKeys}
 use Rattle.lt_entry.proofs.SameKeys.{same_key, key_itself}
 
 -- ---- one more event of one key
@@ -23,7 +23,7 @@ pub after_more : (r : Record) (es : List Event) (e : Event) → record_after r (
 after_more r [] e = refl
 after_more r (x ∷ xs) e = after_more (step r x.pass x.call).after xs e
 
--- The event is what the rules make of this record.
+-- The event has the reply and the lets that the rules give at this record.
 abbrev pub Fits : Record → Event → Type 0
 Fits r e = (e.reply ≡ (step r e.pass e.call).reply) × (e.lets ≡ (step r e.pass e.call).lets)
 
@@ -34,27 +34,27 @@ legal_more r (x ∷ xs) e h f = (h.0, h.1, legal_more (step r x.pass x.call).aft
 -- ---- the events of the entry's key, and those of the others
 
 abbrev pub events : List ℕ → List Entry → List Event
-events key es = map event_of (part key es)
+events key es = map event_of (key_part key es)
 
 -- the record of a key after the entries
 abbrev pub replayed : List ℕ → List Entry → Record
 replayed key es = record_after empty (events key es)
 
-alone_here : (key : List ℕ) (e : Entry) → bytes_eq e.key key ≡ true → part key (e ∷ []) ≡ e ∷ []
+alone_here : (key : List ℕ) (e : Entry) → bytes_eq e.key key ≡ true → key_part key (e ∷ []) ≡ e ∷ []
 alone_here key e h = rw h refl
 
-alone_elsewhere : (key : List ℕ) (e : Entry) → bytes_eq e.key key ≡ false → part key (e ∷ []) ≡ []
+alone_elsewhere : (key : List ℕ) (e : Entry) → bytes_eq e.key key ≡ false → key_part key (e ∷ []) ≡ []
 alone_elsewhere key e h = rw h refl
 
 pub here : (key : List ℕ) (es : List Entry) (e : Entry) → bytes_eq e.key key ≡ true → events key (es ++ e ∷ []) ≡ events key es ++ event_of e ∷ []
 here key es e h =
-    ap (λ (xs : List Entry). map event_of xs) (filter-append (λ x. bytes_eq x.key key) es (e ∷ []) ∙ ap (λ (xs : List Entry). part key es ++ xs) (alone_here key e h))
-    ∙ map-append event_of (part key es) (e ∷ [])
+    ap (λ (xs : List Entry). map event_of xs) (filter-append (λ x. bytes_eq x.key key) es (e ∷ []) ∙ ap (λ (xs : List Entry). key_part key es ++ xs) (alone_here key e h))
+    ∙ map-append event_of (key_part key es) (e ∷ [])
 
 pub elsewhere : (key : List ℕ) (es : List Entry) (e : Entry) → bytes_eq e.key key ≡ false → events key (es ++ e ∷ []) ≡ events key es
 elsewhere key es e h =
     ap (λ (xs : List Entry). map event_of xs)
-    (filter-append (λ x. bytes_eq x.key key) es (e ∷ []) ∙ (ap (λ (xs : List Entry). part key es ++ xs) (alone_elsewhere key e h) ∙ append-nil (part key es)))
+    (filter-append (λ x. bytes_eq x.key key) es (e ∷ []) ∙ (ap (λ (xs : List Entry). key_part key es ++ xs) (alone_elsewhere key e h) ∙ append-nil (key_part key es)))
 
 pub another_key : (e : Entry) (key : List ℕ) → bytes_eq e.key key ≡ false → key ≢ e.key
 another_key e key other same = let yes : bytes_eq e.key key ≡ true = subst (λ (k : List ℕ). bytes_eq e.key k ≡ true) (sym same) (key_itself e.key) in absurd cc
@@ -70,16 +70,16 @@ legal_at es e key h f false is = subst (λ (evs : List Event). IsLegal evs) (sym
 pub keys_legal_more : (es : List Entry) (e : Entry) → AreLegalKeys es → Fits (replayed e.key es) (event_of e) → AreLegalKeys (es ++ e ∷ [])
 keys_legal_more es e h f = λ key. legal_at es e key (h key) f (bytes_eq e.key key) refl
 
--- ---- a table, and the entries of the steps that were made of it
+-- ---- a table, and the entries of its steps
 
 pub empty_at : (t : Records) (key : List ℕ) → t ≡ finmap.empty → record_at t key ≡ empty
 empty_at t key e = rw (e, finmap.get-empty (slice_cmp nat_cmp) key) refl
 
--- Each key's entries, played again from nothing, give the table's record there.
+-- Replaying each key's entries from the empty record gives the table's record there.
 abbrev pub Replays : Records → List Entry → Type 0
 Replays t es = (key : List ℕ) → record_at t key ≡ replayed key es
 
--- The entry tells the step from one table to the other.
+-- The entry is the step from one table to the other.
 abbrev pub Tells : Records → Entry → Records → Type 0
 Tells t e u = IsStep t e.key (λ r. step r e.pass e.call) e.reply e.lets u
 
@@ -101,7 +101,7 @@ replays_at t u es e key h s false is =
 pub replays_more : (t u : Records) (es : List Entry) (e : Entry) → Replays t es → Tells t e u → Replays u (es ++ e ∷ [])
 replays_more t u es e h s = λ key. replays_at t u es e key h s (bytes_eq e.key key) refl
 
--- ---- a fact of each
+-- ---- one more element in a list
 
 pub all_more : {A : Type 0} (P : A → Type 0) (xs : List A) (x : A) → AllByRecursion P xs → P x → AllByRecursion P (xs ++ x ∷ [])
 all_more P [] x h p = (p, tt)

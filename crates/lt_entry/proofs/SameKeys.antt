@@ -1,4 +1,4 @@
--- Two keys are one exactly if their bytes are equal.
+-- Two keys are equal exactly if their bytes are equal.
 use Rattle.std.proofs.Common.{◌≡◌, ℕ, true, List, refl}
 use Rattle.std.specs.Str.{bytes_eq}
 use Rattle.std.proofs.lemmas.Slice.Eq.{bytes_eq-Decides}

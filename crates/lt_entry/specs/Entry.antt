@@ -1,4 +1,4 @@
--- How an entry keeps the call and the reply of its step.
+-- How an entry stores the call and the reply of its step.
 use Rattle.std.specs.Prelude.{ℕ, Bool, Some, None}
 use Rattle.lt_ids.specs.Ids.{Wait}
 use Rattle.lt_ids.specs.declared.timestamp.Timestamp.{Timestamp}
@@ -12,7 +12,7 @@ use Rattle.lt_entry.specs.declared.entry.CallKind.TheVariants.{OwnedVisit, Unown
 use Rattle.lt_entry.specs.declared.entry.ReplyKind.{ReplyKind}
 use Rattle.lt_entry.specs.declared.entry.ReplyKind.TheVariants.{Passed, MustWait, TooLong, Taken, Kept, Raised, Other, Freed, Left, Absent, Nothing, Reserved, Idle, WaitFor, WaitFirst, WaitOwn}
 
--- a call by its parts; what its kind does not have is not looked at
+-- the call with these parts; a part that the kind does not have is ignored
 abbrev pub call_of : CallKind → Wait → ℕ → Timestamp → Access → ℕ → Call
 call_of OwnedVisit ticket number ts access longest = call.Visit ticket (Some number) ts access longest
 call_of UnownedVisit ticket number ts access longest = call.Visit ticket None ts access longest
@@ -22,7 +22,7 @@ call_of Finish ticket number ts access longest = call.Finish number
 call_of Leave ticket number ts access longest = call.Leave ts.wall
 call_of Look ticket number ts access longest = call.Look ts.wall
 
--- a reply by its parts, likewise
+-- the reply with these parts; a part that the kind does not have is ignored
 abbrev pub reply_of : ReplyKind → ℕ → Bool → Reply
 reply_of Passed txn held = reply.Passed
 reply_of MustWait txn held = reply.MustWait

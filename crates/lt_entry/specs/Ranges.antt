@@ -1,4 +1,4 @@
--- The numbers that a step can have: what the types of names, calls and replies keep.
+-- The numbers that a step can have: the ranges that the types of names, calls and replies ensure.
 use Rattle.std.specs.Prelude.{ℕ, ◌^◌, ◌<◌, ◌≤◌, map, Option, Some, None}
 use Rattle.std.specs.List.{AllByRecursion}
 use Rattle.lt_ids.specs.Key.{IsKey}
@@ -37,7 +37,8 @@ IsReply (WaitFirst txn held) = IsTxn txn
 IsReply (WaitOwn txn) = IsTxn txn
 IsReply _ = Unit {0}
 
--- The numbers of an entry are in their ranges. Its types keep all but the pass, and the number of a leave or a look.
+-- The numbers of an entry are in their ranges. The types ensure this for all except the pass and the number of a
+-- leave or a look.
 pub record IsInRange (e : Entry) : Type 0 where
   pub key : IsKey e.key
   pub pass : (1 ≤ e.pass) × (e.pass ≤ 1024)
@@ -45,7 +46,7 @@ pub record IsInRange (e : Entry) : Type 0 where
   pub reply : IsReply e.reply
   pub lets : AllByRecursion IsTicket (map (λ t. t.ticket) e.lets)
 
--- The number that a leave or a look names is one that a request can have.
+-- The number of a leave or a look is one that a request can have.
 abbrev pub NamesNumber : Call → Type 0
 NamesNumber (Leave number) = IsNumber number
 NamesNumber (Look number) = IsNumber number

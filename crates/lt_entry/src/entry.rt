@@ -1,3 +1,6 @@
+//! How does a history keep one step of a key? [`Entry`] takes the call and the reply apart and stores their fields
+//! side by side, to be small; `specs/Entry.antt` puts them together again. Read `specs/Ranges.antt` next for the
+//! numbers that an entry can have, and `specs/Legal.antt` for the legal histories.
 ghost use Rattle.std.specs.Prelude.{◌≡◌, ◌≤◌, All};
 ghost use Rattle.lt_entry.specs.Entry.{call_of, reply_of};
 ghost use Rattle.lt_entry.specs.Ranges.{IsTxn, IsOwner, IsTicket, IsTime, IsCall, IsReply, IsInRange, NamesNumber};
@@ -7,7 +10,7 @@ use lt_plain::{Call, Reply};
 use std::fmt::{self, Debug, Formatter, Write};
 use std::marker::Model;
 
-/// Which call an entry has. A visit is of a transaction or of none.
+/// The kind of an entry's call. A visit with a transaction and one without are different kinds.
 #[derive(Clone, Copy, Debug, PartialEq, Eq)]
 enum CallKind {
     OwnedVisit,
@@ -19,7 +22,7 @@ enum CallKind {
     Look,
 }
 
-/// Which reply an entry has.
+/// The kind of an entry's reply.
 #[derive(Clone, Copy, Debug, PartialEq, Eq)]
 enum ReplyKind {
     Passed,
@@ -40,7 +43,8 @@ enum ReplyKind {
     WaitOwn,
 }
 
-/// A call in parts. What its kind does not have has any value; the number of a leave or a look is kept as the wall time.
+/// A call in parts. A part that the kind does not have may hold any value. The number of a leave or a look is
+/// stored as the wall time.
 #[derive(Clone, Copy, Debug)]
 struct CallParts {
     kind: CallKind,
@@ -51,7 +55,7 @@ struct CallParts {
     longest: u32,
 }
 
-/// A reply in parts. What its kind does not have has any value.
+/// A reply in parts. A part that the kind does not have may hold any value.
 #[derive(Clone, Copy, Debug)]
 struct ReplyParts {
     kind: ReplyKind,
@@ -59,12 +63,12 @@ struct ReplyParts {
     held: bool,
 }
 
-/// A ticket where none is looked at.
+/// The ticket of a call that has none. No code looks at it.
 fn any_ticket() -> Ticket {
     Ticket::new(1, 1).unwrap()
 }
 
-/// A transaction where none is looked at.
+/// The transaction of a call or a reply that has none. No code looks at it.
 fn any_txn() -> TxnId {
     TxnId::new(1).unwrap()
 }
@@ -143,7 +147,7 @@ fn call_parts(call: &Call) -> CallParts
     }
 }
 
-/// A number, kept as a wall time.
+/// A number, stored as a wall time.
 fn wall(number: u64) -> Timestamp
     ensures { result ≡ record { wall = number; logical = 0 } }
 {
@@ -200,8 +204,8 @@ fn reply_parts(reply: Reply) -> ReplyParts
     }
 }
 
-/// One step of a key, as a history keeps it. Its parts lie so that they take 96 bytes, since a table keeps each step that
-/// was made until it is closed. In a contract it is a record of its key, pass, call, reply and lets.
+/// One step of a key, as a history keeps it. Its fields are laid out to take 96 bytes, because a table may keep
+/// every step until it is closed. In a contract, it is a record of its key, pass, call, reply and lets.
 #[derive(Drop)]
 pub struct Entry {
     key: Key,
@@ -229,7 +233,7 @@ impl Model for Entry {
 }
 
 impl Entry {
-    /// The step of this key that the pass of this number, 1 to 1024, made. No memory is taken.
+    /// The step at this key by the pass with this number, 1 to 1024. The call allocates nothing.
     pub fn new(key: Key, pass: u32, call: &Call, reply: Reply, lets: Vec<Through>) -> Self
         ensures { result ≡ record { key = key; pass = pass; call = call.now; reply = reply; lets = lets.items } }
     {
@@ -252,7 +256,7 @@ impl Entry {
         }
     }
 
-    /// The key of which the step was made.
+    /// The key of the step.
     pub fn key(&self) -> &Key
         ensures { result.now ≡ self.now.key }
     {
@@ -266,7 +270,7 @@ impl Entry {
         self.pass
     }
 
-    /// What was asked of the key.
+    /// The call of the step.
     pub fn call(&self) -> Call
         ensures { result ≡ self.now.call }
     {
@@ -297,7 +301,7 @@ impl Entry {
         }
     }
 
-    /// What the key answered.
+    /// The reply of the step.
     pub fn reply(&self) -> Reply
         ensures { result ≡ self.now.reply }
     {
@@ -321,15 +325,16 @@ impl Entry {
         }
     }
 
-    /// Whom the step let through, in order.
+    /// The lets of the step, in order.
     pub fn lets(&self) -> &[Through]
         ensures { result.now ≡ self.now.lets }
     {
         &self.lets
     }
 
-    /// Shows that the entry can stand in a text of histories: its types keep all of its numbers in their ranges but the
-    /// pass, and the number of a leave or a look. It is called for what it ensures, and does nothing.
+    /// Tells the prover that all numbers of the entry are in their ranges, so that a text of histories can contain
+    /// it. The types ensure this for every number except the pass and the number of a leave or a look. At run
+    /// time, the call does nothing.
     pub fn in_range(&self)
         requires low { 1 ≤ self.now.pass }
         requires high { self.now.pass ≤ 1024 }
@@ -342,7 +347,7 @@ impl Entry {
         lets_in_range(self.lets());
     }
 
-    /// Shows the same of an entry that is not made, by its parts.
+    /// Tells the prover the same about an entry that is given by its parts and need not exist.
     pub fn parts_in_range(key: &Key, pass: u32, call: &Call, reply: &Reply, lets: &[Through])
         requires low { 1 ≤ pass }
         requires high { pass ≤ 1024 }
@@ -355,7 +360,7 @@ impl Entry {
         lets_in_range(lets);
     }
 
-    /// The requests that the step let through, as they are kept.
+    /// The lets of the step, as the vector that stores them.
     pub fn all_lets(&self) -> &Vec<Through>
         ensures { result.now.items ≡ self.now.lets }
     {
@@ -418,7 +423,7 @@ fn call_in_range(call: &Call)
             ticket_in_range(ticket);
             owner_in_range(txn);
             time_in_range(ts);
-            // A bound has the range of its type.
+            // Tells the prover that a bound has the range of its type.
             let _bound = longest;
         }
         Call::Acquire { txn, ts } | Call::Update { txn, ts } => {

@@ -1,12 +1,13 @@
-//! A step of a key, as a history keeps it, and which histories are legal.
+//! What does a history keep of each step, and which histories are legal?
 //!
-//! A history is a list of the steps that were made of a lock table, each an [`Entry`]: which key, which pass, which call,
-//! which reply, and whom the step let through. It is legal if the rules of one key (`lt_plain`) give each reply and each
-//! let that it has, each key taken by itself (`AreLegalKeys` in `specs/Legal.antt`). The growing history, the shards and the
-//! table keep such lists; `lt_history` writes them as text.
+//! A history is the list of the steps of a lock table. Each step is an [`Entry`]: its key, pass, call, reply and
+//! lets. A history is legal if, for each key by itself, the rules of one key (`lt_plain`) give each reply and each
+//! let of its steps (`AreLegalKeys` in `specs/Legal.antt`). The growing history, the shards and the table keep
+//! such lists; `lt_history` writes them as text.
 //!
-//! `specs/Ranges.antt` has the numbers that an entry can have. `proofs/OneMore.antt` is for those who keep a table beside a
-//! history: one more step leaves it legal, and its steps, played again from nothing, give the table.
+//! Read next: `specs/Ranges.antt` has the numbers that an entry can have. `proofs/OneMore.antt` serves code that
+//! keeps a table together with its history: the history stays legal after one more step, and replaying its steps
+//! from the empty table gives the table.
 #![tactic(auto)]
 
 mod entry;

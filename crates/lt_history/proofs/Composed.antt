@@ -17,7 +17,7 @@ spaced_more : (xs ys : List (List ℕ)) → spaced (xs ++ ys) ≡ spaced xs ++ s
 spaced_more [] ys = refl
 spaced_more (x ∷ xs) ys = ap (λ (t : List ℕ). (32 ∷ x) ++ t) (spaced_more xs ys) ∙ sym (append_assoc (32 ∷ x) (spaced xs) (spaced ys))
 
--- words with a space between them
+-- Words, separated by single spaces.
 joined : (w : List ℕ) (ws : List (List ℕ)) → join_with_byte 32 (w ∷ ws) ≡ w ++ spaced ws
 joined w [] = sym (append-nil w)
 joined w (v ∷ ws) = ap (λ (t : List ℕ). w ++ 32 ∷ t) (joined v ws)
@@ -33,7 +33,7 @@ lets_are (t ∷ ts) out some = append_assoc out (32 ∷ codes "let") _ ∙ ap (�
 regroup : (out key a b c d e f z : List ℕ) → (((((((out ++ key) ++ a) ++ b) ++ c) ++ d) ++ e) ++ f) ++ z ≡ out ++ ((key ++ (a ++ (b ++ ((c ++ (d ++ e)) ++ f)))) ++ z)
 regroup out key a b c d e f z = simp append_assoc
 
--- the key, two numbers, the words of the call, the sign, the words of the reply, and those of the lets
+-- The key, two numbers, the words of the call, the sign `=`, the words of the reply, and those of the lets.
 line_of : (out key index pass sign : List ℕ) (call reply lets : List (List ℕ))
     → (((((((out ++ key) ++ 32 ∷ index) ++ 32 ∷ pass) ++ spaced call) ++ 32 ∷ sign) ++ spaced reply) ++ spaced lets) ++ 10 ∷ []
     ≡ out ++ (join_with_byte 32 (key ∷ (index ∷ pass ∷ call ++ sign ∷ reply) ++ lets) ++ 10 ∷ [])

@@ -1,4 +1,4 @@
--- Where each visit has a transaction and no bound, the rules are those of the first version.
+-- If each visit has a transaction and no bound, the rules are those of the first version.
 use Rattle.std.proofs.Common.{◌≡◌, ◌↔◌, ℕ, true, false, cond, suc, List, [], ◌∷◌, Option, Some, None, IsSome, refl, sym, ap, subst, arith, nat_eq}
 use Rattle.std.specs.Prelude.{slice_get, is_some}
 use Rattle.std.specs.List.{AllByRecursion, find}
@@ -22,7 +22,7 @@ use Rattle.lt_history.specs.First as first
 use Rattle.lt_history.specs.First.{FirstRulesHold}
 use Rattle.lt_plain.proofs.Passes.{Each, IsOfCall, step_keeps}
 
--- each request that stands has a transaction
+-- Each queued request has a transaction.
 abbrev Owned : Record → Type 0
 Owned r = Each (λ q. IsSome q.txn) r
 

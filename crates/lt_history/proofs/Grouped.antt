@@ -1,4 +1,4 @@
--- The lines of entries in the order of their keys are those of key after key.
+-- If entries are sorted by key, their lines are the lines of one key after the other.
 use Rattle.std.proofs.Common.{◌≡◌, ◌≢◌, ℕ, ◌+◌, ◌⊎◌, true, false, cond, List, [], ◌∷◌, ◌++◌, refl, sym, ap, subst, ◌∙◌, inl, inr, arith}
 use Rattle.std.specs.List.{AllByRecursion, Contains}
 use Rattle.std.specs.Str.{bytes_eq}
@@ -8,8 +8,8 @@ use Rattle.std.proofs.lemmas.Map.Made.{Contains-tail}
 use Rattle.lt_entry.specs.declared.entry.Entry.{Entry}
 use Rattle.lt_history.specs.Lines.{Parts}
 use Rattle.lt_history.specs.Text.{text_of}
-use Rattle.lt_history.specs.Histories.{precedes, Rise, AreKeysOf, IsTextOf, parts_of_entry, lines_from, lines_of}
-use Rattle.lt_entry.specs.Legal.{part}
+use Rattle.lt_history.specs.Histories.{precedes, KeysRise, AreKeysOf, IsTextOf, parts_of_entry, lines_from, lines_of}
+use Rattle.lt_entry.specs.Legal.{key_part}
 use Rattle.lt_history.specs.Sorted.{RiseFrom, HaveSameParts, lines_after}
 use Rattle.lt_history.proofs.Keys.{same_or_after, apart, apart_back, before_before, before_upto, apart_keys}
 use Rattle.lt_entry.proofs.SameKeys.{same_key, key_itself}
@@ -39,18 +39,18 @@ pub weaker : (P Q : List ℕ → Type 0) → ((key : List ℕ) → P key → Q k
 weaker P Q f [] h = tt
 weaker P Q f (key ∷ keys) h = (f key h.0, weaker P Q f keys h.1)
 
--- ---- the part of a key
+-- ---- the key_part of a key
 
-pub part_same : (key : List ℕ) (e : Entry) (es : List Entry) → bytes_eq e.key key ≡ true → part key (e ∷ es) ≡ e ∷ part key es
-part_same key e es h = ap (λ b. cond b (e ∷ part key es) (part key es)) h
+pub part_same : (key : List ℕ) (e : Entry) (es : List Entry) → bytes_eq e.key key ≡ true → key_part key (e ∷ es) ≡ e ∷ key_part key es
+part_same key e es h = ap (λ b. cond b (e ∷ key_part key es) (key_part key es)) h
 
-pub part_other : (key : List ℕ) (e : Entry) (es : List Entry) → bytes_eq e.key key ≡ false → part key (e ∷ es) ≡ part key es
-part_other key e es h = ap (λ b. cond b (e ∷ part key es) (part key es)) h
+pub part_other : (key : List ℕ) (e : Entry) (es : List Entry) → bytes_eq e.key key ≡ false → key_part key (e ∷ es) ≡ key_part key es
+part_other key e es h = ap (λ b. cond b (e ∷ key_part key es) (key_part key es)) h
 
-pub some_part : (key : List ℕ) (e : Entry) (es : List Entry) → bytes_eq e.key key ≡ true → part key (e ∷ es) ≢ []
+pub some_part : (key : List ℕ) (e : Entry) (es : List Entry) → bytes_eq e.key key ≡ true → key_part key (e ∷ es) ≢ []
 some_part key e es h = λ none. absurd (let same = sym (part_same key e es h) ∙ none in cc)
 
-pub none_below : (key : List ℕ) (es : List Entry) → RiseFrom key es → (k : List ℕ) → precedes k key ≡ true → part k es ≡ []
+pub none_below : (key : List ℕ) (es : List Entry) → RiseFrom key es → (k : List ℕ) → precedes k key ≡ true → key_part k es ≡ []
 none_below key [] h k lt = refl
 none_below key (e ∷ es) h k lt =
     let above = before_upto k key e.key lt h.0 in
@@ -59,24 +59,24 @@ none_below key (e ∷ es) h k lt =
 pub lines_of_others : (e : Entry) (es : List Entry) (keys : List (List ℕ)) → AllByRecursion (λ k. precedes e.key k ≡ true) keys → lines_of (e ∷ es) keys ≡ lines_of es keys
 lines_of_others e es [] h = refl
 lines_of_others e es (key ∷ keys) h =
-    ap (λ (p : List Entry). lines_from 1 p ++ lines_of (e ∷ es) keys) (part_other key e es (apart e.key key h.0)) ∙ ap (λ (ls : List Parts). lines_from 1 (part key es) ++ ls) (lines_of_others e es keys h.1)
+    ap (λ (p : List Entry). lines_from 1 p ++ lines_of (e ∷ es) keys) (part_other key e es (apart e.key key h.0)) ∙ ap (λ (ls : List Parts). lines_from 1 (key_part key es) ++ ls) (lines_of_others e es keys h.1)
 
 -- ---- grouped by key
 
--- What stands after a line of this key and index: more of that key, and then the keys above it that have entries.
+-- What comes after a line of this key and index: more lines of that key, and then the greater keys that have entries.
 record Grouped (key : List ℕ) (index : ℕ) (es : List Entry) : Type 0 where
   keys : List (List ℕ)
-  rise : Rise keys
+  rise : KeysRise keys
   above : AllByRecursion (λ k. precedes key k ≡ true) keys
-  has : (k : List ℕ) → Contains keys k → part k es ≢ []
-  all : (k : List ℕ) → precedes key k ≡ true → part k es ≢ [] → Contains keys k
-  lines : lines_after key index es ≡ lines_from (index + 1) (part key es) ++ lines_of es keys
+  has : (k : List ℕ) → Contains keys k → key_part k es ≢ []
+  all : (k : List ℕ) → precedes key k ≡ true → key_part k es ≢ [] → Contains keys k
+  lines : lines_after key index es ≡ lines_from (index + 1) (key_part key es) ++ lines_of es keys
 
--- the next entry is of the same key
+-- The next entry has the same key.
 grouped_same : (key : List ℕ) (index : ℕ) (e : Entry) (es : List Entry) → bytes_eq e.key key ≡ true → Grouped key (index + 1) es → Grouped key index (e ∷ es)
 grouped_same key index e es same g =
     let k_is = same_key e.key key same in
-    let stays : (k : List ℕ) → precedes key k ≡ true → part k (e ∷ es) ≡ part k es = λ k lt. part_other k e es (apart e.key k (subst (λ (x : List ℕ). precedes x k ≡ true) (sym k_is) lt)) in
+    let stays : (k : List ℕ) → precedes key k ≡ true → key_part k (e ∷ es) ≡ key_part k es = λ k lt. part_other k e es (apart e.key k (subst (λ (x : List ℕ). precedes x k ≡ true) (sym k_is) lt)) in
     record {
       keys = g.keys;
       rise = g.rise;
@@ -87,14 +87,14 @@ grouped_same key index e es same g =
           ap (λ b. parts_of_entry (cond b (index + 1) 1) e ∷ lines_after e.key (cond b (index + 1) 1) es) same
           ∙ (ap (λ (k : List ℕ). parts_of_entry (index + 1) e ∷ lines_after k (index + 1) es) k_is
           ∙ (ap (λ (ls : List Parts). parts_of_entry (index + 1) e ∷ ls) g.lines
-          ∙ (ap (λ (ls : List Parts). parts_of_entry (index + 1) e ∷ (lines_from (index + 1 + 1) (part key es) ++ ls)) (sym (lines_of_others e es g.keys (subst (λ (x : List ℕ). AllByRecursion (λ k. precedes x k ≡ true) g.keys) (sym k_is) g.above)))
+          ∙ (ap (λ (ls : List Parts). parts_of_entry (index + 1) e ∷ (lines_from (index + 1 + 1) (key_part key es) ++ ls)) (sym (lines_of_others e es g.keys (subst (λ (x : List ℕ). AllByRecursion (λ k. precedes x k ≡ true) g.keys) (sym k_is) g.above)))
           ∙ ap (λ (p : List Entry). lines_from (index + 1) p ++ lines_of (e ∷ es) g.keys) (sym (part_same key e es same)))));
     }
 
--- the next entry is of a key above
+-- The next entry has a greater key.
 grouped_next : (key : List ℕ) (index : ℕ) (e : Entry) (es : List Entry) → precedes key e.key ≡ true → RiseFrom e.key es → Grouped e.key 1 es → Grouped key index (e ∷ es)
 grouped_next key index e es lt rise g =
-    let stays : (k : List ℕ) → precedes e.key k ≡ true → part k (e ∷ es) ≡ part k es = λ k above. part_other k e es (apart e.key k above) in
+    let stays : (k : List ℕ) → precedes e.key k ≡ true → key_part k (e ∷ es) ≡ key_part k es = λ k above. part_other k e es (apart e.key k above) in
     record {
       keys = e.key ∷ g.keys;
       rise = (g.above, g.rise);
@@ -114,7 +114,7 @@ grouped_next key index e es lt rise g =
       lines =
           ap (λ b. parts_of_entry (cond b (index + 1) 1) e ∷ lines_after e.key (cond b (index + 1) 1) es) (apart_back key e.key lt)
           ∙ (ap (λ (ls : List Parts). parts_of_entry 1 e ∷ ls) g.lines
-          ∙ (ap (λ (ls : List Parts). parts_of_entry 1 e ∷ (lines_from (1 + 1) (part e.key es) ++ ls)) (sym (lines_of_others e es g.keys g.above))
+          ∙ (ap (λ (ls : List Parts). parts_of_entry 1 e ∷ (lines_from (1 + 1) (key_part e.key es) ++ ls)) (sym (lines_of_others e es g.keys g.above))
           ∙ (ap (λ (p : List Entry). lines_from 1 p ++ lines_of (e ∷ es) g.keys) (sym (part_same e.key e es (key_itself e.key)))
           ∙ ap (λ (p : List Entry). lines_from (index + 1) p ++ lines_of (e ∷ es) (e.key ∷ g.keys)) (sym (part_other key e es (apart_back key e.key lt) ∙ none_below e.key es rise key lt)))));
     }
@@ -132,11 +132,11 @@ grouped key index (e ∷ es) h =
 
 -- ---- the text of entries in the order of their keys
 
--- The entries of no key at all come first, and the other keys are above it.
-starts : (es : List Entry) (g : Grouped [] 0 es) (p : List Entry) → part [] es ≡ p → (keys : List (List ℕ)) × AreKeysOf es keys × (lines_after [] 0 es ≡ lines_of es keys)
+-- Before the first entry the key is the empty one, which has no entries; every other key is greater.
+starts : (es : List Entry) (g : Grouped [] 0 es) (p : List Entry) → key_part [] es ≡ p → (keys : List (List ℕ)) × AreKeysOf es keys × (lines_after [] 0 es ≡ lines_of es keys)
 starts es g [] none = (
   g.keys,
-  record { rise = g.rise; each = λ k. (g.has k, λ some. elim k as (λ k. part k es ≢ [] → Contains g.keys k) [ [] ↦ λ some. absurd (some none) | ◌∷◌ b bs ↦ λ some. g.all (b ∷ bs) refl some ] some) },
+  record { rise = g.rise; each = λ k. (g.has k, λ some. elim k as (λ k. key_part k es ≢ [] → Contains g.keys k) [ [] ↦ λ some. absurd (some none) | ◌∷◌ b bs ↦ λ some. g.all (b ∷ bs) refl some ] some) },
   g.lines ∙ ap (λ (p : List Entry). lines_from (0 + 1) p ++ lines_of es g.keys) none,
 )
 starts es g (f ∷ fs) are = (
@@ -145,17 +145,17 @@ starts es g (f ∷ fs) are = (
     rise = (g.above, g.rise);
     each = λ k. (
       λ c. elim (head_or_later [] k g.keys c) [
-        | inl same ↦ λ none. absurd (let e = sym are ∙ ap (λ (x : List ℕ). part x es) same ∙ none in cc)
+        | inl same ↦ λ none. absurd (let e = sym are ∙ ap (λ (x : List ℕ). key_part x es) same ∙ none in cc)
         | inr later ↦ g.has k later
       ],
-      λ some. elim k as (λ k. part k es ≢ [] → Contains ([] ∷ g.keys) k) [ [] ↦ λ some. is_head [] g.keys | ◌∷◌ b bs ↦ λ some. is_later [] (b ∷ bs) g.keys (g.all (b ∷ bs) refl some) ] some,
+      λ some. elim k as (λ k. key_part k es ≢ [] → Contains ([] ∷ g.keys) k) [ [] ↦ λ some. is_head [] g.keys | ◌∷◌ b bs ↦ λ some. is_later [] (b ∷ bs) g.keys (g.all (b ∷ bs) refl some) ] some,
     );
   },
   g.lines,
 )
 
 pub sorted_keys : (es : List Entry) → RiseFrom [] es → (keys : List (List ℕ)) × AreKeysOf es keys × (lines_after [] 0 es ≡ lines_of es keys)
-sorted_keys es rise = starts es (grouped [] 0 es rise) (part [] es) refl
+sorted_keys es rise = starts es (grouped [] 0 es rise) (key_part [] es) refl
 
 pub text_of_sorted : (text : List ℕ) (es : List Entry) → RiseFrom [] es → text ≡ text_of (lines_after [] 0 es) → IsTextOf text es
 text_of_sorted text es rise e = let k = sorted_keys es rise in record { keys = k.0; are_keys = k.1; lines = e ∙ ap text_of k.2 }
@@ -165,7 +165,7 @@ text_of_sorted text es rise e = let k = sorted_keys es rise in record { keys = k
 lines_same : (es others : List Entry) (keys : List (List ℕ)) → HaveSameParts es others → lines_of es keys ≡ lines_of others keys
 lines_same es others [] h = refl
 lines_same es others (key ∷ keys) h =
-    ap (λ (p : List Entry). lines_from 1 p ++ lines_of es keys) (h key) ∙ ap (λ (ls : List Parts). lines_from 1 (part key others) ++ ls) (lines_same es others keys h)
+    ap (λ (p : List Entry). lines_from 1 p ++ lines_of es keys) (h key) ∙ ap (λ (ls : List Parts). lines_from 1 (key_part key others) ++ ls) (lines_same es others keys h)
 
 pub text_of_same : (text : List ℕ) (es others : List Entry) → HaveSameParts es others → IsTextOf text es → IsTextOf text others
 text_of_same text es others h t = record {

@@ -1,4 +1,4 @@
--- Keys in the order of bytes.
+-- Keys in byte order.
 use Rattle.std.proofs.Common.{◌≡◌, ℕ, ◌⊎◌, true, false, List, [], ◌∷◌, refl, sym, ap, subst, ◌∙◌, inl, inr}
 use Rattle.std.specs.Str.{bytes_eq}
 use Rattle.std.specs.declared.cmp.Ordering.{Ordering}
@@ -19,7 +19,7 @@ less Less e = refl
 less Equal e = absurd (false≢true e)
 less Greater e = absurd (false≢true e)
 
--- which of three cases two keys are in
+-- The three cases of two keys: less, equal, greater.
 record Compared (a b : List ℕ) (o : Ordering) : Type 0 where
   here : order a b ≡ o
   back : order b a ≡ ordering_reverse o
@@ -27,7 +27,7 @@ record Compared (a b : List ℕ) (o : Ordering) : Type 0 where
 compared : (a b : List ℕ) → Compared a b (order a b)
 compared a b = record { here = refl; back = nat_list_cmp_total.antisymm b a }
 
--- a key that does not precede another is that one or stands after it
+-- A key that does not precede another is equal to it or follows it.
 pub same_or_after : (a b : List ℕ) → precedes b a ≡ false → (bytes_eq b a ≡ true) ⊎ (precedes a b ≡ true)
 same_or_after a b e =
     elim (order a b) as (λ o. Compared a b o → (bytes_eq b a ≡ true) ⊎ (precedes a b ≡ true)) [
@@ -56,7 +56,7 @@ precedes_itself a =
 pub before_before : (a b c : List ℕ) → precedes a b ≡ true → precedes b c ≡ true → precedes a c ≡ true
 before_before a b c p q = ap is_lt (nat_list_cmp_total.trans a b c (less (order a b) p) (less (order b c) q))
 
--- a is not after b, and b is before c
+-- a does not follow b, and b precedes c.
 pub upto_before : (a b c : List ℕ) → precedes b a ≡ false → precedes b c ≡ true → precedes a c ≡ true
 upto_before a b c p q =
     elim (same_or_after a b p) [
@@ -64,7 +64,7 @@ upto_before a b c p q =
       | inr lt ↦ before_before a b c lt q
     ]
 
--- a is before b, and b not after c
+-- a precedes b, and b does not follow c.
 pub before_upto : (a b c : List ℕ) → precedes a b ≡ true → precedes c b ≡ false → precedes a c ≡ true
 before_upto a b c p q =
     elim (same_or_after b c q) [
@@ -72,7 +72,7 @@ before_upto a b c p q =
       | inr lt ↦ before_before a b c p lt
     ]
 
--- two keys that differ
+-- Two keys that differ.
 pub apart_keys : (a b : List ℕ) → bytes_eq a b ≡ false → (precedes a b ≡ true) ⊎ (precedes b a ≡ true)
 apart_keys a b e =
     elim (precedes a b) as (λ t. precedes a b ≡ t → (t ≡ true) ⊎ (precedes b a ≡ true)) [

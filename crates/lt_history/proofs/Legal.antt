@@ -1,4 +1,4 @@
--- The lines of legal histories follow one another.
+-- Each line of legal histories follows the lines before it.
 use Rattle.std.proofs.Common.{◌≡◌, ◌≢◌, ℕ, ◌+◌, ◌^◌, ◌<◌, ◌≤◌, true, false, cond, List, [], ◌∷◌, ◌++◌, length, map, refl, sym, ap, subst, ◌∙◌, arith}
 use Rattle.std.specs.List.{AllByRecursion, Contains}
 use Rattle.std.specs.Str.{bytes_eq}
@@ -10,25 +10,25 @@ use Rattle.lt_text.specs.Replies.{is_reply_of}
 use Rattle.lt_entry.specs.declared.entry.Entry.{Entry}
 use Rattle.lt_history.specs.Lines.{Parts, IsLine}
 use Rattle.lt_history.specs.Text.{Spot, start, index_after, record_before, spot_after, outcome, AreLegalFrom, AreLegal}
-use Rattle.lt_history.specs.Histories.{precedes, Rise, AreKeysOf, parts_of_entry, lines_from, lines_of}
-use Rattle.lt_entry.specs.Legal.{event_of, part, AreLegalKeys}
+use Rattle.lt_history.specs.Histories.{precedes, KeysRise, AreKeysOf, parts_of_entry, lines_from, lines_of}
+use Rattle.lt_entry.specs.Legal.{event_of, key_part, AreLegalKeys}
 use Rattle.lt_entry.specs.Ranges.{IsInRange}
 use Rattle.lt_history.proofs.Keys.{not_back, apart_back, precedes_itself, upto_before}
 use Rattle.lt_entry.proofs.SameKeys.{same_key, key_itself}
 use Rattle.lt_history.proofs.Grouped.{is_head, is_later, weaker}
 use Rattle.lt_history.proofs.Fits.{step_fits}
 
--- ---- the part of a key
+-- ---- the key_part of a key
 
-part_keys : (key : List ℕ) (es : List Entry) → AllByRecursion (λ e. e.key ≡ key) (part key es)
+part_keys : (key : List ℕ) (es : List Entry) → AllByRecursion (λ e. e.key ≡ key) (key_part key es)
 part_keys key es =
-    recursion_from_All (λ (e : Entry). e.key ≡ key) (part key es)
-    (All-weaker (λ (e : Entry). bytes_eq e.key key ≡ true) (λ (e : Entry). e.key ≡ key) (λ e h. same_key e.key key h) (part key es) (filter_passes (λ (e : Entry). bytes_eq e.key key) es))
+    recursion_from_All (λ (e : Entry). e.key ≡ key) (key_part key es)
+    (All-weaker (λ (e : Entry). bytes_eq e.key key ≡ true) (λ (e : Entry). e.key ≡ key) (λ e h. same_key e.key key h) (key_part key es) (filter_passes (λ (e : Entry). bytes_eq e.key key) es))
 
-part_ranges : (key : List ℕ) (es : List Entry) → AllByRecursion IsInRange es → AllByRecursion IsInRange (part key es)
-part_ranges key es h = recursion_from_All IsInRange (part key es) (All-filter (λ (e : Entry). bytes_eq e.key key) IsInRange es (All-from_recursion IsInRange es h))
+part_ranges : (key : List ℕ) (es : List Entry) → AllByRecursion IsInRange es → AllByRecursion IsInRange (key_part key es)
+part_ranges key es h = recursion_from_All IsInRange (key_part key es) (All-filter (λ (e : Entry). bytes_eq e.key key) IsInRange es (All-from_recursion IsInRange es h))
 
-part_size : (key : List ℕ) (es : List Entry) → length (part key es) ≤ length es
+part_size : (key : List ℕ) (es : List Entry) → length (key_part key es) ≤ length es
 part_size key es = omega (arith, length-filter (λ (e : Entry). bytes_eq e.key key) es, count_by-le-length (λ (e : Entry). bytes_eq e.key key) es)
 
 -- ---- the lines of one key, and what follows them
@@ -69,16 +69,16 @@ run_legal s key index r (e ∷ es) more counted stands order low room keys range
 -- ---- key after key
 
 module _ (es : List Entry) (ranges : AllByRecursion IsInRange es) (legal : AreLegalKeys es) (room : length es < 2 ^ 64) where
-  keys_legal : (keys : List (List ℕ)) (s : Spot) → Rise keys → AllByRecursion (λ k. precedes s.key k ≡ true) keys → AreLegalFrom s (lines_of es keys)
+  keys_legal : (keys : List (List ℕ)) (s : Spot) → KeysRise keys → AllByRecursion (λ k. precedes s.key k ≡ true) keys → AreLegalFrom s (lines_of es keys)
   keys_legal [] s rise above = tt
   keys_legal (key ∷ keys) s rise above =
       let other : bytes_eq key s.key ≡ false = apart_back s.key key above.0 in
       let size = part_size key es in
-      run_legal s key 1 empty (part key es) (lines_of es keys) (sym (ap (λ b. cond b (s.index + 1) 1) other)) (sym (ap (λ b. cond b s.state empty) other))
+      run_legal s key 1 empty (key_part key es) (lines_of es keys) (sym (ap (λ b. cond b (s.index + 1) 1) other)) (sym (ap (λ b. cond b s.state empty) other))
       (not_back s.key key above.0) (omega arith) (omega arith) (part_keys key es) (part_ranges key es ranges) (legal key)
       (λ t order. keys_legal keys t rise.1 (weaker (λ k. precedes key k ≡ true) (λ k. precedes t.key k ≡ true) (λ k lt. upto_before t.key key k order lt) keys rise.0))
 
--- each key that has an entry has a byte
+-- Each key that has an entry has at least one byte.
 above_none : (key : List ℕ) → 0 < length key → precedes [] key ≡ true
 above_none [] h = absurd (omega arith)
 above_none (b ∷ bs) h = refl
@@ -93,4 +93,4 @@ each_key P (key ∷ keys) f = (f key (is_head key keys), each_key P keys (λ k h
 
 pub lines_legal : (es : List Entry) (keys : List (List ℕ)) → AllByRecursion IsInRange es → AreLegalKeys es → length es < 2 ^ 64 → AreKeysOf es keys → AreLegal (lines_of es keys)
 lines_legal es keys ranges legal room are =
-    keys_legal es ranges legal room keys start are.rise (each_key (λ k. precedes [] k ≡ true) keys (λ k h. used k (part k es) (part_keys k es) (part_ranges k es ranges) ((are.each k).0 h)))
+    keys_legal es ranges legal room keys start are.rise (each_key (λ k. precedes [] k ≡ true) keys (λ k h. used k (key_part k es) (part_keys k es) (part_ranges k es ranges) ((are.each k).0 h)))

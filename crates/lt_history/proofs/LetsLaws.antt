@@ -9,7 +9,7 @@ use Rattle.lt_ids.specs.Ids.{Wait}
 use Rattle.lt_text.specs.Maybe.{◌>>=◌}
 use Rattle.lt_text.specs.Fields.{ticket_word, ticket_of}
 use Rattle.lt_entry.specs.Ranges.{IsTicket}
-use Rattle.lt_history.specs.Lines.{lets_words, tickets_of, if_any, lets_of}
+use Rattle.lt_history.specs.Lines.{lets_words, tickets_of, if_any, lets_in_words}
 use Rattle.lt_text.proofs.Plain.{ArePlain}
 use Rattle.lt_text.proofs.FieldLaws.{bind_some, ticket_field}
 use Rattle.lt_text.proofs.CallLaws.{chosen}
@@ -35,8 +35,8 @@ any_takes words (t ∷ o) ts h e = subst (λ (x : List Wait). (codes "let" ∷ w
 no_none : {A : Type 0} (x : A) → ◌≡◌ {A = Option A} None (Some x) → ⊥
 no_none x e = absurd cc
 
-pub lets_takes : (words : List (List ℕ)) (ts : List Wait) → lets_of words ≡ Some ts → (words ≡ lets_words ts) × AllByRecursion IsTicket ts
-unfolding lets_of
+pub lets_takes : (words : List (List ℕ)) (ts : List Wait) → lets_in_words words ≡ Some ts → (words ≡ lets_words ts) × AllByRecursion IsTicket ts
+unfolding lets_in_words
 lets_takes [] ts e = subst (λ (x : List Wait). ([] ≡ lets_words x) × AllByRecursion IsTicket x) (same_Some [] ts e) (refl, tt)
 lets_takes (word ∷ words) ts e =
     elim (chosen (bytes_eq word (codes "let")) (tickets_of words >>= if_any) None (Some ts) e) [
@@ -47,8 +47,8 @@ lets_takes (word ∷ words) ts e =
       | inr q ↦ absurd (no_none ts q.1)
     ]
 
-pub lets_again : (ts : List Wait) → AllByRecursion IsTicket ts → lets_of (lets_words ts) ≡ Some ts
-unfolding lets_of
+pub lets_again : (ts : List Wait) → AllByRecursion IsTicket ts → lets_in_words (lets_words ts) ≡ Some ts
+unfolding lets_in_words
 lets_again [] h = refl
 lets_again (t ∷ ts) h = rw (ticket_field.again t h.0, tickets_again ts h.1) refl
 

@@ -1,4 +1,4 @@
--- A line that is read is a line, and is written as it stands; each line is read again.
+-- What is read is a line, and the bytes are its text. Reading the text of a line gives that line.
 use Rattle.std.proofs.Common.{◌≡◌, ◌≢◌, ℕ, ◌<◌, List, [], ◌∷◌, ◌++◌, length, Option, Some, None, Result, Ok, Err, eqb, sym, ap, subst, ◌∙◌, append_assoc, arith}
 use Rattle.std.specs.Prelude.{IfOk, IfErr}
 use Rattle.std.specs.List.{slice_split, join_with_byte}
@@ -6,11 +6,11 @@ use Rattle.std.proofs.lemmas.Option.{some_pair_parts}
 use Rattle.std.proofs.lemmas.List.{append_cancel_right, length-append}
 use Rattle.std.proofs.lemmas.List.Splits.{join_with_byte-slice_split}
 use Rattle.lt_history.specs.declared.error.Fault.TheVariants.{Header, Shape, KeyOrder, Index, WrongReply, WrongLets}
-use Rattle.lt_history.specs.declared.error.Refusal.{Refusal}
-use Rattle.lt_history.specs.declared.error.Refusal.TheVariants as refusals
+use Rattle.lt_history.specs.declared.error.HistoryLineError.{HistoryLineError}
+use Rattle.lt_history.specs.declared.error.HistoryLineError.TheVariants as refusals
 use Rattle.lt_history.specs.declared.line.Line.{Line}
 use Rattle.lt_text.specs.Words.{cut_of}
-use Rattle.lt_history.specs.Lines.{Parts, IsLine, line_words, line_text, parts_at, parts_of, Reads, IsShapeless}
+use Rattle.lt_history.specs.Lines.{Parts, IsLine, line_words, line_text, parts_at, parts_of, IsReadAs, IsShapeless}
 use Rattle.lt_history.specs.Text.{Spot, IsOf, IsShapelessIn, Follows, IsWrongOr, HasFault, HasFaultOr, TakesLine, spot_after}
 use Rattle.lt_text.proofs.Plain.{cut_again, cut_takes, split_join, no_line_end}
 use Rattle.lt_history.proofs.PartsLaws.{parts_takes, parts_again, parts_plain}
@@ -22,27 +22,27 @@ text_is bytes p e =
 
 -- ---- what reading a line says
 
-pub read_is_line : (bytes : List ℕ) (r : Result Line Refusal) → Reads parts_of r (parts_at (slice_split (λ b. eqb b 32) bytes)) → IfOk r (λ l. IsLine (parts_of l))
+pub read_is_line : (bytes : List ℕ) (r : Result Line HistoryLineError) → IsReadAs parts_of r (parts_at (slice_split (λ b. eqb b 32) bytes)) → IfOk r (λ l. IsLine (parts_of l))
 read_is_line bytes (Ok l) h = (parts_takes (slice_split (λ b. eqb b 32) bytes) (parts_of l) h).1
 read_is_line bytes (Err e) h = tt
 
-pub read_is_text : (bytes : List ℕ) (r : Result Line Refusal) → Reads parts_of r (parts_at (slice_split (λ b. eqb b 32) bytes)) → IfOk r (λ l. line_text (parts_of l) ≡ bytes ++ 10 ∷ [])
+pub read_is_text : (bytes : List ℕ) (r : Result Line HistoryLineError) → IsReadAs parts_of r (parts_at (slice_split (λ b. eqb b 32) bytes)) → IfOk r (λ l. line_text (parts_of l) ≡ bytes ++ 10 ∷ [])
 read_is_text bytes (Ok l) h = text_is bytes (parts_of l) (parts_takes (slice_split (λ b. eqb b 32) bytes) (parts_of l) h).0
 read_is_text bytes (Err e) h = tt
 
--- The words of a line stand in its text.
-same_front : (a b : List ℕ) → a ++ 10 ∷ [] ≡ b ++ 10 ∷ [] → a ≡ b
-same_front a b e = append_cancel_right a b (10 ∷ []) e
+-- The words of a line are the words of its text.
+same_prefix : (a b : List ℕ) → a ++ 10 ∷ [] ≡ b ++ 10 ∷ [] → a ≡ b
+same_prefix a b e = append_cancel_right a b (10 ∷ []) e
 
 words_are : (bytes : List ℕ) (p : Parts) → IsLine p → line_text p ≡ bytes ++ 10 ∷ [] → slice_split (λ b. eqb b 32) bytes ≡ line_words p
 unfolding line_text
 words_are bytes p h e =
-    ap (λ (t : List ℕ). slice_split (λ b. eqb b 32) t) (sym (same_front (join_with_byte 32 (line_words p)) bytes e)) ∙ split_join p.key _ (parts_plain p h)
+    ap (λ (t : List ℕ). slice_split (λ b. eqb b 32) t) (sym (same_prefix (join_with_byte 32 (line_words p)) bytes e)) ∙ split_join p.key _ (parts_plain p h)
 
 no_value : (p : Parts) (o : Option Parts) → o ≡ Some p → o ≡ None → ⊥
 no_value p o e f = absurd (let g : ◌≡◌ {A = Option Parts} (Some p) None = sym e ∙ f in cc)
 
-pub unread : (bytes : List ℕ) (r : Result Line Refusal) → Reads parts_of r (parts_at (slice_split (λ b. eqb b 32) bytes)) → IfErr r (λ e. IsShapeless e bytes)
+pub unread : (bytes : List ℕ) (r : Result Line HistoryLineError) → IsReadAs parts_of r (parts_at (slice_split (λ b. eqb b 32) bytes)) → IfErr r (λ e. IsShapeless e bytes)
 unread bytes (Ok l) h = tt
 unread bytes (Err refusals.Memory) h = tt
 unread bytes (Err (refusals.Fault Shape)) h = λ p line e. no_value p (parts_at (line_words p)) (parts_again p line) (ap parts_at (sym (words_are bytes p line e)) ∙ h)
@@ -52,7 +52,7 @@ unread bytes (Err (refusals.Fault Index)) h = h
 unread bytes (Err (refusals.Fault WrongReply)) h = h
 unread bytes (Err (refusals.Fault WrongLets)) h = h
 
--- ---- a line at the front of a text
+-- ---- a line that is a prefix of a text
 
 line_cut : (p : Parts) (more : List ℕ) → IsLine p → cut_of 10 (line_text p ++ more) ≡ Some (join_with_byte 32 (line_words p), more)
 unfolding line_text
@@ -76,7 +76,7 @@ bytes_are text bytes rest p more line cut same =
     let e = some_pair_parts (join_with_byte 32 (line_words p)) bytes more rest (sym (line_cut p more line) ∙ (ap (λ (t : List ℕ). cut_of 10 t) (sym same) ∙ cut)) in
     ap (λ (t : List ℕ). t ++ 10 ∷ []) e.0
 
-pub shapeless : (version : ℕ) (s : Spot) (text bytes rest : List ℕ) (e : Refusal) → 0 < length text → cut_of 10 text ≡ Some (bytes, rest) → IsShapelessIn version e bytes → HasFaultOr version s text e
+pub shapeless : (version : ℕ) (s : Spot) (text bytes rest : List ℕ) (e : HistoryLineError) → 0 < length text → cut_of 10 text ≡ Some (bytes, rest) → IsShapelessIn version e bytes → HasFaultOr version s text e
 shapeless version s text bytes rest refusals.Memory lt cut h = nonempty text lt
 shapeless version s text bytes rest (refusals.Fault Shape) lt cut h = (nonempty text lt, λ p more line old same. h p line old (bytes_are text bytes rest p more line cut same))
 shapeless version s text bytes rest (refusals.Fault Header) lt cut h = h
@@ -85,21 +85,21 @@ shapeless version s text bytes rest (refusals.Fault Index) lt cut h = absurd h
 shapeless version s text bytes rest (refusals.Fault WrongReply) lt cut h = absurd h
 shapeless version s text bytes rest (refusals.Fault WrongLets) lt cut h = absurd h
 
-joined_front : (text bytes rest : List ℕ) (p : Parts) → cut_of 10 text ≡ Some (bytes, rest) → line_text p ≡ bytes ++ 10 ∷ [] → text ≡ line_text p ++ rest
-joined_front text bytes rest p cut e =
+joined_prefix : (text bytes rest : List ℕ) (p : Parts) → cut_of 10 text ≡ Some (bytes, rest) → line_text p ≡ bytes ++ 10 ∷ [] → text ≡ line_text p ++ rest
+joined_prefix text bytes rest p cut e =
     cut_takes 10 text bytes rest cut ∙ (sym (append_assoc bytes (10 ∷ []) rest) ∙ ap (λ (t : List ℕ). t ++ rest) (sym e))
 
-pub wrong : (version : ℕ) (s : Spot) (text bytes rest : List ℕ) (p : Parts) (e : Refusal) → 0 < length text → IsLine p → IsOf version p → cut_of 10 text ≡ Some (bytes, rest) → line_text p ≡ bytes ++ 10 ∷ [] → IsWrongOr s p e → HasFaultOr version s text e
+pub wrong : (version : ℕ) (s : Spot) (text bytes rest : List ℕ) (p : Parts) (e : HistoryLineError) → 0 < length text → IsLine p → IsOf version p → cut_of 10 text ≡ Some (bytes, rest) → line_text p ≡ bytes ++ 10 ∷ [] → IsWrongOr s p e → HasFaultOr version s text e
 wrong version s text bytes rest p refusals.Memory lt line old cut same h = nonempty text lt
 wrong version s text bytes rest p (refusals.Fault Header) lt line old cut same h = h
 wrong version s text bytes rest p (refusals.Fault Shape) lt line old cut same h = absurd h
-wrong version s text bytes rest p (refusals.Fault KeyOrder) lt line old cut same h = (p, rest, line, old, joined_front text bytes rest p cut same, h)
-wrong version s text bytes rest p (refusals.Fault Index) lt line old cut same h = (p, rest, line, old, joined_front text bytes rest p cut same, h)
-wrong version s text bytes rest p (refusals.Fault WrongReply) lt line old cut same h = (p, rest, line, old, joined_front text bytes rest p cut same, h)
-wrong version s text bytes rest p (refusals.Fault WrongLets) lt line old cut same h = (p, rest, line, old, joined_front text bytes rest p cut same, h)
+wrong version s text bytes rest p (refusals.Fault KeyOrder) lt line old cut same h = (p, rest, line, old, joined_prefix text bytes rest p cut same, h)
+wrong version s text bytes rest p (refusals.Fault Index) lt line old cut same h = (p, rest, line, old, joined_prefix text bytes rest p cut same, h)
+wrong version s text bytes rest p (refusals.Fault WrongReply) lt line old cut same h = (p, rest, line, old, joined_prefix text bytes rest p cut same, h)
+wrong version s text bytes rest p (refusals.Fault WrongLets) lt line old cut same h = (p, rest, line, old, joined_prefix text bytes rest p cut same, h)
 
 pub takes : (version : ℕ) (s next : Spot) (text bytes rest : List ℕ) (p : Parts) → IsLine p → IsOf version p → cut_of 10 text ≡ Some (bytes, rest) → line_text p ≡ bytes ++ 10 ∷ [] → Follows s p → next ≡ spot_after s p → TakesLine version s text next rest
-takes version s next text bytes rest p line old cut same follows leads = record { parts = p; line = line; of_version = old; joined = joined_front text bytes rest p cut same; follows = follows; leads = leads }
+takes version s next text bytes rest p line old cut same follows leads = record { parts = p; line = line; of_version = old; joined = joined_prefix text bytes rest p cut same; follows = follows; leads = leads }
 
 -- ---- a text has one reading
 
@@ -119,7 +119,7 @@ no_empty_line p more e = absurd (omega (arith, ap length e, length-append {A = �
 
 -- ---- a line and the versions
 
-pub shapeless_in : (version : ℕ) (e : Refusal) (bytes : List ℕ) → IsShapeless e bytes → IsShapelessIn version e bytes
+pub shapeless_in : (version : ℕ) (e : HistoryLineError) (bytes : List ℕ) → IsShapeless e bytes → IsShapelessIn version e bytes
 shapeless_in version refusals.Memory bytes h = tt
 shapeless_in version (refusals.Fault Shape) bytes h = λ p line old e. h p line e
 shapeless_in version (refusals.Fault Header) bytes h = h
@@ -128,7 +128,7 @@ shapeless_in version (refusals.Fault Index) bytes h = h
 shapeless_in version (refusals.Fault WrongReply) bytes h = h
 shapeless_in version (refusals.Fault WrongLets) bytes h = h
 
--- What is written as a line that cannot stand in a text of the version is written as none that can.
+-- The text of a line that cannot occur in the version is not the text of a line that can.
 pub of_other_version : (version : ℕ) (bytes : List ℕ) (p : Parts) → IsLine p → line_text p ≡ bytes ++ 10 ∷ [] → (IsOf version p → ⊥) → IsShapelessIn version (refusals.Fault Shape) bytes
 of_other_version version bytes p line e other = λ q line' old e'.
     let same = one_line p q [] [] line line' (ap (λ (t : List ℕ). t ++ []) (e ∙ sym e')) in

@@ -1,4 +1,5 @@
--- A line that is read was written so, and each line is read again.
+-- Reading inverts writing: what is read as a line is the text of that line, and the text of each line is read as
+-- that line.
 use Rattle.std.proofs.Common.{◌≡◌, ℕ, ◌^◌, Bool, true, false, cond, not, eqb, ltb, leb, List, [], ◌∷◌, ◌++◌, length, get_or, Option, Some, None, refl, sym, ap, subst, ◌∙◌, append_assoc, suc, rules, arith}
 use Rattle.std.specs.Prelude.{codes, position, IsTrue}
 use Rattle.lt_ids.specs.declared.error.IdError.{IdError}
@@ -12,12 +13,12 @@ use Rattle.std.proofs.lemmas.Bool.{lt-ltb, ltb-false, le-ltb, eqb-false, ne_eqb,
 use Rattle.std.proofs.lemmas.Option.{same_Some, cond_some}
 use Rattle.std.proofs.lemmas.Slice.Eq.{bytes_eq-Decides}
 use Rattle.lt_ids.specs.Key.{IsKey, is_key_byte, key_fault}
-use Rattle.lt_history.specs.declared.line.Step.{Step}
+use Rattle.lt_history.specs.declared.line.LineStep.{LineStep}
 use Rattle.lt_text.specs.Maybe.{◌>>=◌}
 use Rattle.lt_text.specs.Fields.{number_within}
 use Rattle.lt_text.specs.Calls.{call_words, field_at, call_at}
 use Rattle.lt_text.specs.Replies.{reply_words, is_reply_of, reply_at}
-use Rattle.lt_history.specs.Lines.{Parts, IsLine, IsStep, step_words, lets_words, line_words, if_no_fault, key_of, key_at, equals_of, step_at, lets_of, parts_at}
+use Rattle.lt_history.specs.Lines.{Parts, IsLine, IsReadStep, step_words, lets_words, line_words, if_no_fault, key_if_legal, key_at, equals_of, step_at, lets_in_words, parts_at}
 use Rattle.lt_text.proofs.Plain.{above, ArePlain}
 use Rattle.lt_text.proofs.FieldLaws.{bind_some, IsField, IsWithin, number_field, txn_field, field_takes, field_again}
 use Rattle.lt_text.proofs.CallLaws.{call_takes, call_again, call_plain}
@@ -85,16 +86,16 @@ plain_key : (key : List ℕ) → All (λ b. IsTrue (is_key_byte b)) key → abov
 plain_key [] h = refl
 plain_key (b ∷ bs) h = and_from _ _ (plain_byte b (h 0 0 (omega arith))) (plain_key bs (λ k d lt. h (suc k) d (omega arith)))
 
-key_takes : (word key : List ℕ) → key_of word ≡ Some key → (word ≡ key) × IsKey key
+key_takes : (word key : List ℕ) → key_if_legal word ≡ Some key → (word ≡ key) × IsKey key
 key_takes word key e = let p = no_fault_takes (key_fault word) word key e in (p.1, subst IsKey p.1 (is_key word p.0))
 
-key_again : (key : List ℕ) → IsKey key → key_of key ≡ Some key
+key_again : (key : List ℕ) → IsKey key → key_if_legal key ≡ Some key
 key_again key h = ap (λ (o : Option IdError). if_no_fault o key) (no_key_fault key h)
 
-key_field : IsField (List ℕ) key_of (λ key. key) IsKey
+key_field : IsField (List ℕ) key_if_legal (λ key. key) IsKey
 key_field = record { takes = key_takes; again = key_again; plain = λ key h. plain_key key h.each }
 
-step_takes : (words : List (List ℕ)) (s : Step) (rest : List (List ℕ)) → step_at words ≡ Some (s, rest) → (words ≡ step_words s ++ rest) × IsStep s
+step_takes : (words : List (List ℕ)) (s : LineStep) (rest : List (List ℕ)) → step_at words ≡ Some (s, rest) → (words ≡ step_words s ++ rest) × IsReadStep s
 unfolding step_at
 step_takes words s rest e =
     let a = bind_some (field_at (number_within 1 (2 ^ 64)) words) (λ index. field_at (number_within 1 1025) index.1 >>= λ pass. call_at pass.1 >>= λ call. field_at equals_of call.1 >>= λ equals. reply_at equals.1 >>= λ reply.
@@ -107,8 +108,8 @@ step_takes words s rest e =
     cond (is_reply_of c.0.0 reply.0) (Some (record { index = a.0.0; pass = b.0.0; call = c.0.0; reply = reply.0 }, reply.1)) None) (s, rest) c.2 in
     let f = bind_some (reply_at d.0.1) (λ reply.
     cond (is_reply_of c.0.0 reply.0) (Some (record { index = a.0.0; pass = b.0.0; call = c.0.0; reply = reply.0 }, reply.1)) None) (s, rest) d.2 in
-    let made : Step = record { index = a.0.0; pass = b.0.0; call = c.0.0; reply = f.0.0 } in
-    let q = cond_some {A = Step × List (List ℕ)} (is_reply_of c.0.0 f.0.0) (made, f.0.1) (s, rest) f.2 in
+    let made : LineStep = record { index = a.0.0; pass = b.0.0; call = c.0.0; reply = f.0.0 } in
+    let q = cond_some {A = LineStep × List (List ℕ)} (is_reply_of c.0.0 f.0.0) (made, f.0.1) (s, rest) f.2 in
     let t = field_takes txn_field words a.0.0 a.0.1 a.1 in
     let u = field_takes pass_field a.0.1 b.0.0 b.0.1 b.1 in
     let v = call_takes b.0.1 c.0.0 c.0.1 c.1 in
@@ -118,13 +119,13 @@ step_takes words s rest e =
     v.0 ∙ (ap (λ (ws : List (List ℕ)). call_words c.0.0 ++ ws) (w.0 ∙ ap (λ (ws : List (List ℕ)). codes "=" ∷ ws) x.0) ∙ sym (append_assoc (call_words c.0.0) (codes "=" ∷ reply_words f.0.0) f.0.1)) in
     let all : words ≡ step_words made ++ f.0.1 =
     t.0 ∙ (ap (λ (ws : List (List ℕ)). decimal a.0.0 ∷ ws) u.0 ∙ ap (λ (ws : List (List ℕ)). decimal a.0.0 ∷ decimal b.0.0 ∷ ws) tail) in
-    let is_step : IsStep made = record { index = t.1; pass = (u.1.0, omega (arith, u.1.1)); call = v.1; reply = x.1; fits = q.0 } in
-    subst (λ (y : Step × List (List ℕ)). (words ≡ step_words y.0 ++ y.1) × IsStep y.0) q.1 (all, is_step)
+    let is_step : IsReadStep made = record { index = t.1; pass = (u.1.0, omega (arith, u.1.1)); call = v.1; reply = x.1; fits = q.0 } in
+    subst (λ (y : LineStep × List (List ℕ)). (words ≡ step_words y.0 ++ y.1) × IsReadStep y.0) q.1 (all, is_step)
 
-regroup : (s : Step) (rest : List (List ℕ)) → (call_words s.call ++ codes "=" ∷ reply_words s.reply) ++ rest ≡ call_words s.call ++ (codes "=" ∷ (reply_words s.reply ++ rest))
+regroup : (s : LineStep) (rest : List (List ℕ)) → (call_words s.call ++ codes "=" ∷ reply_words s.reply) ++ rest ≡ call_words s.call ++ (codes "=" ∷ (reply_words s.reply ++ rest))
 regroup s rest = append_assoc (call_words s.call) (codes "=" ∷ reply_words s.reply) rest
 
-step_again : (s : Step) (rest : List (List ℕ)) → IsStep s → step_at (step_words s ++ rest) ≡ Some (s, rest)
+step_again : (s : LineStep) (rest : List (List ℕ)) → IsReadStep s → step_at (step_words s ++ rest) ≡ Some (s, rest)
 unfolding step_at
 step_again s rest h =
     rw (field_again txn_field s.index (decimal s.pass ∷ ((call_words s.call ++ codes "=" ∷ reply_words s.reply) ++ rest)) h.index, field_again pass_field s.pass ((call_words s.call ++ codes "=" ∷ reply_words s.reply) ++ rest) (h.pass.0, omega (arith, h.pass.1)), regroup s rest, call_again s.call (codes "=" ∷ (reply_words s.reply ++ rest)) h.call refl, field_again equals_field tt (reply_words s.reply ++ rest) tt, reply_again s.reply rest h.reply, h.fits) refl
@@ -136,9 +137,9 @@ plain_more (w ∷ ws) b p q = (p.0, plain_more ws b p.1 q)
 pub parts_takes : (words : List (List ℕ)) (p : Parts) → parts_at words ≡ Some p → (words ≡ line_words p) × IsLine p
 unfolding parts_at
 parts_takes words p e =
-    let a = bind_some (key_at words) (λ key. step_at key.1 >>= λ step. lets_of step.1 >>= λ tickets. Some (record { key = key.0; step = step.0; tickets = tickets })) p e in
-    let b = bind_some (step_at a.0.1) (λ step. lets_of step.1 >>= λ tickets. Some (record { key = a.0.0; step = step.0; tickets = tickets })) p a.2 in
-    let c = bind_some (lets_of b.0.1) (λ tickets. Some (record { key = a.0.0; step = b.0.0; tickets = tickets })) p b.2 in
+    let a = bind_some (key_at words) (λ key. step_at key.1 >>= λ step. lets_in_words step.1 >>= λ tickets. Some (record { key = key.0; step = step.0; tickets = tickets })) p e in
+    let b = bind_some (step_at a.0.1) (λ step. lets_in_words step.1 >>= λ tickets. Some (record { key = a.0.0; step = step.0; tickets = tickets })) p a.2 in
+    let c = bind_some (lets_in_words b.0.1) (λ tickets. Some (record { key = a.0.0; step = b.0.0; tickets = tickets })) p b.2 in
     let made : Parts = record { key = a.0.0; step = b.0.0; tickets = c.0 } in
     let t = field_takes key_field words a.0.0 a.0.1 a.1 in
     let u = step_takes a.0.1 b.0.0 b.0.1 b.1 in

@@ -1,4 +1,4 @@
--- Keys lie as their ranks do, where these differ.
+-- Keys are in the order of their ranks, if the ranks differ.
 use Rattle.std.proofs.Common.{◌≡◌, ◌<◌, ◌+◌, ◌*◌, ℕ, zero, suc, List, [], ◌∷◌, refl, sym, ap, subst, ◌∙◌, arith}
 use Rattle.std.specs.Prelude.{All, IsTrue}
 use Rattle.std.specs.declared.cmp.Ordering.{Ordering}
@@ -15,7 +15,7 @@ use Rattle.lt_history.specs.Rank.{byte_or_0, rank_of}
 abbrev AreBytes : List ℕ → Type 0
 AreBytes xs = (k : ℕ) → byte_or_0 xs k < 256
 
--- the number that the first n bytes spell after a
+-- The number that a and then the first n bytes spell.
 abbrev spelt : ℕ → ℕ → List ℕ → ℕ
 spelt a zero xs = a
 spelt a (suc n) [] = spelt (a * 256) n []
@@ -42,7 +42,7 @@ never_before_nothing (x ∷ xs) e = cc
 no_bytes : AreBytes []
 no_bytes = λ k. omega arith
 
--- the first byte decides, or else the rest
+-- The first byte decides, or otherwise the rest.
 by_first : (n a x y : ℕ) (xs ys : List ℕ) → AreBytes (x ∷ xs) → AreBytes (y ∷ ys) → spelt (a * 256 + x) n xs < spelt (a * 256 + y) n ys → (x ≡ y → slice_cmp nat_cmp xs ys ≡ Less)
     → (r : Ordering) → nat_cmp x y ≡ r → MatchOrdering r (x < y) (x ≡ y) (y < x) → slice_cmp nat_cmp (x ∷ xs) (y ∷ ys) ≡ Less
 by_first n a x y xs ys f g lt next Less e h = ap (λ (r : Ordering). ordering_then r (slice_cmp nat_cmp xs ys)) e
@@ -145,6 +145,6 @@ small_bytes [] h k = omega arith
 small_bytes (x ∷ xs) h zero = small_byte x (h 0 x (omega arith))
 small_bytes (x ∷ xs) h (suc k) = small_bytes xs (λ i d lt. h (suc i) d (omega arith)) k
 
--- What the ranks of two keys say is what the keys say, unless they say nothing.
+-- If the ranks of two keys differ, the keys compare as the ranks do.
 pub keys_by_rank : (xs ys : List ℕ) (r : Ordering) → IsKey xs → IsKey ys → r ≡ nat_cmp (rank_of xs) (rank_of ys) → (r ≡ Equal → ⊥) → slice_cmp nat_cmp xs ys ≡ r
 keys_by_rank xs ys r f g = by_rank xs ys r (small_bytes xs f.each) (small_bytes ys g.each)

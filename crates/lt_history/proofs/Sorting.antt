@@ -1,4 +1,4 @@
--- What a stable sort by keys gives.
+-- The result of a stable sort by key.
 use Rattle.std.proofs.Common.{◌≡◌, ℕ, ◌+◌, ◌⊎◌, Bool, true, false, cond, not, ◌&&◌, List, [], ◌∷◌, get_or, map, refl, sym, ap, subst, ◌∙◌, inl, inr, suc, arith}
 use Rattle.std.specs.List.{filter}
 use Rattle.std.specs.List.Sorted.{IsSortedByKey, IsStableByKey, ties}
@@ -13,7 +13,7 @@ use Rattle.std.proofs.lemmas.List.Elements.{filter_agree}
 use Rattle.lt_entry.specs.declared.entry.Entry.{Entry}
 use Rattle.lt_history.specs.declared.composer.Ranked.{Ranked}
 use Rattle.lt_history.specs.Histories.{precedes}
-use Rattle.lt_entry.specs.Legal.{part}
+use Rattle.lt_entry.specs.Legal.{key_part}
 use Rattle.lt_history.specs.Sorted.{RiseFrom, HaveSameParts}
 use Rattle.lt_history.proofs.Keys.{never_before_none}
 use Rattle.lt_entry.proofs.SameKeys.{same_key}
@@ -59,7 +59,7 @@ tie_is_same x y =
 kept : (x : Ranked) (xs ys : List Ranked) → IsStableByKey key_of (slice_cmp nat_cmp) xs ys → filter (test (key_of x)) ys ≡ filter (test (key_of x)) xs
 kept x xs ys h = sym (filter_agree _ (test (key_of x)) (tie_is_same x) ys) ∙ h x ∙ filter_agree _ (test (key_of x)) (tie_is_same x) xs
 
--- the key has no entry here, or one of it is known
+-- The key has no entry here, or one of its entries is known.
 found : (key : List ℕ) (xs : List Ranked) → (filter (test key) xs ≡ []) ⊎ ((x : Ranked) × (key_of x ≡ key))
 found key [] = inl refl
 found key (x ∷ xs) =
@@ -81,13 +81,13 @@ stays key xs ys h =
       ]
     ]
 
-part_seen : (key : List ℕ) (es : List Ranked) → part key (seen es) ≡ seen (filter (test key) es)
+part_seen : (key : List ℕ) (es : List Ranked) → key_part key (seen es) ≡ seen (filter (test key) es)
 part_seen key [] = refl
 part_seen key (e ∷ es) =
-    elim (test key e) as (λ b. cond b (e.entry.now ∷ part key (seen es)) (part key (seen es)) ≡ seen (cond b (e ∷ filter (test key) es) (filter (test key) es))) [
+    elim (test key e) as (λ b. cond b (e.entry.now ∷ key_part key (seen es)) (key_part key (seen es)) ≡ seen (cond b (e ∷ filter (test key) es) (filter (test key) es))) [
       | true ↦ ap (λ (more : List Entry). e.entry.now ∷ more) (part_seen key es)
       | false ↦ part_seen key es
     ]
 
 pub same_parts : (es : List Entry) (xs ys : List Ranked) → IsStableByKey key_of (slice_cmp nat_cmp) xs ys → seen xs ≡ es → HaveSameParts (seen ys) es
-same_parts es xs ys h e = λ key. part_seen key ys ∙ ap seen (stays key xs ys h) ∙ sym (part_seen key xs) ∙ ap (part key) e
+same_parts es xs ys h e = λ key. part_seen key ys ∙ ap seen (stays key xs ys h) ∙ sym (part_seen key xs) ∙ ap (key_part key) e

@@ -1,4 +1,4 @@
--- Lines that follow one another are those of legal histories.
+-- Lines each of which follows the lines before it are the lines of legal histories.
 use Rattle.std.proofs.Common.{◌≡◌, ℕ, Bool, true, false, cond, List, [], ◌∷◌, length, map, refl, sym, ap, subst, ◌∙◌, inl, inr, suc}
 use Rattle.std.specs.List.{AllByRecursion}
 use Rattle.std.specs.Str.{bytes_eq}
@@ -10,14 +10,14 @@ use Rattle.lt_entry.specs.declared.entry.Entry.{Entry}
 use Rattle.lt_history.specs.Lines.{Parts}
 use Rattle.lt_history.specs.Text.{Spot, start, record_before, spot_after, outcome, Follows, AreLegalFrom, AreLegal}
 use Rattle.lt_history.specs.Histories.{precedes, parts_of_entry}
-use Rattle.lt_entry.specs.Legal.{event_of, part, AreLegalKeys}
+use Rattle.lt_entry.specs.Legal.{event_of, key_part, AreLegalKeys}
 use Rattle.lt_entry.specs.Ranges.{IsInRange}
 use Rattle.lt_history.specs.Sorted.{RiseFrom, next_index, lines_after}
 use Rattle.lt_history.proofs.Keys.{not_back, apart_back, upto_before, apart_keys, never_before_none, precedes_itself}
 use Rattle.lt_entry.proofs.SameKeys.{same_key, key_itself}
 use Rattle.lt_history.proofs.Grouped.{part_same, part_other, none_below}
 
--- the entry that a line tells, with those whom the rules let through
+-- The entry of a line, with the lets that the rules give.
 abbrev entry_of : Spot → Parts → Entry
 entry_of s p = record { key = p.key; pass = p.step.pass; call = p.step.call; reply = p.step.reply; lets = (outcome s p).lets }
 
@@ -46,7 +46,7 @@ entries_in_range s (p ∷ ps) h = (
   entries_in_range (spot_after s p) ps h.2,
 )
 
--- the line of the entry is the line
+-- The line of that entry is the line itself.
 line_again : (s : Spot) (p : Parts) → Follows s p → parts_of_entry (next_index s.key s.index p.key) (entry_of s p) ≡ p
 line_again s p f =
     let number : ℕ → Parts = λ i. record { key = p.key; step = record { index = i; pass = p.step.pass; call = p.step.call; reply = p.step.reply }; tickets = map (λ t. t.ticket) (outcome s p).lets } in
@@ -60,7 +60,7 @@ lines_again s (p ∷ ps) h =
     ap (λ (q : Parts). q ∷ lines_after p.key (next_index s.key s.index p.key) es) (line_again s p h.1)
     ∙ (ap (λ (i : ℕ). p ∷ lines_after p.key i es) (sym h.1.counted) ∙ ap (λ (qs : List Parts). p ∷ qs) (lines_again (spot_after s p) ps h.2))
 
--- ---- each key's part
+-- ---- each key's key_part
 
 module _ (s : Spot) (p : Parts) (es : List Entry) where
   abbrev next : Spot
@@ -69,27 +69,27 @@ module _ (s : Spot) (p : Parts) (es : List Entry) where
   abbrev e : Entry
   e = entry_of s p
 
-  here : Follows s p → IsLegalFrom (record_before next p.key) (map event_of (part p.key es)) → IsLegalFrom (record_before s p.key) (map event_of (part p.key (e ∷ es)))
+  here : Follows s p → IsLegalFrom (record_before next p.key) (map event_of (key_part p.key es)) → IsLegalFrom (record_before s p.key) (map event_of (key_part p.key (e ∷ es)))
   here f h =
       subst (λ (run : List Entry). IsLegalFrom (record_before s p.key) (map event_of run)) (sym (part_same p.key e es (key_itself p.key)))
-      (f.replied, refl, subst (λ (r : Record). IsLegalFrom r (map event_of (part p.key es))) (ap (λ b. cond b (outcome s p).after empty) (key_itself p.key)) h)
+      (f.replied, refl, subst (λ (r : Record). IsLegalFrom r (map event_of (key_part p.key es))) (ap (λ b. cond b (outcome s p).after empty) (key_itself p.key)) h)
 
-  above : (key : List ℕ) → Follows s p → precedes p.key key ≡ true → IsLegalFrom (record_before next key) (map event_of (part key es)) → IsLegalFrom (record_before s key) (map event_of (part key es))
+  above : (key : List ℕ) → Follows s p → precedes p.key key ≡ true → IsLegalFrom (record_before next key) (map event_of (key_part key es)) → IsLegalFrom (record_before s key) (map event_of (key_part key es))
   above key f lt h =
       let was_none : record_before next key ≡ empty = ap (λ b. cond b (outcome s p).after empty) (apart_back p.key key lt) in
       let is_none : record_before s key ≡ empty = ap (λ b. cond b s.state empty) (apart_back s.key key (upto_before s.key p.key key f.ordered lt)) in
-      subst (λ (r : Record). IsLegalFrom r (map event_of (part key es))) (was_none ∙ sym is_none) h
+      subst (λ (r : Record). IsLegalFrom r (map event_of (key_part key es))) (was_none ∙ sym is_none) h
 
-  below : (r : Record) (key : List ℕ) → RiseFrom p.key es → precedes key p.key ≡ true → IsLegalFrom r (map event_of (part key es))
+  below : (r : Record) (key : List ℕ) → RiseFrom p.key es → precedes key p.key ≡ true → IsLegalFrom r (map event_of (key_part key es))
   below r key rise lt = subst (λ (run : List Entry). IsLegalFrom r (map event_of run)) (sym (none_below p.key es rise key lt)) tt
 
-parts_legal : (s : Spot) (ps : List Parts) → AreLegalFrom s ps → (key : List ℕ) → precedes key s.key ≡ false → IsLegalFrom (record_before s key) (map event_of (part key (entries_from s ps)))
+parts_legal : (s : Spot) (ps : List Parts) → AreLegalFrom s ps → (key : List ℕ) → precedes key s.key ≡ false → IsLegalFrom (record_before s key) (map event_of (key_part key (entries_from s ps)))
 parts_legal s [] h key order = tt
 parts_legal s (p ∷ ps) h key order =
     let es = entries_from (spot_after s p) ps in
-    let more : (k : List ℕ) → precedes k p.key ≡ false → IsLegalFrom (record_before (spot_after s p) k) (map event_of (part k es)) = parts_legal (spot_after s p) ps h.2 in
-    elim (bytes_eq p.key key) as (λ b. bytes_eq p.key key ≡ b → IsLegalFrom (record_before s key) (map event_of (part key (entry_of s p ∷ es)))) [
-      | true ↦ λ same. subst (λ (k : List ℕ). IsLegalFrom (record_before s k) (map event_of (part k (entry_of s p ∷ es)))) (same_key p.key key same) (here s p es h.1 (more p.key (precedes_itself p.key)))
+    let more : (k : List ℕ) → precedes k p.key ≡ false → IsLegalFrom (record_before (spot_after s p) k) (map event_of (key_part k es)) = parts_legal (spot_after s p) ps h.2 in
+    elim (bytes_eq p.key key) as (λ b. bytes_eq p.key key ≡ b → IsLegalFrom (record_before s key) (map event_of (key_part key (entry_of s p ∷ es)))) [
+      | true ↦ λ same. subst (λ (k : List ℕ). IsLegalFrom (record_before s k) (map event_of (key_part k (entry_of s p ∷ es)))) (same_key p.key key same) (here s p es h.1 (more p.key (precedes_itself p.key)))
       | false ↦ λ other.
           subst (λ (run : List Entry). IsLegalFrom (record_before s key) (map event_of run)) (sym (part_other key (entry_of s p) es other))
           (elim (apart_keys p.key key other) [
@@ -103,4 +103,4 @@ same_empty true = refl
 same_empty false = refl
 
 pub entries_legal : (ps : List Parts) → AreLegal ps → AreLegalKeys (entries_from start ps)
-entries_legal ps h = λ key. subst (λ (r : Record). IsLegalFrom r (map event_of (part key (entries_from start ps)))) (same_empty (bytes_eq key [])) (parts_legal start ps h key (never_before_none key))
+entries_legal ps h = λ key. subst (λ (r : Record). IsLegalFrom r (map event_of (key_part key (entries_from start ps)))) (same_empty (bytes_eq key [])) (parts_legal start ps h key (never_before_none key))

@@ -4,22 +4,22 @@ use Rattle.std.specs.List.{Contains}
 use Rattle.std.proofs.lemmas.Bool.{false≢true}
 use Rattle.lt_entry.specs.declared.entry.Entry.{Entry}
 use Rattle.lt_history.specs.Text.{text_of}
-use Rattle.lt_history.specs.Histories.{precedes, Rise, IsTextOf, lines_of}
+use Rattle.lt_history.specs.Histories.{precedes, KeysRise, IsTextOf, lines_of}
 use Rattle.lt_history.proofs.Keys.{precedes_itself, not_back}
 use Rattle.lt_history.proofs.Grouped.{is_head, is_later, head_or_later, none_in_none, at_key}
 
--- each key here is there
+-- Each key of one list is in the other.
 abbrev AreAmong : List (List ℕ) → List (List ℕ) → Type 0
 AreAmong keys others = (key : List ℕ) → Contains keys key → Contains others key
 
 never : (k : List ℕ) → precedes k k ≡ true → ⊥
 never k lt = false≢true (sym (precedes_itself k) ∙ lt)
 
--- the first key of one list is the first of the other, or stands after it
-first_key : (k l : List ℕ) (ls : List (List ℕ)) → Rise (l ∷ ls) → Contains (l ∷ ls) k → (l ≡ k) ⊎ (precedes l k ≡ true)
+-- The first key of one list is the first key of the other, or follows it.
+first_key : (k l : List ℕ) (ls : List (List ℕ)) → KeysRise (l ∷ ls) → Contains (l ∷ ls) k → (l ≡ k) ⊎ (precedes l k ≡ true)
 first_key k l ls rise h = elim (head_or_later l k ls h) [ inl same ↦ inl same | inr later ↦ inr (at_key (λ x. precedes l x ≡ true) ls k rise.0 later) ]
 
-same_first : (k l : List ℕ) (ks ls : List (List ℕ)) → Rise (k ∷ ks) → Rise (l ∷ ls) → AreAmong (k ∷ ks) (l ∷ ls) → AreAmong (l ∷ ls) (k ∷ ks) → k ≡ l
+same_first : (k l : List ℕ) (ks ls : List (List ℕ)) → KeysRise (k ∷ ks) → KeysRise (l ∷ ls) → AreAmong (k ∷ ks) (l ∷ ls) → AreAmong (l ∷ ls) (k ∷ ks) → k ≡ l
 same_first k l ks ls p q f g =
     elim (first_key k l ls q (f k (is_head k ks))) [
       | inl same ↦ sym same
@@ -29,15 +29,15 @@ same_first k l ks ls p q f g =
       ]
     ]
 
--- without the first key, which both have
-rest_among : (k l : List ℕ) (ks ls : List (List ℕ)) → k ≡ l → Rise (k ∷ ks) → AreAmong (k ∷ ks) (l ∷ ls) → AreAmong ks ls
+-- Both lists without their first key, which is the same.
+rest_among : (k l : List ℕ) (ks ls : List (List ℕ)) → k ≡ l → KeysRise (k ∷ ks) → AreAmong (k ∷ ks) (l ∷ ls) → AreAmong ks ls
 rest_among k l ks ls same p f = λ key h.
     elim (head_or_later l key ls (f key (is_later k key ks h))) [
       | inl is ↦ absurd (never key (subst (λ (x : List ℕ). precedes x key ≡ true) (same ∙ is) (at_key (λ x. precedes k x ≡ true) ks key p.0 h)))
       | inr later ↦ later
     ]
 
-same_keys : (ks ls : List (List ℕ)) → Rise ks → Rise ls → AreAmong ks ls → AreAmong ls ks → ks ≡ ls
+same_keys : (ks ls : List (List ℕ)) → KeysRise ks → KeysRise ls → AreAmong ks ls → AreAmong ls ks → ks ≡ ls
 same_keys [] [] p q f g = refl
 same_keys [] (l ∷ ls) p q f g = absurd (none_in_none l (g l (is_head l ls)))
 same_keys (k ∷ ks) [] p q f g = absurd (none_in_none k (f k (is_head k ks)))

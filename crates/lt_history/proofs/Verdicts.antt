@@ -11,7 +11,7 @@ use Rattle.lt_history.specs.declared.error.Fault.{Fault}
 use Rattle.lt_history.specs.declared.error.Fault.TheVariants.{Header, Shape, KeyOrder, Index, WrongReply, WrongLets}
 use Rattle.lt_history.specs.Lines.{Parts, IsLine, line_text}
 use Rattle.lt_history.specs.Text.{Spot, IsOf, start, text_by, spot_after, spot_from, IsWrong, AreLegalFrom, key_count, HasFault, FailsAt, Fails}
-use Rattle.lt_history.specs.Version.{IsVersion, IsLegalOf, header_of, is_first, is_too_long}
+use Rattle.lt_history.specs.Version.{IsVersion, IsLegalOf, header_of, is_first, is_too_long_reply}
 use Rattle.lt_entry.specs.declared.entry.Entry.{Entry}
 use Rattle.lt_history.specs.First as first
 use Rattle.lt_plain.specs.Step.{IsLegal}
@@ -19,7 +19,7 @@ use Rattle.lt_history.proofs.First.{first_rules_hold}
 use Rattle.std.specs.Str.{bytes_eq}
 use Rattle.std.proofs.lemmas.Bool.Decides.{nat_tests}
 use Rattle.lt_history.specs.Histories.{AreLegalKeysBy, IsEntryOf, lines_from, lines_of}
-use Rattle.lt_entry.specs.Legal.{AreLegalKeys, event_of, part}
+use Rattle.lt_entry.specs.Legal.{AreLegalKeys, event_of, key_part}
 use Rattle.lt_history.specs.Verdict.{IsLegalText, IsReported, Judges, Says, IsOrMemory, upgraded, of_latest}
 use Rattle.lt_history.proofs.LineLaws.{one_line, no_empty_line}
 use Rattle.lt_history.proofs.Loop.{IsSpoiled, spoiled, line_takes_room}
@@ -39,16 +39,16 @@ same_lines s (p ∷ ps) (q ∷ qs) hp hq e =
     let more = same_lines (spot_after s q) ps qs (subst (λ (x : Parts). AreLegalFrom (spot_after s x) ps) same.0 hp.2) hq.2 same.1 in
     ap (λ (x : Parts). x ∷ ps) same.0 ∙ ap (λ (xs : List Parts). q ∷ xs) more
 
--- ---- and one front before the first fault
+-- ---- and one prefix before the first fault
 
-same_front : (version : ℕ) (s : Spot) (ps qs : List Parts) (x y : List ℕ) → AreLegalFrom s ps → AllByRecursion (IsOf version) ps → AreLegalFrom s qs → AllByRecursion (IsOf version) qs → flat_map line_text ps ++ x ≡ flat_map line_text qs ++ y
+same_prefix : (version : ℕ) (s : Spot) (ps qs : List Parts) (x y : List ℕ) → AreLegalFrom s ps → AllByRecursion (IsOf version) ps → AreLegalFrom s qs → AllByRecursion (IsOf version) qs → flat_map line_text ps ++ x ≡ flat_map line_text qs ++ y
     → IsSpoiled version (spot_from s ps) x → IsSpoiled version (spot_from s qs) y → (ps ≡ qs) × (x ≡ y)
-same_front version s [] [] x y hp op hq oq e f g = (refl, e)
-same_front version s [] (q ∷ qs) x y hp op hq oq e f g = absurd (f.none_follows q (flat_map line_text qs ++ y) hq.0 oq.0 (e ∙ append_assoc (line_text q) (flat_map line_text qs) y) hq.1)
-same_front version s (p ∷ ps) [] x y hp op hq oq e f g = absurd (g.none_follows p (flat_map line_text ps ++ x) hp.0 op.0 (sym e ∙ append_assoc (line_text p) (flat_map line_text ps) x) hp.1)
-same_front version s (p ∷ ps) (q ∷ qs) x y hp op hq oq e f g =
+same_prefix version s [] [] x y hp op hq oq e f g = (refl, e)
+same_prefix version s [] (q ∷ qs) x y hp op hq oq e f g = absurd (f.none_follows q (flat_map line_text qs ++ y) hq.0 oq.0 (e ∙ append_assoc (line_text q) (flat_map line_text qs) y) hq.1)
+same_prefix version s (p ∷ ps) [] x y hp op hq oq e f g = absurd (g.none_follows p (flat_map line_text ps ++ x) hp.0 op.0 (sym e ∙ append_assoc (line_text p) (flat_map line_text ps) x) hp.1)
+same_prefix version s (p ∷ ps) (q ∷ qs) x y hp op hq oq e f g =
     let same = one_line p q (flat_map line_text ps ++ x) (flat_map line_text qs ++ y) hp.0 hq.0 (sym (append_assoc (line_text p) (flat_map line_text ps) x) ∙ (e ∙ append_assoc (line_text q) (flat_map line_text qs) y)) in
-    let more = same_front version (spot_after s q) ps qs x y (subst (λ (z : Parts). AreLegalFrom (spot_after s z) ps) same.0 hp.2) op.1 hq.2 oq.1 same.1 (subst (λ (z : Parts). IsSpoiled version (spot_from (spot_after s z) ps) x) same.0 f) g in
+    let more = same_prefix version (spot_after s q) ps qs x y (subst (λ (z : Parts). AreLegalFrom (spot_after s z) ps) same.0 hp.2) op.1 hq.2 oq.1 same.1 (subst (λ (z : Parts). IsSpoiled version (spot_from (spot_after s z) ps) x) same.0 f) g in
     (ap (λ (z : Parts). z ∷ ps) same.0 ∙ ap (λ (zs : List Parts). q ∷ zs) more.0, more.1)
 
 unspoiled : (version : ℕ) (s : Spot) (ps before : List Parts) (rest : List ℕ) → AreLegalFrom s ps → AllByRecursion (IsOf version) ps → AreLegalFrom s before → flat_map line_text ps ≡ flat_map line_text before ++ rest → IsSpoiled version (spot_from s before) rest → ⊥
@@ -89,7 +89,7 @@ one_wrong s p WrongLets Shape v w = absurd w
 one_wrong s p Header g v w = absurd v
 one_wrong s p Shape g v w = absurd v
 
--- a fault is of no line at all, or of one
+-- The two cases of a fault: no line of the version is a prefix of the rest, or one is.
 abbrev IsNoLine : ℕ → List ℕ → Type 0
 IsNoLine version rest = (p : Parts) (more : List ℕ) → IsLine p → IsOf version p → rest ≡ line_text p ++ more → ⊥
 
@@ -126,7 +126,7 @@ one_fault version s rest f g v w =
 after_header : (version : ℕ) (text : List ℕ) (ps : List Parts) (rest : List ℕ) → text ≡ text_by version ps ++ rest → text ≡ header_of version ++ (flat_map line_text ps ++ rest)
 after_header version text ps rest e = e ∙ append_assoc (header_of version) (flat_map line_text ps) rest
 
--- a text has one version
+-- A text has one version.
 first_or_second : (xs ys : List ℕ) → header_of 1 ++ xs ≡ header_of 2 ++ ys → ⊥
 first_or_second xs ys e = absurd (omega (arith, ap (λ (t : List ℕ). get_or t 6 0) e))
 
@@ -136,7 +136,7 @@ one_version v w xs ys (inl a) (inr b) e = absurd (first_or_second xs ys (subst (
 one_version v w xs ys (inr a) (inl b) e = absurd (first_or_second ys xs (sym (subst (λ (n : ℕ). header_of 2 ++ xs ≡ header_of n ++ ys) b (subst (λ (n : ℕ). header_of n ++ xs ≡ header_of w ++ ys) a e))))
 one_version v w xs ys (inr a) (inr b) e = a ∙ sym b
 
--- the lines before a fault, and what is left, where the version is known
+-- The lines before a fault and the rest of the text, if the version is known.
 record Before (version : ℕ) (text : List ℕ) (line : ℕ) (fault : Fault) : Type 0 where
   before : List Parts
   rest : List ℕ
@@ -149,20 +149,20 @@ record Before (version : ℕ) (text : List ℕ) (line : ℕ) (fault : Fault) : T
 before_of : (version : ℕ) (text : List ℕ) (line : ℕ) (fault : Fault) (f : FailsAt text line fault) → f.version ≡ version → Before version text line fault
 before_of version text line fault f e = subst (λ (v : ℕ). Before v text line fault) e (record { before = f.before; rest = f.rest; legal = f.legal; of_version = f.of_version; joined = f.joined; number = f.number; faulty = f.faulty })
 
-same_place : (version : ℕ) (text : List ℕ) (line line' : ℕ) (f g : Fault) → Before version text line f → Before version text line' g → (line ≡ line') × (f ≡ g)
-same_place version text line line' f g v w =
-    let fronts = append_cancel_left (header_of version) (flat_map line_text v.before ++ v.rest) (flat_map line_text w.before ++ w.rest) (sym (after_header version text v.before v.rest v.joined) ∙ after_header version text w.before w.rest w.joined) in
-    let same = same_front version start v.before w.before v.rest w.rest v.legal v.of_version w.legal w.of_version fronts (spoiled version (spot_from start v.before) v.rest f v.faulty) (spoiled version (spot_from start w.before) w.rest g w.faulty) in (
+same_cursor : (version : ℕ) (text : List ℕ) (line line' : ℕ) (f g : Fault) → Before version text line f → Before version text line' g → (line ≡ line') × (f ≡ g)
+same_cursor version text line line' f g v w =
+    let prefixes = append_cancel_left (header_of version) (flat_map line_text v.before ++ v.rest) (flat_map line_text w.before ++ w.rest) (sym (after_header version text v.before v.rest v.joined) ∙ after_header version text w.before w.rest w.joined) in
+    let same = same_prefix version start v.before w.before v.rest w.rest v.legal v.of_version w.legal w.of_version prefixes (spoiled version (spot_from start v.before) v.rest f v.faulty) (spoiled version (spot_from start w.before) w.rest g w.faulty) in (
       v.number ∙ (ap (λ (ps : List Parts). length ps + 2) same.0 ∙ sym w.number),
       one_fault version (spot_from start w.before) w.rest f g (subst (λ (ps : List Parts). HasFault version (spot_from start ps) w.rest f) same.0 (subst (λ (r : List ℕ). HasFault version (spot_from start v.before) r f) same.1 v.faulty)) w.faulty,
     )
 
-one_place : (text : List ℕ) (line line' : ℕ) (f g : Fault) → FailsAt text line f → FailsAt text line' g → (line ≡ line') × (f ≡ g)
-one_place text line line' f g v w =
+one_cursor : (text : List ℕ) (line line' : ℕ) (f g : Fault) → FailsAt text line f → FailsAt text line' g → (line ≡ line') × (f ≡ g)
+one_cursor text line line' f g v w =
     let version = one_version w.version v.version (flat_map line_text w.before ++ w.rest) (flat_map line_text v.before ++ v.rest) w.is_version v.is_version (sym (after_header w.version text w.before w.rest w.joined) ∙ after_header v.version text v.before v.rest v.joined) in
-    same_place v.version text line line' f g (before_of v.version text line f v refl) (before_of v.version text line' g w version)
+    same_cursor v.version text line line' f g (before_of v.version text line f v refl) (before_of v.version text line' g w version)
 
--- the first line is faulty, or a later one
+-- The first line is faulty, or a later one is.
 record IsHeaderless (text : List ℕ) (line : ℕ) (fault : Fault) : Type 0 where
   is : fault ≡ Header
   first : line ≡ 1
@@ -188,7 +188,7 @@ one_failure text line line' f g v w =
       ]
       | inr a ↦ elim (placed text line' g w) [
         | inl b ↦ absurd (b.none a.version (flat_map line_text a.before ++ a.rest) a.is_version (after_header a.version text a.before a.rest a.joined))
-        | inr b ↦ let same = one_place text line line' f g a b in refused_same line line' f g same.0 same.1
+        | inr b ↦ let same = one_cursor text line line' f g a b in refused_same line line' f g same.0 same.1
       ]
     ]
 
@@ -208,8 +208,8 @@ no_failure text line fault report h f =
 one_report : (text : List ℕ) (a b : Report) → IsReported text a → IsReported text b → a ≡ b
 one_report text a b v w =
     let version = one_version a.version b.version (flat_map line_text v.lines) (flat_map line_text w.lines) v.is_version w.is_version (sym v.joined ∙ w.joined) in
-    let fronts = append_cancel_left (header_of b.version) (flat_map line_text v.lines) (flat_map line_text w.lines) (ap (λ (n : ℕ). header_of n ++ flat_map line_text v.lines) (sym version) ∙ (sym v.joined ∙ w.joined)) in
-    let same = same_lines start v.lines w.lines v.legal w.legal fronts in
+    let prefixes = append_cancel_left (header_of b.version) (flat_map line_text v.lines) (flat_map line_text w.lines) (ap (λ (n : ℕ). header_of n ++ flat_map line_text v.lines) (sym version) ∙ (sym v.joined ∙ w.joined)) in
+    let same = same_lines start v.lines w.lines v.legal w.legal prefixes in
     let of_version : ℕ → Report = λ n. record { version = n; keys = a.keys; steps = a.steps } in
     let of_keys : ℕ → Report = λ n. record { version = b.version; keys = n; steps = a.steps } in
     let of_steps : ℕ → Report = λ n. record { version = b.version; keys = b.keys; steps = n } in
@@ -217,7 +217,7 @@ one_report text a b v w =
 
 -- ---- lines and entries
 
--- what each entry can stand in, its line can, and the other way about
+-- An entry can occur in a text of the version exactly if its line can.
 entries_of_version : (version : ℕ) (s : Spot) (ps : List Parts) → AllByRecursion (IsOf version) ps → AllByRecursion (IsEntryOf version) (entries_from s ps)
 entries_of_version version s [] h = tt
 entries_of_version version s (p ∷ ps) h = (h.0, entries_of_version version (spot_after s p) ps h.1)
@@ -226,9 +226,9 @@ run_of_version : (version index : ℕ) (es : List Entry) → AllByRecursion (IsE
 run_of_version version index [] h = tt
 run_of_version version index (e ∷ es) h = (h.0, run_of_version version (index + 1) es h.1)
 
-part_of_version : (version : ℕ) (key : List ℕ) (es : List Entry) → AllByRecursion (IsEntryOf version) es → AllByRecursion (IsEntryOf version) (part key es)
+part_of_version : (version : ℕ) (key : List ℕ) (es : List Entry) → AllByRecursion (IsEntryOf version) es → AllByRecursion (IsEntryOf version) (key_part key es)
 part_of_version version key [] h = tt
-part_of_version version key (e ∷ es) h = elim (bytes_eq e.key key) as (λ b. AllByRecursion (IsEntryOf version) (cond b (e ∷ part key es) (part key es))) [
+part_of_version version key (e ∷ es) h = elim (bytes_eq e.key key) as (λ b. AllByRecursion (IsEntryOf version) (cond b (e ∷ key_part key es) (key_part key es))) [
   | true ↦ (h.0, part_of_version version key es h.1)
   | false ↦ part_of_version version key es h.1
 ]
@@ -239,23 +239,23 @@ all_append P (x ∷ xs) ys a b = (a.0, all_append P xs ys a.1 b)
 
 lines_of_version : (version : ℕ) (es : List Entry) (keys : List (List ℕ)) → AllByRecursion (IsEntryOf version) es → AllByRecursion (IsOf version) (lines_of es keys)
 lines_of_version version es [] h = tt
-lines_of_version version es (key ∷ keys) h = all_append (IsOf version) (lines_from 1 (part key es)) (lines_of es keys) (run_of_version version 1 (part key es) (part_of_version version key es h)) (lines_of_version version es keys h)
+lines_of_version version es (key ∷ keys) h = all_append (IsOf version) (lines_from 1 (key_part key es)) (lines_of es keys) (run_of_version version 1 (key_part key es) (part_of_version version key es h)) (lines_of_version version es keys h)
 
 -- ---- the rules of the first version
 
 calls_of_first : (run : List Entry) → AllByRecursion (IsEntryOf 1) run → AllByRecursion (λ e. first.is_of_first e.call ≡ true) (map event_of run)
 calls_of_first [] h = tt
-calls_of_first (e ∷ es) h = (front_true (first.is_of_first e.call) (not (is_too_long e.reply)) h.0, calls_of_first es h.1)
+calls_of_first (e ∷ es) h = (prefix_true (first.is_of_first e.call) (not (is_too_long_reply e.reply)) h.0, calls_of_first es h.1)
   where
-    front_true : (a b : Bool) → (a && b) ≡ true → a ≡ true
-    front_true true b e = refl
-    front_true false b e = e
+    prefix_true : (a b : Bool) → (a && b) ≡ true → a ≡ true
+    prefix_true true b e = refl
+    prefix_true false b e = e
 
-legal_in : (version : ℕ) (b : Bool) → is_first version ≡ b → (key : List ℕ) (es : List Entry) → AllByRecursion (IsEntryOf version) es → IsLegal (map event_of (part key es)) ↔ IsLegalOf b (map event_of (part key es))
+legal_in : (version : ℕ) (b : Bool) → is_first version ≡ b → (key : List ℕ) (es : List Entry) → AllByRecursion (IsEntryOf version) es → IsLegal (map event_of (key_part key es)) ↔ IsLegalOf b (map event_of (key_part key es))
 legal_in version false e key es h = (λ l. l, λ l. l)
 legal_in version true e key es h =
     let one : version ≡ 1 = grind (arith, nat_tests) in
-    first_rules_hold (map event_of (part key es)) (calls_of_first (part key es) (part_of_version 1 key es (subst (λ (v : ℕ). AllByRecursion (IsEntryOf v) es) one h)))
+    first_rules_hold (map event_of (key_part key es)) (calls_of_first (key_part key es) (part_of_version 1 key es (subst (λ (v : ℕ). AllByRecursion (IsEntryOf v) es) one h)))
 
 legal_by : (version : ℕ) (es : List Entry) → AllByRecursion (IsEntryOf version) es → AreLegalKeys es → AreLegalKeysBy version es
 legal_by version es h l key = (legal_in version (is_first version) refl key es h).0 (l key)
@@ -299,7 +299,7 @@ is_reported text report room h =
       keys = h.keys ∙ sym (counted h.entries keys (λ key c. (h.is_text.are_keys.each key).0 c));
     }
 
--- ---- what the check says
+-- ---- the verdict of the check
 
 pub is_said : (text : List ℕ) (r : Result Report CheckError) → Judges text r → Says text r
 is_said text (Ok report) h = is_legal text report h
@@ -316,7 +316,7 @@ fault_is_said text (Ok report) h line fault f = absurd (no_failure text line fau
 fault_is_said text (Err errors.Memory) h line fault f = inr refl
 fault_is_said text (Err (errors.Refused line' fault')) h line fault f = inl (ap (λ x. Err x) (one_failure text line' line fault' fault h f))
 
--- ---- a text that is upgraded
+-- ---- an upgraded text
 
 eight : (version : ℕ) (rest : List ℕ) → IsVersion version → drop 8 (header_of version ++ rest) ≡ rest
 eight version rest (inl e) = subst (λ (v : ℕ). drop 8 (header_of v ++ rest) ≡ rest) (sym e) refl
@@ -329,13 +329,13 @@ seventh : (version : ℕ) (rest : List ℕ) → IsVersion version → slice_set 
 seventh version rest (inl e) = subst (λ (v : ℕ). slice_set (header_of v ++ rest) 6 50 ≡ header_of 2 ++ rest) (sym e) refl
 seventh version rest (inr e) = subst (λ (v : ℕ). slice_set (header_of v ++ rest) 6 50 ≡ header_of 2 ++ rest) (sym e) refl
 
--- the seventh byte alone is changed
+-- Only the seventh byte changes.
 pub set_is_upgraded : (text : List ℕ) (report : Report) → IsLegalText text report → slice_set text 6 50 ≡ upgraded text
 set_is_upgraded text report h =
     let lines = flat_map line_text (lines_of h.entries h.is_text.keys) in
     ap (λ (t : List ℕ). slice_set t 6 50) h.is_text.lines ∙ (seventh report.version lines h.is_version ∙ sym (upgraded_is report.version text (lines_of h.entries h.is_text.keys) h.is_version h.is_text.lines))
 
--- each call and reply can stand in a text of the second version
+-- Every call and every reply can occur in a text of the second version.
 pub all_of_latest : (es : List Entry) → AllByRecursion (IsEntryOf 2) es
 all_of_latest [] = tt
 all_of_latest (e ∷ es) = (refl, all_of_latest es)

@@ -1,8 +1,9 @@
+-- The names of the faults of a line.
 use Rattle.std.specs.Prelude.{ℕ, List, codes}
 use Rattle.lt_history.specs.declared.error.Fault.{Fault}
 use Rattle.lt_history.specs.declared.error.Fault.TheVariants.{Header, Shape, KeyOrder, Index, WrongReply, WrongLets}
 
--- the name of a fault
+-- The name of a fault.
 abbrev pub fault_name : Fault → List ℕ
 fault_name Header = codes "Header"
 fault_name Shape = codes "Shape"

@@ -1,5 +1,6 @@
--- The rules of the first version, in which each request has a transaction and none has a bound: what a visit does, and what
--- comes after a release. The other rules were the same; which records come about is said beside the present ones. A visit's bound is not looked at.
+-- The rules of the first version, in which each request has a transaction and none has a bound: what a visit does,
+-- and what happens when a lock comes free. All other rules are the same in both versions, and the bound of a visit
+-- is ignored here. Which records can come about is defined with the rules of the second version.
 use Rattle.std.specs.Prelude.{◌≡◌, ◌↔◌, ℕ, Bool, true, false, nat_eq, if◌then◌else◌, Option, Some, None, List, [], ◌++◌, map, drop, take, slice_get, is_some}
 use Rattle.std.specs.List.{AllByRecursion}
 use Rattle.std.specs.Option.{option_map}
@@ -16,8 +17,8 @@ use Rattle.lt_plain.specs.Rules.{Record, empty, number_of, through_of, is_txn, O
 use Rattle.lt_plain.specs.Visit.{pass, wait_to_write, wait_to_read, settled}
 use Rattle.lt_plain.specs.Step.{Event, IsLegal, IsLegalBy, step_by}
 
--- The lock has just lost its holder or its reservation: the readers go on, and the first writer has it
--- reserved, and goes on if it was waiting.
+-- The lock has just lost its holder or its reservation: all readers are let through. The first writer gets the
+-- reservation, and is let through if it is active.
 abbrev pub free : Record → Reply → Outcome
 free r reply = record {
   after = settle (record r { reservation = option_map (λ w. w.request) (slice_get r.writers 0); writers = drop 1 r.writers; readers = [] });
@@ -25,16 +26,16 @@ free r reply = record {
   lets = map through_of (r.readers ++ active_requests (take 1 r.writers));
 }
 
--- at a lock that another transaction holds
+-- A visit to a lock that another transaction holds.
 abbrev pub visit_held : Record → Holder → QueuedRequest → Access → Outcome
 visit_held r h q Read = if is_below q.ts h.ts then pass r else wait_to_read r q
 visit_held r h q Write = wait_to_write r q
 
--- A request of a smaller number takes the place of the one for which the lock is reserved.
+-- A request with a smaller number takes the reservation over.
 abbrev pub displace : Record → QueuedRequest → QueuedRequest → Outcome
 displace r reservation q = pass (record r { reservation = Some q; writers = set_back (Some reservation) ++ r.writers })
 
--- at a lock that nobody holds and that is reserved
+-- A visit to a lock that is reserved and not held.
 abbrev pub visit_reserved : Record → QueuedRequest → QueuedRequest → Access → Outcome
 visit_reserved r reservation q Read = pass r
 visit_reserved r reservation q Write =
@@ -48,11 +49,11 @@ visit_lock None None r q access = pass r
 visit_lock None (Some reservation) r q access = visit_reserved r reservation q access
 visit_lock (Some h) reservation r q access = if is_txn q.txn h.txn then pass r else visit_held r h q access
 
--- A request visits the key. Where it waits to read, it first stops waiting.
+-- A request visits the key. If it is waiting to read, it first stops waiting.
 abbrev pub visit : Record → QueuedRequest → Access → Outcome
 visit r q access = settled (visit_lock r.holder r.reservation (stop_reading r (number_of q)) q access)
 
--- one step of a record, by a call of this pass
+-- One step of a record, by a call of this pass.
 abbrev pub step : Record → ℕ → Call → Outcome
 step r pass call = step_by (λ r q longest access. visit r q access) free r pass call
 
@@ -64,6 +65,7 @@ abbrev pub is_of_first : Call → Bool
 is_of_first (Visit ticket txn ts access longest) = if is_some txn then nat_eq longest 0 else false
 is_of_first _ = true
 
--- A history whose visits all have a transaction and no bound is legal exactly if it was by the first version's rules.
+-- A history whose visits all have a transaction and no bound is legal exactly if it was legal by the rules of the
+-- first version.
 abbrev pub FirstRulesHold : Type 0
 FirstRulesHold = (es : List Event) → AllByRecursion (λ e. is_of_first e.call ≡ true) es → IsLegal es ↔ IsLegalFirst es

@@ -3,7 +3,7 @@ pub mod Fault
 pub mod Version
 pub mod Lines
 pub mod Text
-pub mod Place
+pub mod Cursor
 pub mod Verdict
 pub mod Print
 pub mod Histories

@@ -1,10 +1,15 @@
+//! How do the stored entries of a table become the text of its histories?
+//!
+//! [`put_histories`] collects the entries of all shards, sorts them by key without changing the order within a key,
+//! and writes one line for each. [`compose`] does the same into a new vector. Read next: `specs/Histories.antt`,
+//! which defines the text of a list of entries, and `printer.rt`, which writes it to a stream.
 ghost use Rattle.std.specs.Prelude.{◌≡◌, ℕ, ◌+◌, ◌<◌, ◌≤◌, ◌^◌, ◌++◌, ◌∷◌, [], List, OnOk, IfOk, map, length};
 ghost use Rattle.std.specs.List.{flat_map};
 ghost use Rattle.lt_text.specs.Compose.{spaced};
 ghost use Rattle.lt_text.specs.Fields.{ticket_word};
 ghost use Rattle.lt_history.specs.Lines.{lets_words, line_text};
 ghost use Rattle.lt_history.specs.Histories.{parts_of_entry, IsTextOf};
-ghost use Rattle.lt_entry.specs.Legal.{part};
+ghost use Rattle.lt_entry.specs.Legal.{key_part};
 ghost use Rattle.lt_history.specs.Print.{PutsText};
 ghost use Rattle.lt_history.specs.Sorted.{RiseFrom, HaveSameParts, next_index, lines_after};
 ghost use Rattle.std.specs.List.Sorted.{IsSortedByKey, IsStableByKey};
@@ -20,7 +25,8 @@ use lt_text::put::{put_call, put_number_word, put_reply, put_ticket, put_word};
 use std::alloc::{AllocError, Global};
 use std::cmp::Ordering;
 
-/// An entry, with its key's first eight bytes as one number, which settles most comparisons without a look at the entry.
+/// An entry with its rank: the first eight bytes of its key as one number. Comparing ranks decides most comparisons
+/// without reading the entry.
 #[derive(Drop)]
 struct Ranked<'a> {
     rank: u64,
@@ -29,17 +35,17 @@ struct Ranked<'a> {
     ghost is_key: { IsKey entry.now.key },
 }
 
-/// The byte at this place, or 0 where there is none.
-fn byte_or_0(bytes: &[u8], place: usize) -> u8
-    ensures { result ≡ byte_or_0 bytes.now place }
+/// The byte at this index, or 0 past the end.
+fn byte_or_0(bytes: &[u8], index: usize) -> u8
+    ensures { result ≡ byte_or_0 bytes.now index }
 {
-    match bytes.get(place) {
+    match bytes.get(index) {
         Some(byte) => *byte,
         None => 0,
     }
 }
 
-/// The first eight bytes as one number, the first one the highest.
+/// The first eight bytes as one big-endian number.
 fn rank_of(bytes: &[u8]) -> u64
     ensures { result ≡ rank_of bytes.now }
 {
@@ -62,7 +68,7 @@ fn with_rank<'a>(entry: &'a Entry) -> Ranked<'a>
     Ranked { rank, entry }
 }
 
-/// How the keys lie: by their ranks, and where these are equal, by the keys.
+/// Compares two entries by key: by their ranks first, and by the whole keys if the ranks are equal.
 fn compare(a: &Ranked, b: &Ranked) -> Ordering
     ensures { result ≡ slice_cmp nat_cmp a.now.entry.now.key b.now.entry.now.key }
 {
@@ -72,7 +78,7 @@ fn compare(a: &Ranked, b: &Ranked) -> Ordering
     }
 }
 
-/// Puts the entries of a shard at the end.
+/// Appends the entries of one shard.
 fn push_all<'a>(entries: &mut Vec<Ranked<'a>>, shard: &'a [Entry]) -> Result<(), AllocError>
     ensures { OnOk result (map (λ e. e.entry.now) entries.new.items ≡ map (λ e. e.entry.now) entries.old.items ++ shard.now) }
 {
@@ -82,7 +88,7 @@ fn push_all<'a>(entries: &mut Vec<Ranked<'a>>, shard: &'a [Entry]) -> Result<(),
     Ok(())
 }
 
-/// How many entries there are, so that room is taken once.
+/// The number of entries in all shards, so that room for them is allocated once.
 fn count(shards: &[Vec<Entry>]) -> usize {
     let mut count: usize = 0;
     for shard in shards {
@@ -102,7 +108,7 @@ fn entries_of<'a>(alloc: Global, shards: &'a [Vec<Entry>]) -> Result<Vec<Ranked<
     Ok(entries)
 }
 
-/// Sorts the entries by their keys, those of a key as they stand.
+/// Sorts the entries by key. Entries of the same key keep their order.
 fn sort_by_key(entries: &mut Vec<Ranked>) -> Result<(), AllocError>
     ensures sorted { OnOk result (IsSortedByKey (λ e. e.entry.now.key) (slice_cmp nat_cmp) entries.new.items) }
     ensures stable { IsStableByKey (λ e. e.entry.now.key) (slice_cmp nat_cmp) entries.old.items entries.new.items }
@@ -111,7 +117,7 @@ fn sort_by_key(entries: &mut Vec<Ranked>) -> Result<(), AllocError>
     Ok(())
 }
 
-/// All entries, in the order of their keys, those of a key in theirs.
+/// All entries in the order of their keys. Entries of the same key keep their order.
 fn by_key<'a>(alloc: Global, shards: &'a [Vec<Entry>]) -> Result<Vec<Ranked<'a>>, AllocError>
     ensures rising { IfOk result (λ v. RiseFrom [] (map (λ e. e.entry.now) v.items)) }
     ensures parts { IfOk result (λ v. HaveSameParts (map (λ e. e.entry.now) v.items) (flat_map (λ v. v.items) shards.now)) }
@@ -121,7 +127,7 @@ fn by_key<'a>(alloc: Global, shards: &'a [Vec<Entry>]) -> Result<Vec<Ranked<'a>>
     Ok(entries)
 }
 
-/// Puts the tickets that were let through at the end, a space before each.
+/// Appends the tickets that were let through, with a space before each.
 fn put_tickets(out: &mut Vec<u8>, lets: &[Through]) -> Result<(), AllocError>
     ensures { OnOk result (out.new.items ≡ out.old.items ++ flat_map (λ t. 32 ∷ ticket_word t.ticket) lets.now) }
 {
@@ -131,7 +137,7 @@ fn put_tickets(out: &mut Vec<u8>, lets: &[Through]) -> Result<(), AllocError>
     Ok(())
 }
 
-/// Puts `let` and the tickets at the end, a space before each word; nothing where nobody was let through.
+/// Appends `let` and the tickets, with a space before each word. Appends nothing if the step let nobody through.
 #[tactic(auto, using(crate::proofs::Composed::lets_are))]
 fn put_lets(out: &mut Vec<u8>, lets: &[Through]) -> Result<(), AllocError>
     ensures { OnOk result (out.new.items ≡ out.old.items ++ spaced (lets_words (map (λ t. t.ticket) lets.now))) }
@@ -144,7 +150,7 @@ fn put_lets(out: &mut Vec<u8>, lets: &[Through]) -> Result<(), AllocError>
     Ok(())
 }
 
-/// Puts the line of this entry at the end, which is its key's step of this index.
+/// Appends the line of this entry, which is its key's step of this index.
 #[tactic(auto, using(crate::proofs::Composed::line_is))]
 fn put_line(out: &mut Vec<u8>, index: u64, entry: &Entry) -> Result<(), AllocError>
     ensures { OnOk result (out.new.items ≡ out.old.items ++ line_text (parts_of_entry index entry.now)) }
@@ -160,7 +166,7 @@ fn put_line(out: &mut Vec<u8>, index: u64, entry: &Entry) -> Result<(), AllocErr
     Ok(())
 }
 
-/// The index of a key's entry after one of that key and index.
+/// The index of an entry of `key`, if the previous entry has the key `before` and this index.
 fn next_index(before: &[u8], index: u64, key: &[u8]) -> u64
     requires { index + 1 < 2 ^ 64 }
     ensures { result ≡ next_index before.now index key.now }
@@ -168,7 +174,7 @@ fn next_index(before: &[u8], index: u64, key: &[u8]) -> u64
     if key == before { index + 1 } else { 1 }
 }
 
-/// Puts the lines of the entries at the end, which stand in the order of their keys.
+/// Appends the lines of the entries, which are sorted by key.
 fn put_lines(out: &mut Vec<u8>, entries: &[Ranked]) -> Result<(), AllocError>
     ensures { OnOk result (out.new.items ≡ out.old.items ++ flat_map line_text (lines_after [] 0 (map (λ e. e.entry.now) entries.now))) }
 {
@@ -183,12 +189,12 @@ fn put_lines(out: &mut Vec<u8>, entries: &[Ranked]) -> Result<(), AllocError>
     Ok(())
 }
 
-/// Puts the text of the histories of some shards at the end: `locks 2`, and then key after key, rising, each key's
-/// entries in the order in which they stand, shard after shard. It takes 16 bytes for each entry and as many for
-/// the sort, and time for one sort of these.
+/// Appends the text of the histories of these shards: the line `locks 2`, and then the keys in rising order, each
+/// with its entries in the order in which the shards hold them. Needs 16 bytes for each entry, the same again for
+/// the sort, and the time of one sort of the entries.
 pub fn put_histories(out: &mut Vec<u8>, shards: &[Vec<Entry>]) -> Result<(), AllocError>
     ensures text { OnOk result (PutsText out.old.items out.new.items (flat_map (λ shard. shard.items) shards.now)) }
-    // These entries have no other text.
+    // No other text is the text of these entries.
     ensures alone { OnOk result ((other : List ℕ) → IsTextOf other (flat_map (λ shard. shard.items) shards.now) → out.new.items ≡ out.old.items ++ other) }
 {
     let entries = by_key(*out.allocator(), shards)?;
@@ -197,10 +203,10 @@ pub fn put_histories(out: &mut Vec<u8>, shards: &[Vec<Entry>]) -> Result<(), All
     Ok(())
 }
 
-/// The text of the histories of some shards, as [`put_histories`] puts it.
+/// Returns the text of the histories of these shards, as [`put_histories`] writes it.
 pub fn compose(alloc: Global, shards: &[Vec<Entry>]) -> Result<Vec<u8>, AllocError>
     ensures text { IfOk result (λ text. IsTextOf text.items (flat_map (λ shard. shard.items) shards.now)) }
-    // These entries have no other text.
+    // No other text is the text of these entries.
     ensures alone { IfOk result (λ text. (other : List ℕ) → IsTextOf other (flat_map (λ shard. shard.items) shards.now) → text.items ≡ other) }
 {
     let mut text = Vec::new(alloc);

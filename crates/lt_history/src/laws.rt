@@ -1,7 +1,8 @@
-//! What the first version of the texts has to do with the second.
+//! How the first version of the texts relates to the second.
 ghost use Rattle.lt_history.specs.First.{FirstRulesHold};
 
-/// A history whose visits all have a transaction and no bound is legal exactly if it was by the rules of the first version.
+/// A history whose visits all have a transaction and no bound is legal exactly if it was legal by the rules of the
+/// first version.
 pub fn first_rules_hold()
     ensures { FirstRulesHold }
 {}

@@ -1,32 +1,34 @@
-//! Histories of keys as text: how they are written, and an exact checker of such texts.
+//! Histories of keys as text: this crate writes them, and checks such texts exactly.
 //!
-//! A history is a list of the steps that were made of a lock table, each an [`Entry`]: which key, which pass, which call,
-//! which reply, and whom the step let through. [`print`] writes the text of such lists, [`compose`] gives it in
-//! memory, and [`put_histories`] puts it behind what a vector holds; [`check`] reads a text and says whether it is one of
-//! legal histories, that is, whether the rules of one key (`lt_plain`) give each reply and each let that the text has. So
-//! whoever has a text can audit a run without the table that made it. A text of the first version is checked by the rules
-//! of its time, and [`upgrade`] makes it one of the second.
+//! A history is a list of the key steps that a lock table made. Each step is an [`Entry`]: its key, its pass, its
+//! call, its reply and the lets of the step. [`print`] writes the text of such lists to a stream, [`compose`]
+//! returns it as a vector, and [`put_histories`] appends it to a vector. [`check`] reads a text and decides whether
+//! it is the text of legal histories: the rules of one key (`lt_plain`) must give every reply and every let in it.
+//! So anybody who has the text can audit a run without the table that made it. A text of the first version is
+//! checked by the rules of that version, and [`upgrade`] turns it into a text of the second.
 //!
 //! What is promised:
 //!
-//! - `compose`, `put_histories` and `print` give the text of all entries: key after key, rising, each key's steps in their order
-//!   (`IsTextOf` in `specs/Histories.antt`). `print` writes nothing without memory, and after a write that failed a
-//!   front of the text.
-//! - `check` answers `Ok` exactly on the texts of legal histories, of either version by its own rules, with their version
-//!   and their numbers of keys and steps. Any other text is refused by its first faulty line and the first fault in it, and no text has two verdicts. Want of memory alone
-//!   can keep it from its verdict, and not where the first line is wrong or is the only one (`specs/Verdict.antt`).
-//! - `upgrade` changes the first line of a legal text and nothing else, and the text stays legal, with the same numbers.
+//! - `compose`, `put_histories` and `print` give the text of all entries: the keys in rising order, and the steps
+//!   of each key in their order (`IsTextOf` in `specs/Histories.antt`). If memory runs out, `print` writes nothing;
+//!   if a write fails, `print` has written a prefix of the text.
+//! - `check` answers `Ok` exactly for the texts of legal histories, of either version by that version's rules, and
+//!   reports the version and the numbers of keys and steps. It refuses any other text with the first faulty line
+//!   and the first fault in that line. No text has two verdicts. Only running out of memory can keep `check` from
+//!   its verdict, and that cannot happen if the first line is wrong or is the only line (`specs/Verdict.antt`).
+//! - `upgrade` changes only the first line of a legal text. The text stays legal, with the same numbers.
 //!
-//! `specs/Lines.antt` has the form of a line, `specs/Text.antt` the order of faults, `specs/Version.antt` the versions;
-//! `docs/FORMATS.md` tells the format to a stranger. `src/composer.rt` is the writer's side, `src/checker.rt` the reader's.
+//! Read next: `src/composer.rt` for the writer, `src/checker.rt` for the reader. `specs/Lines.antt` defines the
+//! form of a line, `specs/Text.antt` the faults and their order, `specs/Version.antt` the versions.
+//! `docs/FORMATS.md` describes the format for readers who do not know the project.
 #![tactic(auto)]
 
 mod checker;
 mod composer;
+mod cursor;
 mod error;
 pub mod laws;
 mod line;
-mod place;
 mod printer;
 
 pub use checker::{CheckError, Report, check, upgrade};

@@ -1,7 +1,8 @@
+//! Writes the text of histories to a stream.
 ghost use Rattle.std.specs.Prelude.{◌≡◌, ◌<◌, ◌≤◌, ◌++◌, [], OnOk, length, take, IfSome, IfNone, IfErr};
 ghost use Rattle.std.specs.Io.KnownBytes.{Appends};
 ghost use Rattle.std.specs.List.{flat_map};
-ghost use Rattle.lt_history.specs.Print.{AppendsFront, AppendsText, AppendsTextFront};
+ghost use Rattle.lt_history.specs.Print.{AppendsPrefix, AppendsText, AppendsTextPrefix};
 ghost use Rattle.lt_history.specs.declared.printer.PrintError.TheVariants.{Memory};
 
 use crate::{Entry, compose};
@@ -9,13 +10,13 @@ use std::alloc::{AllocError, Global};
 use std::io::Write;
 use thiserror::Error;
 
-/// Why histories could not be printed.
+/// Why printing the histories failed.
 #[derive(Clone, Copy, Debug, PartialEq, Eq, Drop, Error)]
 pub enum PrintError {
-    /// Nothing is written.
+    /// Nothing was written.
     #[error("out of memory")]
     Memory,
-    /// A front of the text is written: a write failed, was interrupted, or took no byte.
+    /// A prefix of the text was written: a write failed, was interrupted, or took no byte.
     #[error("the text could not be written to its end")]
     Write,
 }
@@ -28,7 +29,7 @@ impl From<AllocError> for PrintError {
     }
 }
 
-/// One write: how many bytes it took. None where it fails or takes nothing.
+/// Makes one write and returns how many bytes it took, or `None` if it failed or took no byte.
 #[tactic(auto, using(crate::proofs::Written::took_none, crate::proofs::Written::kept))]
 fn write_some<W: Write>(writer: &mut W, text: &[u8]) -> Option<usize>
     ensures some { IfSome result (λ n. 0 < n) }
@@ -43,12 +44,12 @@ fn write_some<W: Write>(writer: &mut W, text: &[u8]) -> Option<usize>
     }
 }
 
-/// Writes the text by one write after another. A write that fails, is interrupted or takes no byte ends it, and a
-/// front of the text is then written.
-#[tactic(auto, using(crate::proofs::Written::written_none, crate::proofs::Written::written_more, crate::proofs::Written::written_all, crate::proofs::Written::written_front))]
+/// Writes the text, with as many writes as it takes. A write that fails, is interrupted or takes no byte ends it; a
+/// prefix of the text is then written.
+#[tactic(auto, using(crate::proofs::Written::written_none, crate::proofs::Written::written_more, crate::proofs::Written::written_all, crate::proofs::Written::written_prefix))]
 pub fn write_out<W: Write>(writer: &mut W, text: &[u8]) -> Result<(), PrintError>
     ensures ok { OnOk result (Appends (W.contents writer.old) (W.contents writer.new) text.now) }
-    ensures err { IfErr result (λ e. (e ≡ PrintError.Write) × AppendsFront (W.contents writer.old) (W.contents writer.new) text.now) }
+    ensures err { IfErr result (λ e. (e ≡ PrintError.Write) × AppendsPrefix (W.contents writer.old) (W.contents writer.new) text.now) }
 {
     let mut rest = text;
     while !rest.is_empty() {
@@ -61,20 +62,20 @@ pub fn write_out<W: Write>(writer: &mut W, text: &[u8]) -> Result<(), PrintError
     Ok(())
 }
 
-/// Writes the text of the histories: `locks 2`, and then key after key, rising, each key's entries in their order.
-/// The text is composed before the first write, and then written by as many writes as it takes; a write that fails,
-/// is interrupted or takes no byte ends the print.
+/// Writes the text of the histories: the line `locks 2`, and then the keys in rising order, each with its entries
+/// in their order. Composes the whole text in memory before the first write, and then makes as many writes as it
+/// takes. A write that fails, is interrupted or takes no byte ends the print.
 pub fn print<W: Write>(
     alloc: Global,
     shards: &[Vec<Entry>],
     writer: &mut W,
 ) -> Result<(), PrintError>
-    // All of the text is written, and nothing else.
+    // The writer has received the whole text and nothing else.
     ensures ok { OnOk result (AppendsText (W.contents writer.old) (W.contents writer.new) (flat_map (λ shard. shard.items) shards.now)) }
-    // Without memory the writer is as it was.
+    // If memory runs out, the writer is unchanged.
     ensures memory { IfErr result (λ e. e ≡ PrintError.Memory → writer.new ≡ writer.old) }
-    // After a write that failed it holds a front of the text.
-    ensures write { IfErr result (λ e. e ≡ PrintError.Write → AppendsTextFront (W.contents writer.old) (W.contents writer.new) (flat_map (λ shard. shard.items) shards.now)) }
+    // If a write fails, the writer has received a prefix of the text.
+    ensures write { IfErr result (λ e. e ≡ PrintError.Write → AppendsTextPrefix (W.contents writer.old) (W.contents writer.new) (flat_map (λ shard. shard.items) shards.now)) }
 {
     let text = compose(alloc, shards)?;
     write_out(writer, &text)

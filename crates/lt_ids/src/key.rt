@@ -1,3 +1,6 @@
+//! What is a key, and when does one allocate? [`Key`] is the public type; `Bytes` is its storage, which no
+//! contract outside this crate mentions. `specs/Key.antt` defines which byte strings are keys and the order of the
+//! faults.
 ghost use Rattle.std.specs.Prelude.{◌≡◌, ◌==◌, ◌≤◌, length, IfOk, IsOk, IfSome, IfNone, IsNone, MatchResult, All, IsTrue, false, not, position};
 ghost use Rattle.std.specs.Ordering.{nat_cmp, as_partial_cmp};
 ghost use Rattle.std.specs.Cmp.{partial_order_from_own_ties};
@@ -13,7 +16,7 @@ use std::cmp::Ordering;
 use std::fmt::{self, Debug, Formatter, Write};
 use std::marker::Model;
 
-/// Where the bytes of a key lie, and how many they are: up to 22 in the key itself, more in an allocation.
+/// The storage of a key: its length and its bytes. Up to 22 bytes lie inline, more in an allocation.
 #[derive(Drop)]
 pub(crate) enum Bytes {
     Short(u8, [u8; 22]),
@@ -21,7 +24,7 @@ pub(crate) enum Bytes {
 }
 
 impl Bytes {
-    /// These bytes, at most 64. Up to 22 take no memory.
+    /// Stores these bytes, at most 64. Up to 22 bytes allocate nothing.
     fn from_slice(alloc: Global, bytes: &[u8]) -> Result<Bytes, AllocError>
         requires { length bytes.now ≤ 64 }
         ensures bytes { IfOk result (λ b. bytes_of b ≡ bytes.now) }
@@ -68,8 +71,8 @@ impl Bytes {
     }
 }
 
-/// The name of what is locked: 1 to 64 printable bytes of ASCII (0x21 to 0x7E), ordered by bytes. Up to 22 bytes take
-/// no memory but the key's own. In a contract it is the list of its bytes.
+/// The name of a lockable item: 1 to 64 printable ASCII bytes (0x21 to 0x7E), ordered bytewise. A key of up to 22
+/// bytes is stored inline and allocates nothing. In a contract, a key is the list of its bytes.
 #[derive(Drop)]
 pub struct Key {
     bytes: Bytes,
@@ -88,8 +91,8 @@ impl Model for Key {
 }
 
 impl Key {
-    /// The key that these bytes spell. The first fault in the order of [`IdError`] is told, and nothing but want of
-    /// memory keeps bytes without a fault from being a key. Up to 22 bytes take no memory.
+    /// The key with these bytes, or the first fault in the order of [`IdError`]. If the bytes have no other fault,
+    /// the call fails only when an allocation fails. Up to 22 bytes allocate nothing.
     pub fn from_bytes(alloc: Global, bytes: &[u8]) -> Result<Key, IdError>
         ensures fault { IfSome (key_fault bytes.now) (λ fault. result ≡ Err fault) }
         ensures key { IfNone (key_fault bytes.now) (MatchResult result (λ key. key ≡ bytes.now) (λ e. e ≡ IdError.Memory)) }
@@ -109,7 +112,7 @@ impl Key {
         Ok(Key { bytes })
     }
 
-    /// The same key again; it fails for want of memory alone. Up to 22 bytes take no memory.
+    /// A copy of this key. It fails only when an allocation fails; up to 22 bytes allocate nothing.
     pub fn copy(&self) -> Result<Key, AllocError>
         ensures same { IfOk result (λ key. key ≡ self.now) }
         ensures short { length self.now ≤ 22 → IsOk result }
@@ -132,7 +135,7 @@ impl Debug for Key {
     }
 }
 
-/// The place of the first byte that may not stand in a key.
+/// The index of the first byte that a key cannot contain.
 fn bad_byte(bytes: &[u8]) -> Option<usize>
     ensures place { result ≡ position (λ b. not (is_key_byte b)) bytes.now }
     ensures none { IfNone result (All (λ b. IsTrue (is_key_byte b)) bytes.now) }

@@ -1,14 +1,16 @@
-//! The names that every layer of the lock table speaks of.
+//! The names that every layer of the lock table uses.
 //!
-//! A [`Key`] is what is locked. A [`TxnId`] is a transaction, which reads and writes at a [`Timestamp`]. A
-//! [`Request`] is one attempt to get at some keys, for reading or for writing ([`Access`]), mostly of a transaction; its
-//! number decides who goes first. Each time that a request has to wait, the wait is named by a [`Ticket`], and a
-//! [`Through`] lets that wait go on.
+//! A [`Key`] names what is locked. A [`TxnId`] names a transaction, which reads and writes at a [`Timestamp`]. A
+//! [`Request`] is one attempt to access some keys, to read or to write ([`Access`]). It usually belongs to a
+//! transaction, and requests with smaller numbers go first. A [`Ticket`] names each wait of a request, and a
+//! [`Through`] ends that wait.
 //!
-//! A key, a transaction, a request and a ticket keep their ranges, so who is given one need not test it. A number that
-//! stands alone has the range of its Rust type and no more, as the pass of a `Through` or the parts of a timestamp.
-//! `specs/` has the ranges, the order of a key's faults and the order of timestamps; `docs/RULES.md` says what the names
-//! are for.
+//! A key, a transaction, a request and a ticket keep their ranges, so code that receives one need not check it. Any
+//! other number has only the range of its Rust type; the pass of a `Through` and the parts of a timestamp are
+//! examples.
+//!
+//! Read next: `specs/` has the ranges, the order in which a key's faults are checked and the order of timestamps.
+//! `docs/RULES.md` says what the names are for.
 #![tactic(auto)]
 
 mod error;

@@ -3,28 +3,29 @@ ghost use Rattle.lt_ids.specs.Ids.{IsNumber};
 
 use crate::{Timestamp, TxnId};
 
-/// What a request means to do with a key.
+/// What a request does with a key.
 #[derive(Clone, Copy, Debug, PartialEq, Eq)]
 pub enum Access {
     Read,
     Write,
 }
 
-/// A request, of a transaction or of none. Its number says how early it came, and the pass who makes its calls.
+/// A request, with or without a transaction. Its number orders it among the requests: a smaller number came
+/// earlier. The pass names the caller that makes its calls.
 #[derive(Clone, Copy, Debug, PartialEq, Eq)]
 pub struct Request {
     pub number: u64,
     pub txn: Option<TxnId>,
     pub ts: Timestamp,
     pub pass: u32,
-    /// The request joins the writers of a key only where they are fewer than this; 0 is no bound.
+    /// The request joins the writers of a key only if they are fewer than this. 0 means no bound.
     pub longest: u32,
     pub ghost number_in_range: { IsNumber number },
     pub ghost pass_in_range: { (1 ≤ pass) × (pass ≤ 1024) },
 }
 
 impl Request {
-    /// The request, or `None` unless its number is 1 to 2^40 - 1 and its pass 1 to 1024.
+    /// The request, or `None` unless its number is 1 to 2^40 - 1 and its pass is 1 to 1024.
     pub fn new(
         number: u64,
         txn: Option<TxnId>,

@@ -5,7 +5,8 @@ ghost use Rattle.lt_ids.specs.Ids.{Wait, value_of, same_wait, same_wait_equiv, I
 use std::fmt::{self, Debug, Formatter, Write};
 use std::marker::Model;
 
-/// Names one wait: the number of the request, and which of its waits it is, from 1. It is kept as its value.
+/// Names one wait: the number of the request, and the number of the wait among that request's waits, from 1. It is
+/// stored as a single word, its value.
 #[derive(Clone, Copy)]
 pub struct Ticket {
     value: u64,
@@ -24,8 +25,8 @@ impl Model for Ticket {
 }
 
 impl Ticket {
-    /// The ticket of this wait of this request, or `None` unless the request's number is 1 to 2^40 - 1 and the
-    /// wait's is 1 to 2^24 - 1.
+    /// The ticket of one wait of one request, or `None` unless the request's number is 1 to 2^40 - 1 and the wait
+    /// number is 1 to 2^24 - 1.
     pub fn new(number: u64, wait: u32) -> Option<Ticket>
         ensures some { IsSome result ↔ (IsNumber number × IsWaitNumber wait) }
         ensures value { IfSome result (λ t. t ≡ record { number = number; wait = wait }) }
@@ -46,7 +47,7 @@ impl Ticket {
         self.value >> 24
     }
 
-    /// Which of the request's waits it is.
+    /// The wait number, counted from 1 within the request.
     pub fn wait(self) -> u32
         ensures value { result ≡ self.wait }
         ensures range { IsWaitNumber result }
@@ -54,7 +55,7 @@ impl Ticket {
         (self.value & 0xFF_FFFF) as u32
     }
 
-    /// The ticket in one word, `number * 2^24 + wait`: never 0, and another ticket's is another.
+    /// The ticket as one word, `number * 2^24 + wait`. It is never 0, and different tickets have different values.
     pub fn value(self) -> u64
         ensures value { result ≡ value_of self }
         ensures positive { 0 < result }
@@ -85,7 +86,7 @@ impl Debug for Ticket {
     }
 }
 
-/// Lets one wait go on: which pass waits, and for what.
+/// Ends one wait: the pass that waits, and the ticket of the wait.
 #[derive(Clone, Copy, Debug, PartialEq, Eq)]
 pub struct Through {
     pub pass: u32,

@@ -6,7 +6,7 @@ ghost use Rattle.lt_ids.specs.Ids.{timestamp_cmp};
 
 use std::cmp::Ordering;
 
-/// A time at which a transaction reads or writes: ordered by `wall`, then by `logical`.
+/// A time at which a transaction reads or writes, ordered by `wall` and then by `logical`.
 #[derive(Clone, Copy, Debug, PartialEq, Eq)]
 pub struct Timestamp {
     pub wall: u64,

@@ -2,7 +2,7 @@ ghost use Rattle.std.specs.Prelude.{◌≡◌, ◌<◌, ◌↔◌, IsSome, IfSom
 
 use std::marker::Model;
 
-/// A transaction, named by a number from 1. In a contract it is that number.
+/// A transaction, named by a number from 1. In a contract, a transaction is that number.
 #[derive(Clone, Copy, Debug, PartialEq, Eq)]
 pub struct TxnId {
     number: u64,
@@ -21,7 +21,7 @@ impl Model for TxnId {
 }
 
 impl TxnId {
-    /// The transaction of this number, or `None` for 0.
+    /// The transaction with this number, or `None` for 0.
     pub fn new(number: u64) -> Option<TxnId>
         ensures some { IsSome result ↔ (0 < number) }
         ensures value { IfSome result (λ txn. txn ≡ number) }

@@ -1,4 +1,4 @@
--- Records come and go, and stands are written.
+-- Records are added and dropped, and queue entries are replaced.
 use Rattle.std.proofs.Common.{◌≡◌, ℕ, Bool, true, false, cond, Option, Some, None, List, [], refl, sym, ap, ◌∙◌, inl, inr, subst}
 use Rattle.std.specs.Prelude.{nat_eq, is_some, unwrap_or}
 use Rattle.std.specs.Option.{option_map}
@@ -12,9 +12,9 @@ use Rattle.lt_links.specs.declared.ids.Queue.{Queue}
 use Rattle.lt_links.specs.declared.ids.QueueKind.{QueueKind}
 use Rattle.lt_links.specs.declared.ids.QueueKind.TheVariants.{Writers, Readers, Reservation}
 use Rattle.lt_links.specs.Ring.{has, is_in, Path}
-use Rattle.lt_links.specs.Cells.{no_joint, head_of, queued_of, owned_of, next_of, prev_of, queued_at, owned_at, Owners}
+use Rattle.lt_links.specs.Cells.{no_joint, head_of, queue_joint, owned_of, next_of, prev_of, queued_at, owned_at, Owners}
 use Rattle.lt_links.specs.Maps.{Maps, Lists, no_lists, list_of, has_record, IsEmpty, AddsRecord, DropsRecord, SetsStand, queue, number_at}
-use Rattle.lt_links.specs.View.{maps_of, queue_of, number_of, stand_of, Links}
+use Rattle.lt_links.specs.View.{maps_of, queue_of, node_number, stand_of, Links}
 use Rattle.lt_links.proofs.Rings.{same_or_apart}
 use Rattle.lt_links.proofs.Joints.{same_queue, IsFamily-kept}
 use Rattle.lt_links.proofs.Views.{queue_is, stand_is}
@@ -28,7 +28,7 @@ no_head Writers = refl
 no_head Readers = refl
 no_head Reservation = refl
 
--- the heads of one record are written, and the ends of its queues are as before
+-- the heads of one record are replaced, and the ends of its queues are as before
 module _ (nodes : Slab Node) (heads heads' : Slab Heads) (owners : Owners) (queues : Queue → List ℕ) (numbers : ℕ → List ℕ) (links : Links nodes heads owners queues numbers) (id : ℕ) (slot : Option Heads) (writes : Updates heads heads' id slot) where
   module _ (ends : (q : Queue) → q.id ≡ id → head_of slot q.kind ≡ queued_at nodes heads q None) (there : (q : Queue) (n : ℕ) → q.id ≡ id → has n (queues q) ≡ true → is_some slot ≡ true) where
     Links-heads : Links nodes heads' owners queues numbers
@@ -97,7 +97,7 @@ module _ (nodes : Slab Node) (heads heads' : Slab Heads) (owners : Owners) (queu
       Are-links nodes nodes heads heads' owners owners queues queues numbers numbers (λ q l. l) (λ k l. l) (λ m s. s) (λ i b. cond (nat_eq i id) false b) links Links-dropped
       (λ q. refl) (λ k. refl) (λ m. refl) (records_are nodes heads heads' owners queues numbers links id None writes false refl)
 
--- another stand of the same number is written at a node
+-- the queue entry at a node is replaced by another of the same number
 module _ (nodes nodes' : Slab Node) (heads : Slab Heads) (owners : Owners) (queues : Queue → List ℕ) (numbers : ℕ → List ℕ) (links : Links nodes heads owners queues numbers) (n : ℕ) (d : Node) (s : Stand) (at : get nodes n ≡ Some d) (same : s.number ≡ d.stand.number) (writes : Updates nodes nodes' n (Some (record d { stand = s }))) where
   rest_same : {X : Type 0} (f : Option Node → X) → f (Some (record d { stand = s })) ≡ f (Some d) → (m : ℕ) → f (get nodes' m) ≡ f (get nodes m)
   rest_same f here m = elim (same_or_apart m n) [
@@ -108,15 +108,15 @@ module _ (nodes nodes' : Slab Node) (heads : Slab Heads) (owners : Owners) (queu
   pub Links-set : Links nodes' heads owners queues numbers
   Links-set = record {
     queues_linked = IsFamily-kept same_queue (queued_at nodes heads) (queued_at nodes' heads) (λ m. queue_of (get nodes m)) (λ m. queue_of (get nodes' m)) queues links.queues_linked queued_same (rest_same queue_of refl);
-    numbers_linked = IsFamily-kept same_number (owned_at nodes owners) (owned_at nodes' owners) (λ m. number_of (get nodes m)) (λ m. number_of (get nodes' m)) numbers links.numbers_linked owned_same (rest_same number_of (ap Some same));
+    numbers_linked = IsFamily-kept same_number (owned_at nodes owners) (owned_at nodes' owners) (λ m. node_number (get nodes m)) (λ m. node_number (get nodes' m)) numbers links.numbers_linked owned_same (rest_same node_number (ap Some same));
     heads_there = λ m q h. links.heads_there m q (sym (rest_same queue_of refl m) ∙ h);
-    owners_there = λ m k h. links.owners_there m k (sym (rest_same number_of (ap Some same) m) ∙ h);
+    owners_there = λ m k h. links.owners_there m k (sym (rest_same node_number (ap Some same) m) ∙ h);
     owners_needed = links.owners_needed;
   }
     where
       queued_same : (q : Queue) (a : Option ℕ) → is_in (queues q) a ≡ true → queued_at nodes' heads q a ≡ queued_at nodes heads q a
       queued_same q None h = refl
-      queued_same q (Some m) h = rest_same queued_of refl m
+      queued_same q (Some m) h = rest_same queue_joint refl m
 
       owned_same : (k : ℕ) (a : Option ℕ) → is_in (numbers k) a ≡ true → owned_at nodes' owners k a ≡ owned_at nodes owners k a
       owned_same k None h = refl
@@ -132,13 +132,13 @@ module _ (nodes nodes' : Slab Node) (heads : Slab Heads) (owners : Owners) (queu
       ])
       (λ id. refl)
 
--- The links are a matter of the heads' slots alone.
+-- The links depend only on the slots of the heads.
 pub Links-head_slots : (nodes : Slab Node) (heads heads' : Slab Heads) (owners : Owners) (queues : Queue → List ℕ) (numbers : ℕ → List ℕ) → heads'.slots ≡ heads.slots → Links nodes heads owners queues numbers → Links nodes heads' owners queues numbers
 Links-head_slots nodes heads heads' owners queues numbers e links =
     subst (λ (l : List (Option Heads)). Links nodes (record heads' { slots = l }) owners queues numbers) (sym e)
     (record { queues_linked = links.queues_linked; numbers_linked = links.numbers_linked; heads_there = links.heads_there; owners_there = links.owners_there; owners_needed = links.owners_needed })
 
--- The maps are a matter of the heads' slots alone.
+-- The maps depend only on the slots of the heads.
 pub maps-head_slots : (nodes : Slab Node) (heads heads' : Slab Heads) (owners : Owners) → heads'.slots ≡ heads.slots → maps_of nodes heads' owners ≡ maps_of nodes heads owners
 maps-head_slots nodes heads heads' owners e = λ t. maps_of nodes (record heads' { slots = e t }) owners
 

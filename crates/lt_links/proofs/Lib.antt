@@ -1,4 +1,5 @@
--- What the proofs of a table over the links may cite: facts on lists of nodes, and which queue is another.
+-- The modules that proofs of a table over the links may cite: facts on lists of nodes, and that two queues are
+-- different.
 pub mod Rings
 pub mod Steps
 -- These serve this crate alone.

@@ -1,4 +1,4 @@
--- A new node comes right behind another.
+-- A new node comes immediately after another.
 use Rattle.std.proofs.Common.{◌≡◌, ◌≢◌, ℕ, true, false, Some, refl, sym, ◌∙◌, inl, inr}
 use Rattle.lt_links.specs.declared.stand.Stand.{Stand}
 use Rattle.lt_links.specs.declared.ids.Queue.{Queue}

@@ -12,15 +12,15 @@ use Rattle.lt_links.specs.declared.stand.Stand.{Stand}
 use Rattle.lt_links.specs.declared.ids.Queue.{Queue}
 use Rattle.lt_links.specs.Ring.{has, is_in, put_after}
 use Rattle.lt_links.specs.declared.node.Joint.{Joint}
-use Rattle.lt_links.specs.Cells.{Joints, no_joint, queued_of, owned_of, unqueued, unowned, next_of, prev_of, queued_at, owned_at, Owners, ends_of, JoinsIn, IsFamily, LinksQueued, PushesOwner, FollowsLast, ends_with, HasQueued}
+use Rattle.lt_links.specs.Cells.{Joints, no_joint, queue_joint, owned_of, unqueued, unowned, next_of, prev_of, queued_at, owned_at, Owners, ends_of, JoinsIn, IsFamily, LinksQueued, PushesOwner, FollowsLast, ends_with, HasQueued}
 use Rattle.lt_links.specs.Maps.{PutsAfter, is_queue}
-use Rattle.lt_links.specs.View.{maps_of, walk, queue_of, number_of, stand_of, Links}
+use Rattle.lt_links.specs.View.{maps_of, walk, queue_of, node_number, stand_of, Links}
 use Rattle.lt_links.proofs.Rings.{same_or_apart, is_itself, prev_in, next_in, forth, put_after_last}
 use Rattle.lt_links.proofs.Joints.{same_queue, IsFamily-put_after, IsFamily-kept}
 use Rattle.lt_links.proofs.Views.{has_queue, has_number}
-use Rattle.lt_links.proofs.Steps.{queue_of-unqueued, queue_of-unowned, number_of-unqueued, number_of-unowned, stand_of-unqueued, stand_of-unowned, queued_of-unowned, owned_of-unqueued, is_some-unqueued, Are-links, none≢some, over, under, same_number, is_same, is_other}
+use Rattle.lt_links.proofs.Steps.{queue_of-unqueued, queue_of-unowned, node_number-unqueued, node_number-unowned, stand_of-unqueued, stand_of-unowned, queue_joint-unowned, owned_of-unqueued, is_some-unqueued, Are-links, none≢some, over, under, same_number, is_same, is_other}
 
--- The links are a matter of the slots alone.
+-- The links depend only on the slots.
 pub Links-slots : (nodes nodes' : Slab Node) (heads : Slab Heads) (owners : Owners) (queues : Queue → List ℕ) (numbers : ℕ → List ℕ) → nodes'.slots ≡ nodes.slots → Links nodes heads owners queues numbers → Links nodes' heads owners queues numbers
 Links-slots nodes nodes' heads owners queues numbers e links =
     subst (λ (l : List (Option Node)). Links (record nodes' { slots = l }) heads owners queues numbers) (sym e)
@@ -29,20 +29,20 @@ Links-slots nodes nodes' heads owners queues numbers e links =
 abbrev pub new_node : Stand → Queue → Node
 new_node s to = record { stand = s; queue = to; queued = no_joint; owned = no_joint }
 
--- the node is in the slab, and linked with none
+-- the node is in the slab, and has no neighbors
 module _ (nodes nodes1 : Slab Node) (heads : Slab Heads) (owners : Owners) (queues : Queue → List ℕ) (numbers : ℕ → List ℕ) (n : ℕ) (s : Stand) (to : Queue) (links : Links nodes heads owners queues numbers) (vacant : get nodes n ≡ None) (put : Updates nodes nodes1 n (Some (new_node s to))) (there : is_some (get heads to.id) ≡ true) (a : Option ℕ) (a_in : is_in (queues to) a ≡ true) where
   queued_off : (q : Queue) (m : ℕ) → has m (queues q) ≡ true → m ≢ n
   queued_off q m h e = none≢some q (sym (ap (λ i. queue_of (get nodes i)) e ∙ ap queue_of vacant) ∙ links.queues_linked.homes q m h)
 
   owned_off : (k m : ℕ) → has m (numbers k) ≡ true → m ≢ n
-  owned_off k m h e = none≢some k (sym (ap (λ i. number_of (get nodes i)) e ∙ ap number_of vacant) ∙ links.numbers_linked.homes k m h)
+  owned_off k m h e = none≢some k (sym (ap (λ i. node_number (get nodes i)) e ∙ ap node_number vacant) ∙ links.numbers_linked.homes k m h)
 
   in_slab : IsFamily (queued_at nodes1 heads) (λ m. queue_of (get nodes m)) queues
   in_slab = IsFamily-kept same_queue (queued_at nodes heads) (queued_at nodes1 heads) (λ m. queue_of (get nodes m)) (λ m. queue_of (get nodes m)) queues links.queues_linked kept (λ m. refl)
     where
       kept : (q : Queue) (a : Option ℕ) → is_in (queues q) a ≡ true → queued_at nodes1 heads q a ≡ queued_at nodes heads q a
       kept q None h = refl
-      kept q (Some m) h = ap queued_of (put.others m (queued_off q m h))
+      kept q (Some m) h = ap queue_joint (put.others m (queued_off q m h))
 
   queued_there : (b : Option ℕ) → is_in (queues to) b ≡ true → HasQueued nodes1 heads to b
   queued_there None h = there
@@ -60,8 +60,8 @@ module _ (nodes nodes1 : Slab Node) (heads : Slab Heads) (owners : Owners) (queu
     linked_same f through m =
         over (get nodes1 m) (get nodes2 m) (one.keeps.nodes_kept m) f through
 
-    in_queue : IsFamily (owned_at nodes2 owners) (λ m. number_of (get nodes m)) numbers
-    in_queue = IsFamily-kept same_number (owned_at nodes owners) (owned_at nodes2 owners) (λ m. number_of (get nodes m)) (λ m. number_of (get nodes m)) numbers links.numbers_linked kept (λ m. refl)
+    in_queue : IsFamily (owned_at nodes2 owners) (λ m. node_number (get nodes m)) numbers
+    in_queue = IsFamily-kept same_number (owned_at nodes owners) (owned_at nodes2 owners) (λ m. node_number (get nodes m)) (λ m. node_number (get nodes m)) numbers links.numbers_linked kept (λ m. refl)
       where
         kept : (k : ℕ) (a : Option ℕ) → is_in (numbers k) a ≡ true → owned_at nodes2 owners k a ≡ owned_at nodes owners k a
         kept k None h = refl
@@ -78,7 +78,7 @@ module _ (nodes nodes1 : Slab Node) (heads : Slab Heads) (owners : Owners) (queu
     pub node_in : is_some (get nodes2 n) ≡ true
     node_in = linked_same is_some is_some-unqueued n ∙ ap is_some put.changed
 
-    -- nothing follows the last, and the node is another
+    -- nothing follows the last node, which is a different node
     last_next : (owned_at nodes2 owners s.number last).next ≡ None
     last_next = ap (next_of (owned_at nodes2 owners) s.number) opens.last_is ∙ forth _ _ _ (in_queue.rings s.number) None refl
 
@@ -117,7 +117,7 @@ module _ (nodes nodes1 : Slab Node) (heads : Slab Heads) (owners : Owners) (queu
       heads_same : (id : ℕ) → is_some (get heads2 id) ≡ is_some (get heads id)
       heads_same id = one.keeps.heads_kept id
 
-      -- in between the ends lead to the node, and not yet back
+      -- in between, the ends lead to the node, but the node does not yet lead back
       abbrev between : Joints ℕ
       between k None = record (owned_at nodes2 owners k None) { next = (owned_at nodes3 owners1 k None).next }
       between k (Some m) = owned_of (get nodes3 m)
@@ -183,8 +183,8 @@ module _ (nodes nodes1 : Slab Node) (heads : Slab Heads) (owners : Owners) (queu
                 (IsFamily-put_after same_queue (queued_at nodes1 heads) (queued_at one.mid_nodes one.mid_ends) (queued_at nodes2 heads2) (λ m. queue_of (get nodes m)) (λ m. queue_of (get nodes3 m)) queues pushed_queues to a n
                 in_slab a_in (ap queue_of vacant) one.first (subst (JoinsIn (queued_at one.mid_nodes one.mid_ends) (queued_at nodes2 heads2) to (Some n)) next_is one.second) (pushed_here queue_of queue_of-unqueued queue_of-unowned) (pushed_same queue_of queue_of-unqueued queue_of-unowned) (rw (is_same to) refl) (λ q off. rw (is_other q to off) refl))
                 kept (λ m. refl);
-            numbers_linked = IsFamily-put_after same_number (owned_at nodes2 owners) between (owned_at nodes3 owners1) (λ m. number_of (get nodes m)) (λ m. number_of (get nodes3 m)) numbers pushed_numbers s.number last n
-                in_queue last_in (ap number_of vacant) first second (pushed_here number_of number_of-unqueued number_of-unowned) (pushed_same number_of number_of-unqueued number_of-unowned)
+            numbers_linked = IsFamily-put_after same_number (owned_at nodes2 owners) between (owned_at nodes3 owners1) (λ m. node_number (get nodes m)) (λ m. node_number (get nodes3 m)) numbers pushed_numbers s.number last n
+                in_queue last_in (ap node_number vacant) first second (pushed_here node_number node_number-unqueued node_number-unowned) (pushed_same node_number node_number-unqueued node_number-unowned)
                 (rw (is_itself s.number, opens.last_is) (sym (put_after_last (next_of (owned_at nodes2 owners) s.number) (prev_of (owned_at nodes2 owners) s.number) (numbers s.number) n (in_queue.rings s.number))))
                 (λ k off. elim (same_or_apart k s.number) [ inl e ↦ absurd (off e.0) | inr o ↦ rw o.1 refl ]);
             heads_there = λ m q h. heads_same q.id ∙ elim (same_or_apart m n) [
@@ -195,16 +195,16 @@ module _ (nodes nodes1 : Slab Node) (heads : Slab Heads) (owners : Owners) (queu
             ];
             owners_there = λ m k h. elim (same_or_apart m n) [
               | inl e ↦
-                  let same : Some s.number ≡ Some k = sym (pushed_here number_of number_of-unqueued number_of-unowned) ∙ ap (λ i. number_of (get nodes3 i)) (sym e.0) ∙ h in
+                  let same : Some s.number ≡ Some k = sym (pushed_here node_number node_number-unqueued node_number-unowned) ∙ ap (λ i. node_number (get nodes3 i)) (sym e.0) ∙ h in
                   number_there k (cc)
-              | inr o ↦ opened_too k (links.owners_there m k (sym (pushed_same number_of number_of-unqueued number_of-unowned m o.0) ∙ h))
+              | inr o ↦ opened_too k (links.owners_there m k (sym (pushed_same node_number node_number-unqueued node_number-unowned m o.0) ∙ h))
             ];
             owners_needed = λ k h. needed k h;
           }
         where
           kept : (q : Queue) (a : Option ℕ) → is_in (pushed_queues q) a ≡ true → queued_at nodes3 heads2 q a ≡ queued_at nodes2 heads2 q a
           kept q None h = refl
-          kept q (Some m) h = owned_same queued_of queued_of-unowned m
+          kept q (Some m) h = owned_same queue_joint queue_joint-unowned m
 
           opened_too : (k : ℕ) → is_some (ends_of owners k) ≡ true → is_some (ends_of owners1 k) ≡ true
           opened_too k h = elim (same_or_apart k s.number) [
@@ -238,7 +238,7 @@ module _ (nodes nodes1 : Slab Node) (heads : Slab Heads) (owners : Owners) (queu
           ])
           heads_same
 
--- The maps are a matter of the slots and of the entries alone.
+-- The maps depend only on the slots and the entries.
 module _ (nodes nodes' : Slab Node) (heads : Slab Heads) (owners owners' : Owners) (slots : nodes'.slots ≡ nodes.slots) (entries : owners'.entries ≡ owners.entries) where
   ends_same : (k : ℕ) → ends_of owners' k ≡ ends_of owners k
   ends_same k = ap (lookup (is_at (nat_cmp k))) entries
@@ -251,7 +251,7 @@ module _ (nodes nodes' : Slab Node) (heads : Slab Heads) (owners owners' : Owner
   Links-unchanged queues numbers links =
       Links-slots nodes nodes' heads owners' queues numbers slots (record {
         queues_linked = links.queues_linked;
-        numbers_linked = IsFamily-kept same_number (owned_at nodes owners) (owned_at nodes owners') (λ m. number_of (get nodes m)) (λ m. number_of (get nodes m)) numbers links.numbers_linked (λ k a h. owned_unchanged k a) (λ m. refl);
+        numbers_linked = IsFamily-kept same_number (owned_at nodes owners) (owned_at nodes owners') (λ m. node_number (get nodes m)) (λ m. node_number (get nodes m)) numbers links.numbers_linked (λ k a h. owned_unchanged k a) (λ m. refl);
         heads_there = links.heads_there;
         owners_there = λ m k h. ap is_some (ends_same k) ∙ links.owners_there m k h;
         owners_needed = λ k h. links.owners_needed k (ap is_some (sym (ends_same k)) ∙ h);

@@ -4,7 +4,7 @@ use Rattle.std.specs.List.{last_or}
 use Rattle.std.proofs.lemmas.Bool.Decides.{nat_tests}
 use Rattle.lt_links.specs.Ring.{has, is_in, Distinct, without, put_after, Link, Path, Ring, Joins}
 
--- two numbers are one or two
+-- two numbers are equal or different, and the test tells which
 pub same_or_apart : (m n : ℕ) → ((m ≡ n) × (nat_eq m n ≡ true)) ⊎ ((m ≢ n) × (nat_eq m n ≡ false))
 same_or_apart m n =
     elim (nat_eq m n) as (λ b. nat_eq m n ≡ b → ((m ≡ n) × (nat_eq m n ≡ true)) ⊎ ((m ≢ n) × (nat_eq m n ≡ false))) [
@@ -15,11 +15,11 @@ same_or_apart m n =
 pub is_itself : (n : ℕ) → nat_eq n n ≡ true
 is_itself n = grind (arith, nat_tests)
 
-pub same_place : (a b : Option ℕ) → (a ≡ b) ⊎ (a ≢ b)
-same_place None None = inl refl
-same_place None (Some n) = inr (λ e. cc)
-same_place (Some m) None = inr (λ e. cc)
-same_place (Some m) (Some n) = elim (same_or_apart m n) [ inl s ↦ inl (ap Some s.0) | inr d ↦ inr (λ e. d.0 (cc)) ]
+pub same_neighbours : (a b : Option ℕ) → (a ≡ b) ⊎ (a ≢ b)
+same_neighbours None None = inl refl
+same_neighbours None (Some n) = inr (λ e. cc)
+same_neighbours (Some m) None = inr (λ e. cc)
+same_neighbours (Some m) (Some n) = elim (same_or_apart m n) [ inl s ↦ inl (ap Some s.0) | inr d ↦ inr (λ e. d.0 (cc)) ]
 
 pub has-without : (m n : ℕ) (l : List ℕ) → has m (without n l) ≡ cond (nat_eq m n) false (has m l)
 has-without m n [] = grind (arith, nat_tests)
@@ -49,7 +49,7 @@ Distinct-without n (x ∷ xs) d =
       | inr e ↦ rw e.1 (rw (has-without x n xs, d.0) (elim (nat_eq x n) as (λ b. cond b false false ≡ false) [ true ↦ refl | false ↦ refl ]), Distinct-without n xs d.1)
     ]
 
--- where a number is not in a list, taking it out changes nothing
+-- removing a number that is not in a list changes nothing
 pub without_absent : (n : ℕ) (l : List ℕ) → has n l ≡ false → without n l ≡ l
 without_absent n [] h = refl
 without_absent n (x ∷ xs) h =
@@ -58,7 +58,7 @@ without_absent n (x ∷ xs) h =
       | inr e ↦ rw e.1 (ap (λ l. x ∷ l) (without_absent n xs (rw e.1 at h)))
     ]
 
--- a place on a path, counted with the one before its list
+-- a position on a path, including the one before its list
 abbrev pub OnPath : Option ℕ → List ℕ → Option ℕ → Type 0
 OnPath p l a = (a ≡ p) ⊎ ((m : ℕ) × (a ≡ Some m) × (has m l ≡ true))
 
@@ -72,7 +72,7 @@ OnPath-later : (p a : Option ℕ) (x : ℕ) (xs : List ℕ) → OnPath (Some x) 
 OnPath-later p a x xs (inl e) = inr (x, e, has_first x xs)
 OnPath-later p a x xs (inr (m, e, h)) = inr (m, e, has_later m x xs h)
 
--- the cases of a place on a path
+-- the cases of a position on a path
 OnPath-cases : (p a : Option ℕ) (x : ℕ) (xs : List ℕ) → OnPath p (x ∷ xs) a → (a ≡ p) ⊎ OnPath (Some x) xs a
 OnPath-cases p a x xs (inl e) = inl e
 OnPath-cases p a x xs (inr (m, e, h)) =
@@ -89,7 +89,7 @@ OnPath-is_in : (l : List ℕ) (a : Option ℕ) → OnPath None l a → is_in l a
 OnPath-is_in l a (inl e) = rw e refl
 OnPath-is_in l a (inr (m, e, h)) = rw e h
 
--- what follows a place on a path is in its list, or the end
+-- the successor of a position on a path is in its list, or is the end
 next_on : (next : Link) (p : Option ℕ) (l : List ℕ) (a : Option ℕ) → Path next p l → OnPath p l a → is_in l (next a) ≡ true
 next_on next p [] a path (inl e) = rw (e, path) refl
 next_on next p [] a path (inr (m, e, h)) = absurd (true≢false (sym h))
@@ -103,7 +103,7 @@ next_on next p (x ∷ xs) a path on =
     later_in None x xs h = refl
     later_in (Some m) x xs h = has_later m x xs h
 
--- each place in a list follows one on its path
+-- each position in a list follows one on its path
 before : (next : Link) (p : Option ℕ) (l : List ℕ) (b : Option ℕ) → Path next p l → is_in l b ≡ true → (a : Option ℕ) × OnPath p l a × (next a ≡ b)
 before next p [] None path h = (p, inl refl, path)
 before next p [] (Some m) path h = absurd (true≢false (sym h))
@@ -134,7 +134,7 @@ module _ (next prev : Link) (l : List ℕ) (ring : Ring next prev l) where
       let i : is_in l r.0 ≡ true = OnPath-is_in l r.0 r.1 in
       ap next (ap prev (sym r.2) ∙ ring.back r.0 i) ∙ r.2
 
--- a number is not its own neighbour
+-- a number is not its own neighbor
 next_differs : (next : Link) (p : Option ℕ) (l : List ℕ) (n : ℕ) → Path next p l → Distinct l → has n l ≡ true → next (Some n) ≢ Some n
 next_differs next p [] n path d h = absurd (true≢false (sym h))
 next_differs next p (x ∷ []) n path d h =
@@ -151,7 +151,7 @@ next_differs next p (x ∷ y ∷ ys) n path d h =
       | inr o ↦ next_differs next (Some x) (y ∷ ys) n path.1 d.1 (rw o.1 at h)
     ]
 
--- the path past a number, where what precedes it goes on to what follows it
+-- the path without a number, if its predecessor leads to its successor
 Path-without : (next next' : Link) (n : ℕ) (p : Option ℕ) (l : List ℕ) → ((a : Option ℕ) → OnPath p l a → next a ≡ Some n → next' a ≡ next (Some n)) → ((a : Option ℕ) → next a ≢ Some n → next' a ≡ next a) → Distinct l → Path next p l → Path next' p (without n l)
 Path-without next next' n p [] at else d path = else p (λ e. none≢some n (sym path ∙ e)) ∙ path
 Path-without next next' n p (x ∷ []) at else d path =
@@ -183,7 +183,7 @@ Path-without next next' n p (x ∷ y ∷ ys) at else d path =
         ]
 
 module _ (next prev next' prev' : Link) (l : List ℕ) (n : ℕ) where
-  -- A number is taken out of a ring, when what stands before it and what stands behind it are joined.
+  -- A number leaves a ring when its predecessor and its successor are joined.
   pub Ring-without : Ring next prev l → has n l ≡ true → Joins next prev next' prev' (prev (Some n)) (next (Some n)) → Ring next' prev' (without n l)
   Ring-without ring there joins =
       let p : Option ℕ = prev (Some n) in
@@ -195,7 +195,7 @@ module _ (next prev next' prev' : Link) (l : List ℕ) (n : ℕ) where
             (λ a on e. ap next' (at_p a (OnPath-is_in l a on) e) ∙ joins.next_here)
             (λ a e. joins.next_else a (λ same. e (ap next same ∙ before_n)))
             ring.distinct ring.path;
-        back = λ a i. elim (same_place a p) [
+        back = λ a i. elim (same_neighbours a p) [
           | inl e ↦ ap (λ b. prev' (next' b)) e ∙ ap prev' joins.next_here ∙ joins.prev_here ∙ sym e
           | inr apart ↦
               let was : is_in l a ≡ true = stays a i in
@@ -266,13 +266,13 @@ Distinct-put_after (Some k) n (x ∷ xs) i absent d =
           ]
     ]
 
--- a path that goes on from another place as from the first
+-- a path that starts at a different position and has the same successors
 Path-from : (next next' : Link) (p q : Option ℕ) (l : List ℕ) → next' q ≡ next p → ((m : ℕ) → has m l ≡ true → next' (Some m) ≡ next (Some m)) → Path next p l → Path next' q l
 Path-from next next' p q [] here same path = here ∙ path
 Path-from next next' p q (x ∷ xs) here same path =
     (here ∙ path.0, Path-from next next' (Some x) (Some x) xs (same x (has_first x xs)) (λ m h. same m (has_later m x xs h)) path.1)
 
--- the path through a list with a number put in
+-- the path through a list with an inserted number
 Path-put_after : (next next' : Link) (a : Option ℕ) (n : ℕ) (p : Option ℕ) (l : List ℕ) → next' (Some n) ≡ next a → next' a ≡ Some n → ((b : Option ℕ) → OnPath p l b → b ≢ a → next' b ≡ next b) → p ≢ a → ((m : ℕ) → (has m l ≡ true) → p ≢ Some m) → Distinct l → is_in l a ≡ true → a ≢ None → Path next p l → Path next' p (put_after a n l)
 Path-put_after next next' None n p l new here else off apart d i some path = absurd (some refl)
 Path-put_after next next' (Some k) n p [] new here else off apart d i some path = absurd (true≢false (sym i))
@@ -296,7 +296,7 @@ Path-put_after next next' (Some k) n p (x ∷ xs) new here else off apart d i so
     absent m x xs out there e = true≢false (sym there ∙ ap (λ k. has k xs) e ∙ out)
 
 module _ (next prev next1 prev1 next' prev' : Link) (l : List ℕ) (a : Option ℕ) (n : ℕ) where
-  -- A number is put into a ring, when it is joined to what it stands behind, and then to what that was joined to.
+  -- A number enters a ring when it is joined to its predecessor, and then to the successor that this one had.
   pub Ring-put_after : Ring next prev l → is_in l a ≡ true → has n l ≡ false → Joins next prev next1 prev1 a (Some n) → Joins next1 prev1 next' prev' (Some n) (next a) → Ring next' prev' (put_after a n l)
   Ring-put_after ring there absent one two =
       let s : Option ℕ = next a in
@@ -308,9 +308,9 @@ module _ (next prev next1 prev1 next' prev' : Link) (l : List ℕ) (a : Option �
       let n_prev : prev' (Some n) ≡ a = two.prev_else (Some n) (λ e. not_n s s_in (sym e)) ∙ one.prev_here in
       record {
         path = path_of a there n_next a_next else_next ring.path ring.distinct;
-        back = λ b i. elim (same_place b (Some n)) [
+        back = λ b i. elim (same_neighbours b (Some n)) [
           | inl e ↦ ap (λ c. prev' (next' c)) e ∙ ap prev' n_next ∙ two.prev_here ∙ sym e
-          | inr not ↦ elim (same_place b a) [
+          | inr not ↦ elim (same_neighbours b a) [
             | inl e ↦ ap (λ c. prev' (next' c)) e ∙ ap prev' a_next ∙ n_prev ∙ sym e
             | inr off ↦
                 let was : is_in l b ≡ true = stays b not i in
@@ -348,7 +348,7 @@ put_last next p (x ∷ y ∷ ys) m n path last h =
       | inr o ↦ rw o.1 (ap (λ l. x ∷ l) (put_last next (Some x) (y ∷ ys) m n path.1 last (rw o.1 at h)))
     ]
 
--- behind the last of a ring is at its end
+-- inserting after the last number of a ring appends to its list
 pub put_after_last : (next prev : Link) (l : List ℕ) (n : ℕ) → Ring next prev l → put_after (prev None) n l ≡ l ++ n ∷ []
 put_after_last next prev l n ring = by_case (prev None) (forth next prev l ring None refl) (prev_in next prev l ring None refl)
   where
@@ -360,7 +360,7 @@ put_after_last next prev l n ring = by_case (prev None) (forth next prev l ring 
         empty (x ∷ xs) path = absurd (none≢some x (sym last ∙ path.0))
     by_case (Some m) last h = put_last next None l m n ring.path last h
 
--- a number with no neighbours is alone in its list
+-- a number with no neighbors is alone in its list
 pub alone : (next prev : Link) (l : List ℕ) (n m : ℕ) → Ring next prev l → has n l ≡ true → prev (Some n) ≡ None → next (Some n) ≡ None → has m l ≡ true → m ≡ n
 alone next prev l n m ring there before after h = by_case l ring.path h
   where
@@ -377,7 +377,7 @@ alone next prev l n m ring there before after h = by_case l ring.path h
         let e : Some x ≡ Some n = sym path.0 ∙ first in
         absurd (none≢some y (sym after ∙ ap next (sym e) ∙ path.1.0))
 
--- a number with a neighbour is not alone in its list
+-- a number with a neighbor is not alone in its list
 pub not_alone : (next prev : Link) (l : List ℕ) (n : ℕ) → Ring next prev l → has n l ≡ true → (prev (Some n) ≡ None → next (Some n) ≡ None → ⊥) → without n l ≢ []
 not_alone next prev l n ring there neighbour e = neighbour (end (prev (Some n)) (prev_in next prev l ring (Some n) there) before) (end (next (Some n)) (next_in next prev l ring (Some n) there) behind)
   where
@@ -394,7 +394,7 @@ not_alone next prev l n ring there neighbour e = neighbour (end (prev (Some n)) 
       | inr o ↦ absurd (true≢false (sym (rw (has-without m n l, o.1) (h)) ∙ ap (has m) e))
     ]
 
--- a list that a number is not in has no place behind it
+-- inserting after a number that is not in a list changes nothing
 pub put_after_absent : (m n : ℕ) (l : List ℕ) → has m l ≡ false → put_after (Some m) n l ≡ l
 put_after_absent m n [] h = refl
 put_after_absent m n (x ∷ xs) h =
@@ -403,7 +403,7 @@ put_after_absent m n (x ∷ xs) h =
       | inr o ↦ rw o.1 (ap (λ l. x ∷ l) (put_after_absent m n xs (rw o.1 at h)))
     ]
 
--- the last before a place of a path, and the place
+-- the last number before a position of a path is on the path
 last_on : (p : Option ℕ) (xs rest : List ℕ) → OnPath p (xs ++ rest) (last_or p xs)
 last_on p [] rest = inl refl
 last_on p (x ∷ xs) rest = OnPath-later p (last_or (Some x) xs) x (xs ++ rest) (last_on (Some x) xs rest)
@@ -412,12 +412,12 @@ next_last : (next : Link) (p : Option ℕ) (xs rest : List ℕ) → Path next p 
 next_last next p [] rest path = path
 next_last next p (x ∷ xs) rest path = next_last next (Some x) xs rest path.1
 
--- what precedes a number in a ring
+-- the predecessor of a number in a ring
 pub prev_behind : (next prev : Link) (xs ys : List ℕ) (n : ℕ) → Ring next prev (xs ++ n ∷ ys) → prev (Some n) ≡ last_or None xs
 prev_behind next prev xs ys n ring =
     ap prev (sym (next_last next None xs (n ∷ ys) ring.path).0) ∙ ring.back (last_or None xs) (OnPath-is_in (xs ++ n ∷ ys) (last_or None xs) (last_on None xs (n ∷ ys)))
 
--- what precedes the end of a ring
+-- the predecessor of the end of a ring
 pub prev_end : (next prev : Link) (l : List ℕ) → Ring next prev l → prev None ≡ last_or None l
 prev_end next prev l ring =
     ap prev (sym (end None l ring.path)) ∙ ring.back (last_or None l) (OnPath-is_in l (last_or None l) (on None l))

@@ -1,4 +1,4 @@
--- What the links say of the maps.
+-- What the links show about the maps.
 use Rattle.std.proofs.Common.{◌≡◌, ℕ, true, Option, Some, None, List, [], ◌∷◌, ◌++◌, refl, sym, ap, ◌∙◌, subst, get_or, unwrap_or}
 use Rattle.std.specs.Ordering.{nat_cmp}
 use Rattle.std.specs.BTreeMap.{is_at}
@@ -11,16 +11,16 @@ use Rattle.lt_links.specs.declared.node.Heads.{Heads}
 use Rattle.lt_links.specs.declared.stand.Stand.{Stand}
 use Rattle.lt_links.specs.declared.ids.Queue.{Queue}
 use Rattle.lt_links.specs.Ring.{has, is_in, Distinct, Link, Path, Ring}
-use Rattle.lt_links.specs.Cells.{next_of, prev_of, queued_of, owned_of, queued_at, owned_at, Owners, head_of, no_joint}
+use Rattle.lt_links.specs.Cells.{next_of, prev_of, queue_joint, owned_of, queued_at, owned_at, Owners, head_of, no_joint}
 use Rattle.lt_links.specs.Maps.{Maps, queue, owned, HasNode, IsSound}
-use Rattle.lt_links.specs.View.{maps_of, queue_of, number_of, stand_of, Links, IsLinked}
+use Rattle.lt_links.specs.View.{maps_of, queue_of, node_number, stand_of, Links, IsLinked}
 use Rattle.lt_links.proofs.Views.{stand_is, record_is, number_is, queue_is, owned_is, has_queue}
 use Rattle.lt_links.proofs.Rings.{prev_behind, prev_end, next_in, prev_in}
 use Rattle.lt_links.proofs.Steps.{node_there}
 use Rattle.std.specs.List.{last_or}
 use mathlib.Core.Bool.{true≢false}
 
--- what follows on a path
+-- the successor on a path
 pub next_on_path : (next : Link) (p : Option ℕ) (l : List ℕ) → Path next p l → next p ≡ slice_get l 0
 next_on_path next p [] path = path
 next_on_path next p (x ∷ xs) path = path.0
@@ -49,17 +49,17 @@ module _ (nodes : Slab Node) (heads : Slab Heads) (owners : Owners) (queues : Qu
       by_case None e = absurd (cc)
       by_case (Some d) e = (d.queue, refl)
 
-  number_stands : (n k : ℕ) → number_of (get nodes n) ≡ Some k → (s : Stand) × (stand_of (get nodes n) ≡ Some s) × (s.number ≡ k)
+  number_stands : (n k : ℕ) → node_number (get nodes n) ≡ Some k → (s : Stand) × (stand_of (get nodes n) ≡ Some s) × (s.number ≡ k)
   number_stands n k h = by_case (get nodes n) h
     where
-      by_case : (o : Option Node) → number_of o ≡ Some k → (s : Stand) × (stand_of o ≡ Some s) × (s.number ≡ k)
+      by_case : (o : Option Node) → node_number o ≡ Some k → (s : Stand) × (stand_of o ≡ Some s) × (s.number ≡ k)
       by_case None e = absurd (cc)
       by_case (Some d) e = (d.stand, refl, cc)
 
-  stand_numbers : (n : ℕ) (s : Stand) → stand_of (get nodes n) ≡ Some s → number_of (get nodes n) ≡ Some s.number
+  stand_numbers : (n : ℕ) (s : Stand) → stand_of (get nodes n) ≡ Some s → node_number (get nodes n) ≡ Some s.number
   stand_numbers n s h = by_case (get nodes n) h
     where
-      by_case : (o : Option Node) → stand_of o ≡ Some s → number_of o ≡ Some s.number
+      by_case : (o : Option Node) → stand_of o ≡ Some s → node_number o ≡ Some s.number
       by_case None e = absurd (cc)
       by_case (Some d) e = let same : d.stand ≡ s = cc in ap (λ (r : Stand). Some r.number) same
 
@@ -83,7 +83,7 @@ module _ (nodes : Slab Node) (heads : Slab Heads) (owners : Owners) (queues : Qu
       there None e = absurd (cc)
       there (Some d) e = refl
 
-  -- what a queue or a number's list leads to is there
+  -- the positions to which a queue or a number's list leads have a node
   queued_there : (q : Queue) (a : Option ℕ) → is_in (queues q) a ≡ true → IfSome a (HasNode maps)
   queued_there q None i = tt
   queued_there q (Some m) i = IsSound-links.queued_there q m (ap (has m) (q_is q) ∙ i)
@@ -106,24 +106,24 @@ module _ (nodes : Slab Node) (heads : Slab Heads) (owners : Owners) (queues : Qu
     in_queue = links.queues_linked.housed d.queue n (ap queue_of at)
 
     pub next_there : IfSome d.queued.next (HasNode maps)
-    next_there = subst (λ (j : Joint). IfSome j.next (HasNode maps)) (ap queued_of at) (queued_there d.queue _ (next_in _ _ _ (links.queues_linked.rings d.queue) (Some n) in_queue))
+    next_there = subst (λ (j : Joint). IfSome j.next (HasNode maps)) (ap queue_joint at) (queued_there d.queue _ (next_in _ _ _ (links.queues_linked.rings d.queue) (Some n) in_queue))
 
     pub prev_there : IfSome d.queued.prev (HasNode maps)
-    prev_there = subst (λ (j : Joint). IfSome j.prev (HasNode maps)) (ap queued_of at) (queued_there d.queue _ (prev_in _ _ _ (links.queues_linked.rings d.queue) (Some n) in_queue))
+    prev_there = subst (λ (j : Joint). IfSome j.prev (HasNode maps)) (ap queue_joint at) (queued_there d.queue _ (prev_in _ _ _ (links.queues_linked.rings d.queue) (Some n) in_queue))
 
     pub owner_next_there : IfSome d.owned.next (HasNode maps)
-    owner_next_there = subst (λ (j : Joint). IfSome j.next (HasNode maps)) (ap owned_of at) (owned_there d.stand.number _ (next_in _ _ _ (links.numbers_linked.rings d.stand.number) (Some n) (links.numbers_linked.housed d.stand.number n (ap number_of at))))
+    owner_next_there = subst (λ (j : Joint). IfSome j.next (HasNode maps)) (ap owned_of at) (owned_there d.stand.number _ (next_in _ _ _ (links.numbers_linked.rings d.stand.number) (Some n) (links.numbers_linked.housed d.stand.number n (ap node_number at))))
 
-  -- a node's neighbour in its queue
+  -- a node's neighbor in its queue
   pub next_of_node : (n : ℕ) (d : Node) → get nodes n ≡ Some d → (q : Queue) (xs ys : List ℕ) → queue maps q ≡ xs ++ n ∷ ys → d.queued.next ≡ slice_get ys 0
   next_of_node n d at q xs ys e =
-      ap (λ o. (queued_of o).next) (sym at)
+      ap (λ o. (queue_joint o).next) (sym at)
       ∙ next_behind (next_of (queued_at nodes heads) q) None xs ys n
       (subst (λ l. Path (next_of (queued_at nodes heads) q) None l) (sym (q_is q) ∙ e) (links.queues_linked.rings q).path)
 
   pub prev_of_node : (n : ℕ) (d : Node) → get nodes n ≡ Some d → (q : Queue) (xs ys : List ℕ) → queue maps q ≡ xs ++ n ∷ ys → d.queued.prev ≡ last_or None xs
   prev_of_node n d at q xs ys e =
-      ap (λ o. (queued_of o).prev) (sym at)
+      ap (λ o. (queue_joint o).prev) (sym at)
       ∙ prev_behind (next_of (queued_at nodes heads) q) (prev_of (queued_at nodes heads) q) xs ys n
       (subst (Ring (next_of (queued_at nodes heads) q) (prev_of (queued_at nodes heads) q)) (sym (q_is q) ∙ e) (links.queues_linked.rings q))
 
@@ -145,7 +145,7 @@ module _ (nodes : Slab Node) (heads : Slab Heads) (owners : Owners) (queues : Qu
   pub owner_first_is : (k : ℕ) → (owned_at nodes owners k None).next ≡ slice_get (owned maps k) 0
   owner_first_is k = next_on_path (next_of (owned_at nodes owners) k) None (numbers k) (links.numbers_linked.rings k).path ∙ ap (λ l. slice_get l 0) (sym (k_is k))
 
--- with no nodes each list is empty
+-- if there are no nodes, each list is empty
 pub IsLinked-none : (nodes : Slab Node) (heads : Slab Heads) (owners : Owners) → nodes.slots ≡ [] → heads.slots ≡ [] → owners.entries ≡ [] → IsLinked nodes heads owners
 IsLinked-none nodes heads owners n h o =
     record {
@@ -174,8 +174,8 @@ IsLinked-none nodes heads owners n h o =
     no_node : (m : ℕ) (q : Queue) → queue_of (get nodes m) ≡ Some q → ⊥
     no_node m q e = let f : None ≡ Some q = sym (ap queue_of (no_slot m)) ∙ e in cc
 
-    no_number : (m k : ℕ) → number_of (get nodes m) ≡ Some k → ⊥
-    no_number m k e = let f : None ≡ Some k = sym (ap number_of (no_slot m)) ∙ e in cc
+    no_number : (m k : ℕ) → node_number (get nodes m) ≡ Some k → ⊥
+    no_number m k e = let f : None ≡ Some k = sym (ap node_number (no_slot m)) ∙ e in cc
 
     no_head : (q : Queue) → (queued_at nodes heads q None).next ≡ None
     no_head q = ap (λ l. (head_of (get_or l q.id None) q.kind).next) h

@@ -19,7 +19,7 @@ use Rattle.lt_links.specs.declared.ids.QueueKind.TheVariants.{Writers, Readers, 
 use Rattle.lt_links.specs.Ring.{has, Distinct, without, Link, Path}
 use Rattle.lt_links.specs.Cells.{no_joint, head_of, Joints, next_of, queued_at, owned_at, Owners, ends_of, IsFamily}
 use Rattle.lt_links.specs.Maps.{Maps, no_lists, list_of, queue, owned, stand, has_record, has_list}
-use Rattle.lt_links.specs.View.{walk, list_at, lists_at, maps_of, queue_of, number_of, stand_of, Links}
+use Rattle.lt_links.specs.View.{walk, list_at, lists_at, maps_of, queue_of, node_number, stand_of, Links}
 use Rattle.lt_links.proofs.Rings.{same_or_apart, has-without, without_absent, Distinct-without}
 
 -- a walk along a path goes through its list
@@ -57,7 +57,7 @@ untied : (a b : ℕ) → a ≢ b → eq_by_cmp nat_cmp a b ≡ false
 untied a b e = grind (arith, nat_tests)
 
 module _ {V X : Type 0} (g : ℕ → V → X) where
-  -- the value that is made of a slot's
+  -- the value that is made from the value of a slot
   abbrev mapped : ℕ → Option V → Option X
   mapped k None = None
   mapped k (Some v) = Some (g k v)
@@ -82,7 +82,7 @@ module _ {V X : Type 0} (g : ℕ → V → X) where
   pub get_slot : (s : Slab V) (k : ℕ) → map.get (from_entries {R = nat_cmp} (at_keys (entries s))) k ≡ mapped k (get s k)
   get_slot s k = get-from_entries nat_cmp_total (at_keys (entries s)) k ∙ find_slot k zero k s.slots (omega arith)
 
-  -- the same of a tree's entries
+  -- the same for the entries of a tree
   find_entry : (k : ℕ) (es : List (ℕ × V)) → find nat_cmp k (at_keys es) ≡ mapped k (find nat_cmp k es)
   find_entry k [] = refl
   find_entry k (e ∷ es) =
@@ -133,7 +133,7 @@ module _ (nodes : Slab Node) (heads : Slab Heads) (owners : Owners) where
         let room = length_bounded (length nodes.slots) (lists k) (family.rings k).distinct (λ m h. ContainsKey-within nodes m (housed m k (family.homes k m h))) in
         walk_path (next_of joints k) (length nodes.slots) None (lists k) (family.rings k).path room
 
-    -- where the ends lead nowhere, the list is empty
+    -- if the ends lead nowhere, the list is empty
     nothing_is : (k : K) → joints k None ≡ no_joint → lists k ≡ []
     nothing_is k e = by_case (lists k) (family.rings k).path
       where
@@ -152,10 +152,10 @@ module _ (nodes : Slab Node) (heads : Slab Heads) (owners : Owners) where
         by_case None e = absurd (cc)
         by_case (Some d) e = refl
 
-    pub has_number : (n k : ℕ) → number_of (get nodes n) ≡ Some k → is_some (get nodes n) ≡ true
+    pub has_number : (n k : ℕ) → node_number (get nodes n) ≡ Some k → is_some (get nodes n) ≡ true
     has_number n k h = by_case (get nodes n) h
       where
-        by_case : (o : Option Node) → number_of o ≡ Some k → is_some o ≡ true
+        by_case : (o : Option Node) → node_number o ≡ Some k → is_some o ≡ true
         by_case None e = absurd (cc)
         by_case (Some d) e = refl
 

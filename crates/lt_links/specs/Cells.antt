@@ -1,4 +1,4 @@
--- What the slabs' nodes and the ends of the lists say of neighbours.
+-- The neighbors that the nodes in the slab and the ends of the lists store, and the changes to them.
 use Rattle.std.specs.Prelude.{◌≡◌, ◌≢◌, ◌⊎◌, ℕ, true, false, Option, Some, None, is_some, List, unwrap_or}
 use Rattle.std.specs.Ordering.{nat_cmp}
 use Rattle.std.specs.BTreeMap as tree
@@ -29,26 +29,26 @@ abbrev pub head_of : Option Heads → QueueKind → Joint
 head_of None kind = no_joint
 head_of (Some h) kind = head_at h kind
 
-abbrev pub queued_of : Option Node → Joint
-queued_of None = no_joint
-queued_of (Some d) = d.queued
+abbrev pub queue_joint : Option Node → Joint
+queue_joint None = no_joint
+queue_joint (Some d) = d.queued
 
--- a node but for its neighbours in its queue
+-- a node without its neighbors in its queue
 abbrev pub unqueued : Option Node → Option Node
 unqueued None = None
 unqueued (Some d) = Some (record d { queued = no_joint })
 
--- what stands beside a node in its queue, and at the ends of a queue
+-- the neighbors of a node in its queue, or the ends of a queue
 abbrev pub queued_at : Slab Node → Slab Heads → Queue → Option ℕ → Joint
 queued_at nodes heads q None = head_of (get heads q.id) q.kind
-queued_at nodes heads q (Some n) = queued_of (get nodes n)
+queued_at nodes heads q (Some n) = queue_joint (get nodes n)
 
--- the place has a joint
+-- the position exists
 abbrev pub HasQueued : Slab Node → Slab Heads → Queue → Option ℕ → Type 0
 HasQueued nodes heads q None = is_some (get heads q.id) ≡ true
 HasQueued nodes heads q (Some n) = is_some (get nodes n) ≡ true
 
--- for each list of a family, what stands beside each place
+-- for each list of a family, the neighbors of each position
 abbrev pub Joints : Type 0 → Type 0
 Joints K = K → Option ℕ → Joint
 
@@ -59,29 +59,29 @@ module _ {K : Type 0} where
   abbrev pub prev_of : Joints K → K → Link
   prev_of joints k a = (joints k a).prev
 
-  -- one joint is written, and nothing else changes
+  -- one joint is replaced, and nothing else changes
   pub record Sets (old new : Joints K) (k : K) (at : Option ℕ) (j : Joint) : Type 0 where
     pub here : new k at ≡ j
     pub others : (i : K) (a : Option ℕ) → (a ≢ at) ⊎ ((a ≡ None) × (i ≢ k)) → new i a ≡ old i a
 
-  -- two places of a list are made neighbours
+  -- two positions of a list become neighbors
   pub record JoinsIn (old new : Joints K) (k : K) (p s : Option ℕ) : Type 0 where
     pub here : Joins (next_of old k) (prev_of old k) (next_of new k) (prev_of new k) p s
     pub elsewhere : (i : K) → i ≢ k → (a : Option ℕ) → ((a ≢ p) × (a ≢ s)) ⊎ (a ≡ None) → new i a ≡ old i a
 
-  -- of the nodes, and what a family keeps beside them, which is written in what is said below
+  -- the same changes, stated of the nodes and of the ends that a family keeps
   module _ {E : Type 0} (joints : Slab Node → E → Joints K) (Keeps : Slab Node → E → Slab Node → E → Type 0) (nodes : Slab Node) (ends : E) (nodes' : Slab Node) (ends' : E) where
-    -- one joint is written
+    -- one joint is replaced
     pub record SetsJoint (k : K) (at : Option ℕ) (j : Joint) : Type 0 where
       pub sets : Sets (joints nodes ends) (joints nodes' ends') k at j
       pub keeps : Keeps nodes ends nodes' ends'
 
-    -- two places of a list are made neighbours
+    -- two positions of a list become neighbors
     pub record JoinsPlaces (k : K) (p s : Option ℕ) : Type 0 where
       pub joins : JoinsIn (joints nodes ends) (joints nodes' ends') k p s
       pub keeps : Keeps nodes ends nodes' ends'
 
-    -- a node comes into a list, between two places
+    -- a node comes into a list, between two positions
     pub record LinksNode (k : K) (at next : Option ℕ) (n : ℕ) : Type 0 where
       pub mid_nodes : Slab Node
       pub mid_ends : E
@@ -92,7 +92,7 @@ module _ {K : Type 0} where
   abbrev pub IsFamily : Joints K → (ℕ → Option K) → (K → List ℕ) → Type 0
   IsFamily joints home lists = Family (next_of joints) (prev_of joints) home lists
 
--- but for neighbours in queues nothing changed
+-- only neighbors in queues have changed
 pub record KeepsQueued (nodes : Slab Node) (heads : Slab Heads) (nodes' : Slab Node) (heads' : Slab Heads) : Type 0 where
   pub nodes_kept : (n : ℕ) → unqueued (get nodes' n) ≡ unqueued (get nodes n)
   pub heads_kept : (id : ℕ) → is_some (get heads' id) ≡ is_some (get heads id)
@@ -107,7 +107,7 @@ abbrev pub owned_of : Option Node → Joint
 owned_of None = no_joint
 owned_of (Some d) = d.owned
 
--- a node but for its neighbours in its number's list
+-- a node without its neighbors in its number's list
 abbrev pub unowned : Option Node → Option Node
 unowned None = None
 unowned (Some d) = Some (record d { owned = no_joint })
@@ -118,7 +118,7 @@ Owners = BTreeMap ℕ Joint
 abbrev pub ends_of : Owners → ℕ → Option Joint
 ends_of owners number = tree.get nat_cmp owners number
 
--- what stands beside a node in its number's list, and at the ends of such a list
+-- the neighbors of a node in its number's list, or the ends of such a list
 abbrev pub owned_at : Slab Node → Owners → ℕ → Option ℕ → Joint
 owned_at nodes owners number None = unwrap_or (ends_of owners number) no_joint
 owned_at nodes owners number (Some n) = owned_of (get nodes n)
@@ -127,23 +127,23 @@ abbrev pub HasOwned : Slab Node → Owners → ℕ → Option ℕ → Type 0
 HasOwned nodes owners number None = is_some (ends_of owners number) ≡ true
 HasOwned nodes owners number (Some n) = is_some (get nodes n) ≡ true
 
--- but for neighbours in the numbers' lists nothing changed
+-- only neighbors in the numbers' lists have changed
 pub record KeepsOwned (nodes : Slab Node) (owners : Owners) (nodes' : Slab Node) (owners' : Owners) : Type 0 where
   pub nodes_kept : (n : ℕ) → unowned (get nodes' n) ≡ unowned (get nodes n)
   pub owners_kept : (number : ℕ) → is_some (ends_of owners' number) ≡ is_some (ends_of owners number)
 
--- the ends of a number's list with a node behind the last, where there is one
+-- the ends of a number's list with a node after the last one, if there is one
 abbrev pub ends_with : ℕ → Option ℕ → Joint → Joint
 ends_with n None ends = record { prev = Some n; next = Some n }
 ends_with n (Some last) ends = record ends { prev = Some n }
 
--- A node becomes the last of a number's list, which comes about if there is none. This is the last before it.
+-- A node becomes the last of a number's list, which is created if there is none. `last` is the previous last node.
 pub record PushesOwner (owners owners' : Owners) (number : ℕ) (last : Option ℕ) (n : ℕ) : Type 0 where
   pub last_is : last ≡ (unwrap_or (ends_of owners number) no_joint).prev
   pub ends : ends_of owners' number ≡ Some (ends_with n last (unwrap_or (ends_of owners number) no_joint))
   pub others : (k : ℕ) → k ≢ number → ends_of owners' k ≡ ends_of owners k
 
--- a node and the last before it, if there is one, are made neighbours
+-- a node and the previous last node, if there is one, become neighbors
 pub record FollowsLast (nodes nodes' : Slab Node) (last : Option ℕ) (n : ℕ) : Type 0 where
   pub nodes_kept : (m : ℕ) → unowned (get nodes' m) ≡ unowned (get nodes m)
   pub next_here : (l : ℕ) → last ≡ Some l → (owned_of (get nodes' l)).next ≡ Some n
@@ -151,7 +151,8 @@ pub record FollowsLast (nodes nodes' : Slab Node) (last : Option ℕ) (n : ℕ) 
   pub prev_here : (owned_of (get nodes' n)).prev ≡ last
   pub prev_else : (m : ℕ) → m ≢ n → (owned_of (get nodes' m)).prev ≡ (owned_of (get nodes m)).prev
 
--- A node's neighbours in its number's list are joined. Where it has none, the number's list is gone.
+-- The neighbors of a node in its number's list are joined. If the node has no neighbors, the number's list is
+-- dropped.
 pub record UnlinksOwned (nodes : Slab Node) (owners : Owners) (nodes' : Slab Node) (owners' : Owners) (number : ℕ) (p s : Option ℕ) : Type 0 where
   pub joins : JoinsIn (owned_at nodes owners) (owned_at nodes' owners') number p s
   pub nodes_kept : (n : ℕ) → unowned (get nodes' n) ≡ unowned (get nodes n)

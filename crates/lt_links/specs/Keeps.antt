@@ -1,4 +1,5 @@
--- What is kept is kept by two changes, one after the other, and places that are there stay there.
+-- Two facts about `KeepsQueued` and `KeepsOwned`: they are transitive, and every position that exists still exists
+-- afterwards.
 use Rattle.std.specs.Prelude.{◌≡◌, ℕ, Option, Some, None, is_some, refl}
 use Rattle.std.proofs.Common.{◌∙◌, sym, ap}
 use Rattle.slab.specs.Slab.{Slab, get}

@@ -1,4 +1,4 @@
--- What a contract sees of `Links`: three maps.
+-- The three maps that a contract sees of `Links`, and the effect of each call on them.
 use Rattle.std.specs.Prelude.{◌≡◌, ◌≢◌, ℕ, Bool, true, false, cond, nat_eq, List, [], ◌∷◌, ◌++◌, Option, Some, None, unwrap_or, is_some, refl}
 use Rattle.std.specs.Ordering.{nat_cmp}
 use Rattle.std.specs.Option.{option_map}
@@ -21,7 +21,7 @@ pub record Lists : Type 0 where
 abbrev pub no_lists : Lists
 no_lists = record { writers = []; readers = []; reservation = [] }
 
--- each record's queues, each number's nodes, and each node's stand
+-- the queues of each record, the nodes of each number, and the queue entry of each node
 pub record Maps : Type 0 where
   pub records : FinMap nat_cmp Lists
   pub numbers : FinMap nat_cmp (List ℕ)
@@ -43,21 +43,21 @@ queue m q = list_of (unwrap_or (map.get m.records q.id) no_lists) q.kind
 abbrev pub owned : Maps → ℕ → List ℕ
 owned m number = unwrap_or (map.get m.numbers number) []
 
--- what stands at a node
+-- the queue entry at a node
 abbrev pub stand : Maps → ℕ → Option Stand
 stand m n = map.get m.stands n
 
 abbrev pub has_record : Maps → ℕ → Bool
 has_record m id = is_some (map.get m.records id)
 
--- the number has a list
+-- whether the number has a list
 abbrev pub has_list : Maps → ℕ → Bool
 has_list m k = is_some (map.get m.numbers k)
 
 abbrev pub HasNode : Maps → ℕ → Type 0
 HasNode m n = is_some (stand m n) ≡ true
 
--- the number of the stand at a node
+-- the number of the queue entry at a node
 abbrev pub number_at : Maps → ℕ → Option ℕ
 number_at m n = option_map (λ (s : Stand). s.number) (stand m n)
 
@@ -70,7 +70,7 @@ is_kind a b = false
 abbrev pub is_queue : Queue → Queue → Bool
 is_queue p q = cond (nat_eq p.id q.id) (is_kind p.kind q.kind) false
 
--- What the maps say of each queue, each number, each node and each record.
+-- The contents of the maps, as one function each for queues, numbers, nodes and records.
 pub record Are (m : Maps) (queues : Queue → List ℕ) (numbers : ℕ → List ℕ) (stands : ℕ → Option Stand) (records : ℕ → Bool) : Type 0 where
   pub queues_are : (q : Queue) → queue m q ≡ queues q
   pub numbers_are : (number : ℕ) → owned m number ≡ numbers number
@@ -81,52 +81,52 @@ pub record Are (m : Maps) (queues : Queue → List ℕ) (numbers : ℕ → List 
 abbrev pub IsEmpty : Maps → ℕ → Type 0
 IsEmpty m id = (kind : QueueKind) → queue m (record { id = id; kind = kind }) ≡ []
 
--- a record more, and nothing else changes
+-- one record is added, and nothing else changes
 abbrev pub AddsRecord : Maps → Maps → ℕ → Type 0
 AddsRecord old new id = Are new (queue old) (owned old) (stand old) (λ i. cond (nat_eq i id) true (has_record old i))
 
--- a record less, and nothing else changes
+-- one record is dropped, and nothing else changes
 abbrev pub DropsRecord : Maps → Maps → ℕ → Type 0
 DropsRecord old new id = Are new (queue old) (owned old) (stand old) (λ i. cond (nat_eq i id) false (has_record old i))
 
--- the stands, with another at one node
+-- the queue entries, with this one at node n
 abbrev pub with_stand : Maps → ℕ → Stand → ℕ → Option Stand
 with_stand m n s i = cond (nat_eq i n) (Some s) (stand m i)
 
--- the numbers' lists, with a node last in the list of one number
+-- the numbers' lists, with a node at the end of the list of one number
 abbrev pub with_last : Maps → ℕ → ℕ → ℕ → List ℕ
 with_last m number n k = cond (nat_eq k number) (owned m k ++ n ∷ []) (owned m k)
 
--- a new node comes into a queue, behind a place of it, and last into its number's list
+-- a new node comes into a queue, after a position of it, and to the end of its number's list
 abbrev pub PutsAfter : Maps → Maps → Queue → Option ℕ → ℕ → Stand → Type 0
 PutsAfter old new to at n s =
     Are new (λ q. cond (is_queue q to) (put_after at n (queue old q)) (queue old q)) (with_last old s.number n) (with_stand old n s) (has_record old)
 
--- a new node comes to the front of a queue, and last into its number's list
+-- a new node comes to the front of a queue, and to the end of its number's list
 abbrev pub PushesFront : Maps → Maps → ℕ → Queue → Stand → Type 0
 PushesFront old new n to s =
     Are new (λ q. cond (is_queue q to) (n ∷ queue old q) (queue old q)) (with_last old s.number n) (with_stand old n s) (has_record old)
 
--- a new node comes right behind another in its queue, and last into its number's list
+-- a new node comes immediately after another in its queue, and to the end of its number's list
 abbrev pub InsertsAfter : Maps → Maps → ℕ → ℕ → Stand → Type 0
 InsertsAfter old new before n s =
     Are new (λ q. put_after (Some before) n (queue old q)) (with_last old s.number n) (with_stand old n s) (has_record old)
 
--- the node is taken out
+-- the node is removed
 abbrev pub Removes : Maps → Maps → ℕ → Type 0
 Removes old new n =
     Are new (λ q. without n (queue old q)) (λ number. without n (owned old number)) (λ i. cond (nat_eq i n) None (stand old i)) (has_record old)
 
--- the node goes to the front of a queue, and stays where it is in its number's list
+-- the node moves to the front of a queue, and keeps its position in its number's list
 abbrev pub MovesFront : Maps → Maps → ℕ → Queue → Type 0
 MovesFront old new n to =
     Are new (λ q. cond (is_queue q to) (n ∷ without n (queue old q)) (without n (queue old q))) (owned old) (stand old) (has_record old)
 
--- another stand is written at the node
+-- the queue entry at the node is replaced
 abbrev pub SetsStand : Maps → Maps → ℕ → Stand → Type 0
 SetsStand old new n s = Are new (queue old) (owned old) (with_stand old n s) (has_record old)
 
--- how a proof tells values apart
+-- codes by which a proof tells values apart
 abbrev pub lists_code : Coded Lists
 lists_code =
     code_by (List ℕ × (List ℕ × List ℕ)) (coded× (coded_list coded_ℕ) (coded× (coded_list coded_ℕ) (coded_list coded_ℕ)))
@@ -138,7 +138,7 @@ maps_code =
     (coded× (map.code coded_ℕ lists_code) (coded× (map.code coded_ℕ (coded_list coded_ℕ)) (map.code coded_ℕ stand_type.the_row.coded)))
     (λ m. (m.records, (m.numbers, m.stands))) (λ p. record { records = p.0; numbers = p.1.0; stands = p.1.1 }) (λ _. refl)
 
--- Each node is in one queue and in the list of its number, once each, and no list of a number is empty.
+-- Each node is in one queue and in the list of its number, once in each, and no list of a number is empty.
 pub record IsSound (m : Maps) : Type 0 where
   pub queues_distinct : (q : Queue) → Distinct (queue m q)
   pub one_queue : (p q : Queue) (n : ℕ) → has n (queue m p) ≡ true → has n (queue m q) ≡ true → p ≡ q

@@ -1,4 +1,4 @@
--- How the fields of `Links` are seen as three maps, and what is true of the fields.
+-- How the fields of `Links` are seen as three maps, and the invariant of the fields.
 use Rattle.std.specs.Prelude.{◌≡◌, ◌≢◌, ℕ, zero, suc, true, List, [], ◌∷◌, length, map, Option, Some, None, is_some}
 use Rattle.std.specs.FinMap.{from_entries}
 use Rattle.slab.specs.Slab.{Slab, get, entries}
@@ -15,7 +15,7 @@ abbrev follow : (Option ℕ → List ℕ) → Option ℕ → List ℕ
 follow f None = []
 follow f (Some n) = n ∷ f (Some n)
 
--- the list that the links lead through from a place on, of so many numbers at most
+-- the list through which the links lead after a position, with at most as many numbers as the fuel
 abbrev pub walk : Link → ℕ → Option ℕ → List ℕ
 walk next zero p = []
 walk next (suc fuel) p = follow (walk next fuel) (next p)
@@ -41,21 +41,21 @@ abbrev pub queue_of : Option Node → Option Queue
 queue_of None = None
 queue_of (Some d) = Some d.queue
 
-abbrev pub number_of : Option Node → Option ℕ
-number_of None = None
-number_of (Some d) = Some d.stand.number
+abbrev pub node_number : Option Node → Option ℕ
+node_number None = None
+node_number (Some d) = Some d.stand.number
 
 abbrev pub stand_of : Option Node → Option Stand
 stand_of None = None
 stand_of (Some d) = Some d.stand
 
--- The links lead through these lists. Each node is in its queue's list and in its number's, and in no other.
--- Each queue with a node is of a record, and the numbers that are known are those with a node.
+-- The links lead through these lists. Each node is in its queue's list and in its number's, and in no other. Each
+-- queue with a node belongs to a record, and the map of numbers has exactly the numbers with a node.
 pub record Links (nodes : Slab Node) (heads : Slab Heads) (owners : Owners) (queues : Queue → List ℕ) (numbers : ℕ → List ℕ) : Type 0 where
   pub queues_linked : IsFamily (queued_at nodes heads) (λ n. queue_of (get nodes n)) queues
-  pub numbers_linked : IsFamily (owned_at nodes owners) (λ n. number_of (get nodes n)) numbers
+  pub numbers_linked : IsFamily (owned_at nodes owners) (λ n. node_number (get nodes n)) numbers
   pub heads_there : (n : ℕ) (q : Queue) → queue_of (get nodes n) ≡ Some q → is_some (get heads q.id) ≡ true
-  pub owners_there : (n number : ℕ) → number_of (get nodes n) ≡ Some number → is_some (ends_of owners number) ≡ true
+  pub owners_there : (n number : ℕ) → node_number (get nodes n) ≡ Some number → is_some (ends_of owners number) ≡ true
   pub owners_needed : (number : ℕ) → is_some (ends_of owners number) ≡ true → numbers number ≢ []
 
 pub record IsLinked (nodes : Slab Node) (heads : Slab Heads) (owners : Owners) : Type 0 where

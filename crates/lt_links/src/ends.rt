@@ -1,12 +1,13 @@
-//! Joins places of a list, once for the queues and for the lists of the numbers. A place is a node, or `None` for
-//! both ends.
+//! How are two positions of a list made neighbors? The answer is the same for the queues and for the lists of the
+//! numbers, so it is written once, for any type with [`Ends`]. A position is a node, or `None` for both ends of
+//! the list. Read `queues.rt` and `owners.rt` next, which implement the trait.
 ghost use Rattle.std.specs.Prelude.{◌≡◌, Some};
 ghost use Rattle.lt_links.specs.Cells.{SetsJoint, JoinsPlaces, LinksNode};
 
 use crate::node::Node;
 use slab::Slab;
 
-/// The ends of each list of a family. What stands beside a node in its list is in the node.
+/// The ends of each list of a family. A node itself stores its neighbors in its list.
 pub(crate) trait Ends {
     ghost use Rattle.std.specs.Prelude.{ℕ, Option};
     ghost use Rattle.slab.specs.Slab.{Slab};
@@ -15,13 +16,13 @@ pub(crate) trait Ends {
 
     type Key;
 
-    /// What stands beside each place of each list.
+    /// The neighbors of each position of each list.
     ghost joints: { Slab Node → Self → Joints Self.Key };
 
-    /// The place is there.
+    /// The position exists.
     ghost HasPlace: { Slab Node → Self → Self.Key → Option ℕ → Type 0 };
 
-    /// But for what stands beside places nothing changed.
+    /// Only neighbors of positions have changed.
     ghost Keeps: { Slab Node → Self → Slab Node → Self → Type 0 };
 
     fn set_prev(
@@ -49,7 +50,7 @@ pub(crate) trait Ends {
     ghost stays: { (a b : Slab Node) (d e : Self) (k : Self.Key) (at : Option ℕ) → Keeps a d b e → HasPlace a d k at → HasPlace b e k at };
 }
 
-/// Makes two places of a list neighbours.
+/// Makes two positions of a list neighbors.
 pub(crate) fn join<E: Ends>(
     ends: &mut E,
     nodes: &mut Slab<Node>,
@@ -65,7 +66,7 @@ pub(crate) fn join<E: Ends>(
     ends.set_prev(nodes, key, after, before);
 }
 
-/// Puts a node into a list, between two places.
+/// Puts a node into a list, between two positions.
 pub(crate) fn link<E: Ends>(
     ends: &mut E,
     nodes: &mut Slab<Node>,

@@ -1,4 +1,5 @@
-//! Queues of stands, seen as three maps.
+//! What can a caller do with the linked queues? [`Links`] has the calls; its contracts see three maps, which
+//! `specs/Maps.antt` defines. Read `ends.rt` next, which changes the links of a list.
 ghost use Rattle.std.specs.Prelude.{◌≡◌};
 
 use crate::ends::{join, link};
@@ -14,7 +15,7 @@ use std::marker::Model;
 #[cfg(test)]
 mod tests;
 
-/// The nodes of all queues. Each stands in one queue and, by its number, in the list of that number.
+/// The nodes of all queues. Each node is in one queue and, by its number, in the list of that number.
 #[derive(Drop)]
 pub struct Links {
     nodes: Slab<Node>,
@@ -43,7 +44,7 @@ impl Links {
     ghost use Rattle.lt_links.specs.declared.ids.Queue.{Queue};
     ghost use Rattle.std.specs.Prelude.{Some, None, true, false, IfOk, IfSome, OnErr, ℕ, List, ◌∷◌, ◌++◌, slice_get};
 
-    /// No records and no nodes.
+    /// Links without records or nodes.
     pub fn new(alloc: Global) -> Self
         ensures none { result ≡ no_maps }
         ensures sound { IsSound result }
@@ -55,7 +56,7 @@ impl Links {
         }
     }
 
-    /// Makes a record of three empty queues. After an error nothing has changed.
+    /// Adds a record of three empty queues. After an error, nothing has changed.
     pub fn add_record(&mut self) -> Result<RecordId, AllocError>
         ensures fresh { IfOk result (λ id. has_record self.old id ≡ false) }
         ensures adds { IfOk result (λ id. AddsRecord self.old self.new id) }
@@ -98,7 +99,7 @@ impl Links {
         NodeId::at(queued(&self.nodes, &self.heads, &queue, None).prev)
     }
 
-    /// The node behind a node of a queue.
+    /// The node after a node in its queue.
     pub fn next(&self, node: NodeId) -> Option<NodeId>
         requires { HasNode self.now node }
         ensures next { (q : Queue) (xs ys : List ℕ) → queue_of self.now q ≡ xs ++ node ∷ ys → result ≡ slice_get ys 0 }
@@ -108,7 +109,7 @@ impl Links {
         NodeId::at(self.nodes[node.key()].queued.next)
     }
 
-    /// The node before a node of a queue.
+    /// The node before a node in its queue.
     pub fn prev(&self, node: NodeId) -> Option<NodeId>
         requires { HasNode self.now node }
         ensures prev { (q : Queue) (xs ys : List ℕ) → queue_of self.now q ≡ xs ++ node ∷ ys → result ≡ last_or None xs }
@@ -127,7 +128,7 @@ impl Links {
         NodeId::at(owner_ends(&self.owners, number).next)
     }
 
-    /// The node behind a node of the same number.
+    /// The node after a node in the list of its number.
     pub fn owner_next(&self, node: NodeId) -> Option<NodeId>
         requires { HasNode self.now node }
         ensures next { (k : ℕ) (xs ys : List ℕ) → owned_by self.now k ≡ xs ++ node ∷ ys → result ≡ slice_get ys 0 }
@@ -147,7 +148,7 @@ impl Links {
         found.queue
     }
 
-    /// The stand at a node.
+    /// The queue entry at a node.
     pub fn stand(&self, node: NodeId) -> Stand
         requires { HasNode self.now node }
         ensures stand { stand self.now node ≡ Some result }
@@ -157,7 +158,7 @@ impl Links {
         found.stand
     }
 
-    /// Writes another stand of the same number at a node.
+    /// Replaces the queue entry at a node by another one of the same number.
     pub fn set_stand(&mut self, node: NodeId, stand: Stand)
         requires { number_at self.old node ≡ Some stand.number }
         ensures sets { SetsStand self.old self.new node stand }
@@ -166,7 +167,7 @@ impl Links {
         self.nodes[node.key()].stand = stand;
     }
 
-    /// Takes a node out of its queue and of its number's list.
+    /// Removes a node from its queue and from its number's list.
     pub fn remove(&mut self, node: NodeId) -> Stand
         requires { HasNode self.old node }
         ensures stand { stand self.old node ≡ Some result }
@@ -213,7 +214,8 @@ impl Links {
         link(&mut self.heads, &mut self.nodes, &queue, None, first, key);
     }
 
-    /// Puts a stand at the front of a queue, and last into its number's list. After an error nothing has changed.
+    /// Puts a queue entry at the front of a queue, and at the end of its number's list. After an error, nothing
+    /// has changed.
     pub fn push_front(&mut self, queue: Queue, stand: Stand) -> Result<NodeId, AllocError>
         requires { has_record self.old queue.id ≡ true }
         ensures fresh { IfOk result (λ node. stand_at self.old node ≡ None) }
@@ -224,8 +226,8 @@ impl Links {
         self.put_after(&queue, None, stand)
     }
 
-    /// Puts a stand right behind a node in its queue, and last into its number's list. After an error nothing has
-    /// changed.
+    /// Puts a queue entry immediately after a node in its queue, and at the end of its number's list. After an
+    /// error, nothing has changed.
     pub fn insert_after(&mut self, node: NodeId, stand: Stand) -> Result<NodeId, AllocError>
         requires { HasNode self.old node }
         ensures fresh { IfOk result (λ new. stand_at self.old new ≡ None) }
@@ -237,8 +239,8 @@ impl Links {
         self.put_after(&queue, Some(node.key()), stand)
     }
 
-    /// Puts a stand behind a place of a queue, where `None` is before the first. All memory is taken before the first
-    /// change.
+    /// Puts a queue entry after a position of a queue; `None` puts it before the first. All allocations come
+    /// before the first change.
     fn put_after(
         &mut self,
         queue: &Queue,
@@ -255,7 +257,7 @@ impl Links {
         self.nodes.reserve(1)?;
         let key = self.nodes.vacant_key();
         let last = push_owner(&mut self.owners, stand.number, key)?;
-        // The type of a stand's transaction has to be named where a whole node is handed on.
+        // This names the type of the transaction, which is necessary when a whole node is passed on.
         let txn = stand.txn;
         self.nodes
             .insert_reserved(Node::new(queue, Stand { txn, ..stand }));

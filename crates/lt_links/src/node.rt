@@ -1,13 +1,13 @@
 use crate::{Queue, Stand};
 
-/// What stands before and after a node in a list. Of a whole list, `next` is the first node and `prev` the last.
+/// The neighbors of a node in a list. For the list itself, `next` is its first node and `prev` its last.
 #[derive(Clone, Copy, Debug, PartialEq, Eq)]
 pub(crate) struct Joint {
     pub prev: Option<usize>,
     pub next: Option<usize>,
 }
 
-/// A stand, with its place in its queue and in its number's list.
+/// A queue entry, with its neighbors in its queue and in its number's list.
 #[derive(Clone, Copy, Debug, PartialEq, Eq)]
 pub(crate) struct Node {
     pub stand: Stand,
@@ -28,7 +28,7 @@ impl Node {
     ghost use Rattle.std.specs.Prelude.{◌≡◌};
     ghost use Rattle.lt_links.specs.Cells.{no_joint};
 
-    /// A node that is linked with none.
+    /// A node without neighbors.
     pub(crate) fn new(queue: &Queue, stand: Stand) -> Node
         ensures { result ≡ record { stand = stand; queue = queue.now; queued = no_joint; owned = no_joint } }
     {

@@ -1,4 +1,6 @@
-//! The lists of the numbers: the ends of the list of each number that has a node.
+//! How are the nodes of one request's number found? The map `owners` has the ends of a list for each number that
+//! has a node, and the nodes are linked through their field `owned`. `links.rt` uses these functions when a node
+//! comes or goes.
 ghost use Rattle.std.specs.Prelude.{◌≡◌, OnErr, IfOk, unwrap_or, ℕ, Some, is_some, true};
 ghost use Rattle.slab.specs.Slab.{get};
 ghost use Rattle.lt_links.specs.Cells.{ends_of, no_joint, HasOwned, UnlinksOwned, PushesOwner, FollowsLast};
@@ -52,7 +54,7 @@ impl Ends for BTreeMap<u64, Joint> {
     ghost stays = { HasOwned-kept };
 }
 
-/// The ends of a number's list, which is empty if nothing is known of the number.
+/// The ends of a number's list, which is empty if the map has no list for the number.
 pub(crate) fn owner_ends(owners: &BTreeMap<u64, Joint>, number: u64) -> Joint
     ensures { result ≡ unwrap_or (ends_of owners.now number) no_joint }
 {
@@ -65,7 +67,8 @@ pub(crate) fn owner_ends(owners: &BTreeMap<u64, Joint>, number: u64) -> Joint
     }
 }
 
-/// Makes a node the last of a number's list, which comes about if there is none, and gives the last before it.
+/// Makes a node the last of a number's list, and creates the list if there is none. Returns the previous last
+/// node.
 pub(crate) fn push_owner(
     owners: &mut BTreeMap<u64, Joint>,
     number: u64,
@@ -90,7 +93,7 @@ pub(crate) fn push_owner(
     Ok(None)
 }
 
-/// Makes a node the neighbour of the last before it, if there is one.
+/// Makes a node the neighbor of the previous last node, if there is one.
 pub(crate) fn follow_last(nodes: &mut Slab<Node>, last: Option<usize>, node: usize)
     requires node { is_some (get nodes.old node) ≡ true }
     requires last { (l : ℕ) → last ≡ Some l → is_some (get nodes.old l) ≡ true }
@@ -102,7 +105,7 @@ pub(crate) fn follow_last(nodes: &mut Slab<Node>, last: Option<usize>, node: usi
     }
 }
 
-/// Takes a node out of a number's list, and drops the list with its last node.
+/// Removes a node from a number's list, and drops the list with its last node.
 pub(crate) fn unlink_owned(
     owners: &mut BTreeMap<u64, Joint>,
     nodes: &mut Slab<Node>,

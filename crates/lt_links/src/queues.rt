@@ -1,4 +1,4 @@
-//! The queues: the ends of the three queues of each record.
+//! The ends of the three queues of each record, and the neighbors of a position of a queue.
 ghost use Rattle.std.specs.Prelude.{◌≡◌};
 ghost use Rattle.lt_links.specs.Cells.{head_at, with_head, queued_at, HasQueued};
 
@@ -82,7 +82,7 @@ impl Ends for Slab<Heads> {
     ghost stays = { HasQueued-kept };
 }
 
-/// What stands beside a place of a queue.
+/// The neighbors of a position of a queue.
 pub(crate) fn queued(
     nodes: &Slab<Node>,
     heads: &Slab<Heads>,

@@ -1,4 +1,5 @@
--- The writers in front of a queue, which go when the lock comes free.
+-- The writers that leave when the lock comes free: those without a transaction before the first with one, and that
+-- one.
 use Rattle.std.proofs.Common.{◌≡◌, ◌≢◌, ◌<◌, ℕ, suc, Bool, true, false, cond, Option, Some, None, List, [], ◌∷◌, ◌++◌, length, map, filter, slice_get, is_some, refl, sym, ap, ◌∙◌, arith, append_assoc}
 use Rattle.std.specs.Prelude.{take, drop, nat_le}
 use Rattle.std.specs.List.{AllByRecursion, find}
@@ -10,21 +11,21 @@ use Rattle.lt_links.specs.declared.stand.Stand.{Stand}
 use Rattle.lt_links.specs.declared.ids.Queue.{Queue}
 use Rattle.lt_links.specs.Maps.{Maps, queue, stand, has_record, IsSound, Removes}
 use Rattle.lt_lock.specs.Linked.{line, stands_at, request_of, writer_of}
-use Rattle.lt_lock.specs.Found.{waiting_lets, front, from_txn, Writes}
+use Rattle.lt_lock.specs.Found.{waiting_lets, leading_writers, from_txn, WritesQueue}
 use Rattle.lt_lock.proofs.Places.{rest_here}
 use Rattle.lt_lock.proofs.Walks.{IsWalk}
-use Rattle.lt_lock.proofs.Written.{stand_is, Writes-removed, removed_queue}
+use Rattle.lt_lock.proofs.Written.{stand_is, WritesQueue-removed, removed_queue}
 
--- ---- who stands in front, as the rules say it
+-- ---- these writers, as the rules name them
 
-pub front_of : (l : List Stand) → map writer_of (front l) ≡ take (suc (leading (map writer_of l))) (map writer_of l)
+pub front_of : (l : List Stand) → map writer_of (leading_writers l) ≡ take (suc (leading (map writer_of l))) (map writer_of l)
 front_of [] = refl
-front_of (s ∷ l) = elim (is_some s.txn) as (λ b. map writer_of (cond b (s ∷ []) (s ∷ front l)) ≡ take (suc (cond b 0 (suc (leading (map writer_of l))))) (writer_of s ∷ map writer_of l)) [
+front_of (s ∷ l) = elim (is_some s.txn) as (λ b. map writer_of (cond b (s ∷ []) (s ∷ leading_writers l)) ≡ take (suc (cond b 0 (suc (leading (map writer_of l))))) (writer_of s ∷ map writer_of l)) [
   | true ↦ refl
   | false ↦ ap (λ ws. writer_of s ∷ ws) (front_of l)
 ]
 
--- who is next
+-- the writer that is next
 pub next_of : (l : List Stand) → find has_txn (map writer_of l) ≡ slice_get (map writer_of (from_txn l)) 0
 next_of [] = refl
 next_of (s ∷ l) = elim (is_some s.txn) as (λ b. cond b (Some (writer_of s)) (find has_txn (map writer_of l)) ≡ slice_get (map writer_of (cond b (s ∷ l) (from_txn l))) 0) [
@@ -32,7 +33,7 @@ next_of (s ∷ l) = elim (is_some s.txn) as (λ b. cond b (Some (writer_of s)) (
   | false ↦ next_of l
 ]
 
--- who stands behind
+-- the writers after these
 pub behind_front : (l : List Stand) → drop (suc (leading (map writer_of l))) (map writer_of l) ≡ drop 1 (map writer_of (from_txn l))
 behind_front [] = refl
 behind_front (s ∷ l) = elim (is_some s.txn) as (λ b. drop (suc (cond b 0 (suc (leading (map writer_of l))))) (writer_of s ∷ map writer_of l) ≡ drop 1 (map writer_of (cond b (s ∷ l) (from_txn l)))) [
@@ -56,10 +57,10 @@ waiting_of (s ∷ l) = elim s.active as (λ b. map (λ t. through_of (request_of
   | false ↦ waiting_of l
 ]
 
-pub front_lets_of : (l : List Stand) → waiting_lets (front l) ≡ map through_of (active_requests (take (suc (leading (map writer_of l))) (map writer_of l)))
-front_lets_of l = waiting_of (front l) ∙ ap (λ ws. map through_of (active_requests ws)) (front_of l)
+pub front_lets_of : (l : List Stand) → waiting_lets (leading_writers l) ≡ map through_of (active_requests (take (suc (leading (map writer_of l))) (map writer_of l)))
+front_lets_of l = waiting_of (leading_writers l) ∙ ap (λ ws. map through_of (active_requests ws)) (front_of l)
 
--- a stand that waits has one let, and another has none
+-- a waiting entry has one let, and an inactive one has none
 pub one_let : (s : Stand) → s.active ≡ true → waiting_lets (s ∷ []) ≡ through_of (request_of s) ∷ []
 one_let s e = ap (λ b. map (λ t. through_of (request_of t)) (cond b (s ∷ []) [])) e
 
@@ -72,30 +73,30 @@ waiting_cons s l = elim s.active as (λ b. map (λ t. through_of (request_of t))
   | false ↦ refl
 ]
 
--- the lets that are put already, and those of the rest
+-- the lets appended so far, followed by those of the rest
 abbrev pub front_and : Maps → List Through → List ℕ → List Through
-front_and m done rest = done ++ waiting_lets (front (stands_at m rest))
+front_and m done rest = done ++ waiting_lets (leading_writers (stands_at m rest))
 
--- behind a writer without a transaction the walk goes on
+-- after a writer without a transaction, the walk proceeds
 pub front_more : (m : Maps) (done : List Through) (n : ℕ) (s : Stand) (rest : List ℕ) → stand m n ≡ Some s → is_some s.txn ≡ false → front_and m (done ++ waiting_lets (s ∷ [])) rest ≡ front_and m done (n ∷ rest)
 front_more m done n s rest is none =
-    append_assoc done (waiting_lets (s ∷ [])) (waiting_lets (front (stands_at m rest)))
-    ∙ ap (λ l. done ++ l) (sym (waiting_cons s (front (stands_at m rest))))
-    ∙ ap (λ l. done ++ waiting_lets l) (sym (ap (λ t. front (t ∷ stands_at m rest)) (stand_is m n s is) ∙ ap (λ b. cond b (s ∷ []) (s ∷ front (stands_at m rest))) none))
+    append_assoc done (waiting_lets (s ∷ [])) (waiting_lets (leading_writers (stands_at m rest)))
+    ∙ ap (λ l. done ++ l) (sym (waiting_cons s (leading_writers (stands_at m rest))))
+    ∙ ap (λ l. done ++ waiting_lets l) (sym (ap (λ t. leading_writers (t ∷ stands_at m rest)) (stand_is m n s is) ∙ ap (λ b. cond b (s ∷ []) (s ∷ leading_writers (stands_at m rest))) none))
 
--- and it ends at one with a transaction
+-- and it ends at a writer with a transaction
 pub front_end : (m : Maps) (l : List ℕ) (done : List Through) (n : ℕ) (s : Stand) (x : List Through) → IsWalk l (Some n) (front_and m done) x → stand m n ≡ Some s → is_some s.txn ≡ true → done ++ waiting_lets (s ∷ []) ≡ x
 front_end m l done n s x walk is some =
-    let r = rest_here n l walk.place in
-    ap (λ k. done ++ waiting_lets k) (sym (ap (λ t. front (t ∷ stands_at m r.0)) (stand_is m n s is) ∙ ap (λ b. cond b (s ∷ []) (s ∷ front (stands_at m r.0))) some))
+    let r = rest_here n l walk.position in
+    ap (λ k. done ++ waiting_lets k) (sym (ap (λ t. leading_writers (t ∷ stands_at m r.0)) (stand_is m n s is) ∙ ap (λ b. cond b (s ∷ []) (s ∷ leading_writers (stands_at m r.0))) some))
     ∙ ap (front_and m done) (sym r.1) ∙ walk.comes_to
 
 pub front_all : (m : Maps) (l : List ℕ) (done : List Through) (x : List Through) → IsWalk l None (front_and m done) x → done ≡ x
 front_all m l done x walk = sym (append-nil done) ∙ walk.comes_to
 
--- ---- those without a transaction are taken out
+-- ---- the writers without a transaction are removed
 
--- Some of them have been taken out, and nothing else has changed. The walk is at the first that is left.
+-- Some of them have been removed, and nothing else has changed. The walk is at the first remaining writer.
 pub record IsLeading (old now : Maps) (q : Queue) (at : Option ℕ) : Type 0 where
   pub first : at ≡ slice_get (queue now q) 0
   pub left : from_txn (line now q) ≡ from_txn (line old q)
@@ -120,7 +121,7 @@ some_first : (l : List ℕ) (n : ℕ) → Some n ≡ slice_get l 0 → (ys : Lis
 some_first [] n e = absurd (cc)
 some_first (x ∷ l) n e = (l, let same : n ≡ x = cc in ap (λ y. y ∷ l) (sym same))
 
-pub IsLeading-end : (old now : Maps) (q : Queue) → IsLeading old now q None → Writes old now q (from_txn (line old q))
+pub IsLeading-end : (old now : Maps) (q : Queue) → IsLeading old now q None → WritesQueue old now q (from_txn (line old q))
 IsLeading-end old now q leading = record {
   here =
       let none : line now q ≡ [] = ap (stands_at now) (none_first (queue now q) leading.first) in
@@ -140,8 +141,8 @@ module _ (old now : Maps) (q : Queue) (n : ℕ) (s : Stand) (leading : IsLeading
   line_is : line now q ≡ s ∷ stands_at now ys
   line_is = ap (stands_at now) cut ∙ ap (λ t. t ∷ stands_at now ys) (stand_is now n s is)
 
-  -- the first that is left has a transaction
-  pub IsLeading-stops : is_some s.txn ≡ true → Writes old now q (from_txn (line old q))
+  -- the first remaining writer has a transaction
+  pub IsLeading-stops : is_some s.txn ≡ true → WritesQueue old now q (from_txn (line old q))
   IsLeading-stops some = record {
     here = line_is ∙ sym (ap from_txn line_is ∙ ap (λ b. cond b (s ∷ stands_at now ys) (from_txn (stands_at now ys))) some) ∙ leading.left;
     others = leading.others;
@@ -149,10 +150,10 @@ module _ (old now : Maps) (q : Queue) (n : ℕ) (s : Stand) (leading : IsLeading
     sound = leading.sound;
   }
 
-  -- it has none, and is taken out
+  -- it has none, and is removed
   module _ (next : Maps) (at : Option ℕ) (removes : Removes now next n) (sound : IsSound next) where
-    writes : Writes now next q (stands_at now ys)
-    writes = Writes-removed now next q n [] ys leading.sound cut removes sound
+    writes : WritesQueue now next q (stands_at now ys)
+    writes = WritesQueue-removed now next q n [] ys leading.sound cut removes sound
 
     pub leading_falls : length (queue next q) < length (queue now q)
     leading_falls = omega (arith, ap length (removed_queue now next q n [] ys leading.sound cut removes), ap length cut)
@@ -166,9 +167,9 @@ module _ (old now : Maps) (q : Queue) (n : ℕ) (s : Stand) (leading : IsLeading
       sound = sound;
     }
 
--- ---- how many stand in a queue
+-- ---- the length of a queue
 
--- whether so many come, and more
+-- whether at least this many entries remain
 abbrev pub are_left : ℕ → List ℕ → Bool
 are_left left rest = nat_le left (length rest)
 

@@ -1,4 +1,4 @@
--- What it means for a row's record that a request stands at it, and that it leaves.
+-- What it means for a row's record that a request has an entry there, and that the request leaves.
 use Rattle.std.proofs.Common.{◌≡◌, ◌≢◌, ◌≤◌, ℕ, true, false, cond, List, [], ◌∷◌, ◌++◌, length, map, Some, None, slice_get, refl, sym, ap, ◌∙◌, subst, arith, nat_eq, ◌⊎◌, inl, inr}
 use Rattle.std.specs.List.{AllByRecursion, IsDistinct, list_any, find}
 use Rattle.std.specs.Option.{option_map}
@@ -17,12 +17,12 @@ use Rattle.lt_links.specs.declared.ids.QueueKind.{QueueKind}
 use Rattle.lt_links.specs.declared.ids.QueueKind.TheVariants.{Writers, Readers, Reservation}
 use Rattle.lt_links.specs.Maps.{Maps}
 use Rattle.lt_lock.specs.declared.row.Row.{Row}
-use Rattle.lt_lock.specs.Linked.{stand_at, stands_at, line, queue_at, record_of, request_of, writer_of, IsNamed, IsLinked}
-use Rattle.lt_lock.specs.Found.{IsFound, IsMissing, Writes}
+use Rattle.lt_lock.specs.Linked.{stand_at, stands_at, line, queue_at, record_of, request_of, writer_of, IsNamed, HasQueues}
+use Rattle.lt_lock.specs.Found.{IsFound, IsMissing, WritesQueue}
 use Rattle.lt_lock.proofs.Rows.{HasNot, StandsAlone, found_alone, none_among, one_among, none_found, one_found, without_none, without_one, record_lines, line_written, linked_written}
 use Rattle.lt_lock.proofs.Acts.{few_others}
 
--- ---- what a step leaves of a lawful record is lawful
+-- ---- the record after a step of a lawful record is lawful
 
 module _ (r : Record) (lawful : IsLawful r) where
   pub lawful_taken : (txn : ℕ) (ts : Timestamp) → r.holder ≡ None → IsLawful (take_lock r (record { txn = txn; ts = ts })).after
@@ -43,7 +43,7 @@ module _ (r : Record) (lawful : IsLawful r) where
   pub lawful_unreserved : (n : ℕ) → is_reserved_by r.reservation n ≡ true → IsLawful (free r Freed).after
   lawful_unreserved n reserved = subst (λ b. IsLawful (cond b (free (record r { reservation = None }) Left) (cond (is_waiting r n) (record { after = settle (record r { writers = without_writer r.writers n; readers = without_reader r.readers n }); reply = Left; lets = [] }) (unchanged r Absent))).after) reserved (step_keeps_lawful r 1 (Leave n) lawful)
 
--- ---- whose the reservation is
+-- ---- the holder of the reservation
 
 not_reserved : (n : ℕ) (l : List Stand) → HasNot n l → is_reserved_by (option_map request_of (slice_get l 0)) n ≡ false
 not_reserved n [] a = refl
@@ -68,7 +68,7 @@ writers_else Readers s r = absurd (r refl)
 writers_else Reservation s r = absurd (s refl)
 
 module _ (m : Maps) (r : Row) (n : ℕ) where
-  -- where no request of the number stands
+  -- if no request with the number is at the key
   module _ (none : IsMissing m r.id n) where
     pub missing_unreserved : is_reserved_by (record_of m r).reservation n ≡ false
     missing_unreserved = not_reserved n (line m (queue_at r.id Reservation)) (none Reservation)
@@ -79,8 +79,8 @@ module _ (m : Maps) (r : Row) (n : ℕ) where
     pub missing_looks : look (record_of m r) n ≡ Nothing
     missing_looks = rw (missing_unreserved, none_found writer_of writer_number (λ s. refl) n (line m (queue_at r.id Writers)) (none Writers), none_among request_of number_of (λ s. refl) n (line m (queue_at r.id Readers)) (none Readers)) refl
 
-  -- where one does
-  module _ (linked : IsLinked m r.id) (distinct : IsDistinct nat_eq (numbers (record_of m r))) (kind : QueueKind) (node : ℕ) (found : IsFound m r.id n node kind) where
+  -- if there is one
+  module _ (linked : HasQueues m r.id) (distinct : IsDistinct nat_eq (numbers (record_of m r))) (kind : QueueKind) (node : ℕ) (found : IsFound m r.id n node kind) where
     alone : StandsAlone m r n kind (stands_at m found.before) (stand_at m node) (stands_at m found.after)
     alone = found_alone m r n linked distinct kind node found
 
@@ -92,7 +92,7 @@ module _ (m : Maps) (r : Row) (n : ℕ) where
     pub found_unreserved : kind ≢ Reservation → is_reserved_by (record_of m r).reservation n ≡ false
     found_unreserved o = not_reserved n (line m (queue_at r.id Reservation)) (alone.elsewhere Reservation (λ e. o (sym e)))
 
-    -- the queue that it stands in, without it
+    -- its queue without it
     abbrev pub left : List Stand
     left = stands_at m found.before ++ stands_at m found.after
 
@@ -120,7 +120,7 @@ module _ (m : Maps) (r : Row) (n : ℕ) where
     pub other_writers : kind ≢ Writers → without_writer (record_of m r).writers n ≡ (record_of m r).writers
     other_writers o = without_none writer_of writer_number (λ s. refl) n (line m (queue_at r.id Writers)) (alone.elsewhere Writers (λ e. o (sym e)))
 
-    -- it waits there
+    -- it is queued there
     pub found_waiting : kind ≢ Reservation → is_waiting (record_of m r) n ≡ true
     found_waiting o = elim (which kind) [
       | inl e ↦
@@ -140,34 +140,34 @@ module _ (m : Maps) (r : Row) (n : ℕ) where
     pub found_leaves : kind ≢ Reservation → leave (record_of m r) n ≡ record { after = settle (record (record_of m r) { writers = without_writer (record_of m r).writers n; readers = without_reader (record_of m r).readers n }); reply = Left; lets = [] }
     found_leaves o = rw (found_unreserved o, found_waiting o) refl
 
-    -- it is taken out of its queue
-    module _ (new : Maps) (w : Writes m new (queue_at r.id kind) left) where
-      pub left_linked : kind ≢ Reservation → IsLinked new r.id
+    -- it is removed from its queue
+    module _ (new : Maps) (w : WritesQueue m new (queue_at r.id kind) left) where
+      pub left_linked : kind ≢ Reservation → HasQueues new r.id
       left_linked o = linked_written m new r.id kind left w linked (few_others kind left o) named_left
 
       pub left_row : kind ≢ Reservation → record_of new r ≡ record (record_of m r) { writers = without_writer (record_of m r).writers n; readers = without_reader (record_of m r).readers n }
       left_row o = elim (which kind) [
         | inl e ↦
-            let here : Writes m new (queue_at r.id Writers) left = subst (λ k. Writes m new (queue_at r.id k) left) e w in
+            let here : WritesQueue m new (queue_at r.id Writers) left = subst (λ k. WritesQueue m new (queue_at r.id k) left) e w in
             record_lines new r left (line m (queue_at r.id Readers)) (line m (queue_at r.id Reservation)) here.here (line_written m new r.id Writers left here Readers) (line_written m new r.id Writers left here Reservation)
             ∙ rw (left_writers e, other_readers (λ f. cc)) refl
         | inr rest ↦ elim rest [
           | inl e ↦
-              let here : Writes m new (queue_at r.id Readers) left = subst (λ k. Writes m new (queue_at r.id k) left) e w in
+              let here : WritesQueue m new (queue_at r.id Readers) left = subst (λ k. WritesQueue m new (queue_at r.id k) left) e w in
               record_lines new r (line m (queue_at r.id Writers)) left (line m (queue_at r.id Reservation)) (line_written m new r.id Readers left here Writers) here.here (line_written m new r.id Readers left here Reservation)
               ∙ rw (left_readers e, other_writers (λ f. cc)) refl
           | inr e ↦ absurd (o e)
         ]
       ]
 
-      -- and no number stands twice
+      -- and no number occurs twice
       pub left_distinct : kind ≢ Reservation → IsLawful (record_of m r) → IsDistinct nat_eq (numbers (record_of new r))
       left_distinct o lawful =
           let kept = step_keeps_lawful (record_of m r) 1 (Leave n) lawful in
           let after : numbers (leave (record_of m r) n).after ≡ numbers (record_of new r) = ap (λ (t : Outcome). numbers t.after) (found_leaves o) ∙ ap (λ (x : Record). numbers x) (sym (left_row o)) in
           subst (IsDistinct nat_eq) after kept.first.numbers_differ
 
-    -- ---- what it finds out
+    -- ---- the reply to its look
 
     pub found_reads : kind ≡ Readers → look (record_of m r) n ≡ look_reader (record_of m r) n r.holder (record_of m r).reservation
     found_reads e =

@@ -1,4 +1,4 @@
--- Places in a list of distinct numbers: what comes from a place on, and what comes behind it.
+-- Positions in a list of distinct numbers: the rest of the list from a position, and after it.
 use Rattle.std.proofs.Common.{◌≡◌, ◌⊎◌, ℕ, ◌<◌, length, Bool, true, false, cond, Option, Some, None, List, [], ◌∷◌, ◌++◌, refl, sym, ap, ◌∙◌, inl, inr, arith, subst, append_assoc}
 use Rattle.std.specs.Prelude.{nat_eq, slice_get}
 use Rattle.std.specs.List.{last_or}
@@ -6,13 +6,13 @@ use mathlib.Core.Bool.{true≢false}
 use Rattle.lt_links.specs.Ring.{has, is_in, Distinct, without, put_after}
 use Rattle.lt_links.proofs.Rings.{same_or_apart, is_itself, without_absent}
 
--- what comes from a place on, and nothing from the end on
+-- the rest of the list from a number; nothing from the end
 abbrev pub rest_from : Option ℕ → List ℕ → List ℕ
 rest_from None l = []
 rest_from (Some n) [] = []
 rest_from (Some n) (x ∷ xs) = cond (nat_eq n x) (x ∷ xs) (rest_from (Some n) xs)
 
--- what comes behind a place, and all behind the place before the first
+-- the rest of the list after a number; the whole list after the position before the first
 abbrev pub behind : Option ℕ → List ℕ → List ℕ
 behind None l = l
 behind (Some n) [] = []
@@ -35,7 +35,7 @@ has_part n (x ∷ xs) ys h = has_later n x (xs ++ ys) (has_part n xs ys h)
 pub has_cut : (n : ℕ) (xs ys : List ℕ) → has n (xs ++ n ∷ ys) ≡ true
 has_cut n xs ys = has_part n xs (n ∷ ys) (has_first n ys)
 
--- a list is cut at a number that it has
+-- a list is cut at one of its numbers
 pub cut_at : (n : ℕ) (l : List ℕ) → has n l ≡ true → (xs : List ℕ) × (ys : List ℕ) × (l ≡ xs ++ n ∷ ys)
 cut_at n [] h = absurd (true≢false (sym h))
 cut_at n (x ∷ xs) h =
@@ -46,7 +46,7 @@ cut_at n (x ∷ xs) h =
           (x ∷ r.0, r.1, ap (λ l. x ∷ l) r.2)
     ]
 
--- in a list of distinct numbers a number does not stand before itself
+-- in a list of distinct numbers, no number comes before itself
 pub off_front : (n : ℕ) (xs ys : List ℕ) → Distinct (xs ++ n ∷ ys) → has n xs ≡ false
 off_front n [] ys d = refl
 off_front n (x ∷ xs) ys d =
@@ -55,7 +55,7 @@ off_front n (x ∷ xs) ys d =
       | inr o ↦ rw o.1 (off_front n xs ys d.1)
     ]
 
--- nor behind itself
+-- nor after itself
 pub off_back : (n : ℕ) (xs ys : List ℕ) → Distinct (xs ++ n ∷ ys) → has n ys ≡ false
 off_back n [] ys d = d.0
 off_back n (x ∷ xs) ys d = off_back n xs ys d.1
@@ -92,7 +92,7 @@ behind_cut n (x ∷ xs) ys off =
       | inr o ↦ rw o.1 (behind_cut n xs ys (rw o.1 at off))
     ]
 
--- from the first of a part on comes the part
+-- from the first number of the second part, the rest is that part
 pub rest_part : (xs ys : List ℕ) → Distinct (xs ++ ys) → rest_from (slice_get ys 0) (xs ++ ys) ≡ ys
 rest_part xs [] d = refl
 rest_part xs (y ∷ ys) d = rest_cut y xs ys (off_front y xs ys d)
@@ -101,14 +101,14 @@ pub first_in : (xs ys : List ℕ) → is_in (xs ++ ys) (slice_get ys 0) ≡ true
 first_in xs [] = refl
 first_in xs (y ∷ ys) = has_cut y xs ys
 
--- the first of a list, where a walk begins
+-- the first number of a list, at which a walk begins
 pub rest_first : (at : Option ℕ) (l : List ℕ) → at ≡ slice_get l 0 → Distinct l → rest_from at l ≡ l
 rest_first at l e d = ap (λ a. rest_from a l) e ∙ rest_part [] l d
 
 pub in_first : (at : Option ℕ) (l : List ℕ) → at ≡ slice_get l 0 → is_in l at ≡ true
 in_first at l e = ap (is_in l) e ∙ first_in [] l
 
--- A step of a walk: this comes behind a number.
+-- One move of a walk: this number comes immediately after that one.
 abbrev pub Follows : List ℕ → ℕ → Option ℕ → Type 0
 Follows l n at = (xs ys : List ℕ) → l ≡ xs ++ n ∷ ys → at ≡ slice_get ys 0
 
@@ -150,7 +150,7 @@ pub last_end : {X : Type 0} (o : Option X) (bs : List X) (b : X) → last_or o (
 last_end o [] b = refl
 last_end o (x ∷ bs) b = last_end (Some x) bs b
 
--- behind the last of a part comes the other part
+-- after the last number of the first part, the rest is the second part
 pub behind_part : (xs ys : List ℕ) → Distinct (xs ++ ys) → behind (last_or None xs) (xs ++ ys) ≡ ys
 behind_part xs ys d = elim (ends xs) [
   | inl e ↦ ap (λ l. behind (last_or None l) (l ++ ys)) e

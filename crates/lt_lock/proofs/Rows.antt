@@ -1,4 +1,4 @@
--- What queues that are written make of a row's record.
+-- The record of a row after changes to its queues.
 use Rattle.std.proofs.Common.{◌≡◌, ◌≢◌, ◌≤◌, ℕ, Bool, true, false, not, cond, List, [], ◌∷◌, ◌++◌, length, map, filter, Option, Some, None, slice_get, refl, sym, ap, ◌∙◌, subst, arith, nat_eq, ◌&&◌, ◌||◌, append_assoc}
 use Rattle.std.specs.Prelude.{option_to_list}
 use Rattle.std.specs.List.{AllByRecursion, IsDistinct, list_any, find}
@@ -18,24 +18,24 @@ use Rattle.lt_links.specs.Ring.{has}
 use Rattle.lt_links.specs.Maps.{Maps, queue, is_kind, HasNode, IsSound}
 use Rattle.lt_lock.proofs.Places.{has_cut}
 use Rattle.lt_lock.specs.declared.row.Row.{Row}
-use Rattle.lt_lock.specs.Linked.{stand_at, stands_at, line, queue_at, record_of, request_of, writer_of, IsNamed, IsLinked}
-use Rattle.lt_lock.specs.Found.{IsFound, IsMissing, Writes}
-use Rattle.lt_lock.specs.Went.{KeepsOthers}
+use Rattle.lt_lock.specs.Linked.{stand_at, stands_at, line, queue_at, record_of, request_of, writer_of, IsNamed, HasQueues}
+use Rattle.lt_lock.specs.Found.{IsFound, IsMissing, WritesQueue}
+use Rattle.lt_lock.specs.RowStepped.{KeepsOthers}
 
--- ---- one queue of a row is written
+-- ---- one queue of a row is changed
 
-module _ (old new : Maps) (id : ℕ) (kind : QueueKind) (l : List Stand) (w : Writes old new (queue_at id kind) l) where
+module _ (old new : Maps) (id : ℕ) (kind : QueueKind) (l : List Stand) (w : WritesQueue old new (queue_at id kind) l) where
   pub others_written : KeepsOthers old new id
   others_written = record {
     lines = λ q apart. w.others q (λ e. apart (ap (λ p. p.id) e));
     records = w.records;
   }
 
-  -- what stands in each of the row's queues
+  -- the entries of each of the row's queues
   other_line : (j : QueueKind) → j ≢ kind → line new (queue_at id j) ≡ line old (queue_at id j)
   other_line j apart = w.others (queue_at id j) (λ e. apart (ap (λ p. p.kind) e))
 
-pub line_written : (old new : Maps) (id : ℕ) (kind : QueueKind) (l : List Stand) → Writes old new (queue_at id kind) l → (j : QueueKind) → line new (queue_at id j) ≡ cond (is_kind j kind) l (line old (queue_at id j))
+pub line_written : (old new : Maps) (id : ℕ) (kind : QueueKind) (l : List Stand) → WritesQueue old new (queue_at id kind) l → (j : QueueKind) → line new (queue_at id j) ≡ cond (is_kind j kind) l (line old (queue_at id j))
 line_written old new id Writers l w Writers = w.here
 line_written old new id Writers l w Readers = other_line old new id Writers l w Readers (λ e. cc)
 line_written old new id Writers l w Reservation = other_line old new id Writers l w Reservation (λ e. cc)
@@ -59,8 +59,9 @@ named_at : (b : Bool) (x y : List Stand) → AllByRecursion IsNamed x → AllByR
 named_at true x y p q = p
 named_at false x y p q = q
 
--- The row stays linked, where each of its stands has a ticket and at most one has the lock reserved.
-pub linked_written : (old new : Maps) (id : ℕ) (kind : QueueKind) (l : List Stand) → Writes old new (queue_at id kind) l → IsLinked old id → length (cond (is_kind Reservation kind) l []) ≤ 1 → AllByRecursion IsNamed l → IsLinked new id
+-- The row still has its queues in the links, if each of its entries has a ticket and at most one holds the
+-- reservation.
+pub linked_written : (old new : Maps) (id : ℕ) (kind : QueueKind) (l : List Stand) → WritesQueue old new (queue_at id kind) l → HasQueues old id → length (cond (is_kind Reservation kind) l []) ≤ 1 → AllByRecursion IsNamed l → HasQueues new id
 linked_written old new id kind l w linked one named = record {
   sound = w.sound;
   there = w.records id ∙ linked.there;
@@ -72,7 +73,7 @@ linked_written old new id kind l w linked one named = record {
     few true o = o
     few false o = linked.one_reservation
 
--- ---- the record of a row, by what stands in its queues
+-- ---- the record of a row, from the entries of its queues
 
 abbrev pub record_by : Row → List Stand → List Stand → List Stand → Record
 record_by r writers readers reservation = record {
@@ -86,13 +87,13 @@ record_by r writers readers reservation = record {
 pub record_lines : (m : Maps) (r : Row) (writers readers reservation : List Stand) → line m (queue_at r.id Writers) ≡ writers → line m (queue_at r.id Readers) ≡ readers → line m (queue_at r.id Reservation) ≡ reservation → record_of m r ≡ record_by r writers readers reservation
 record_lines m r writers readers reservation ws rs s = rw (ws, rs, s) refl
 
--- ---- where a number stands
+-- ---- the queue that has an entry with a number
 
--- none of these has the number
+-- none of these entries has the number
 abbrev pub HasNot : ℕ → List Stand → Type 0
 HasNot n l = AllByRecursion (λ s. s.number ≢ n) l
 
--- the numbers of these
+-- the numbers of these entries
 abbrev pub numbers_in : List Stand → List ℕ
 numbers_in l = map (λ s. s.number) l
 
@@ -118,7 +119,7 @@ reserved_numbers (s ∷ []) one = refl
 reserved_numbers (s ∷ t ∷ l) one = absurd (omega (arith, one))
 
 -- the numbers of a row's record
-pub numbers_are : (m : Maps) (r : Row) → IsLinked m r.id → numbers (record_of m r) ≡ numbers_in (line m (queue_at r.id Reservation)) ++ (numbers_in (line m (queue_at r.id Writers)) ++ numbers_in (line m (queue_at r.id Readers)))
+pub numbers_are : (m : Maps) (r : Row) → HasQueues m r.id → numbers (record_of m r) ≡ numbers_in (line m (queue_at r.id Reservation)) ++ (numbers_in (line m (queue_at r.id Writers)) ++ numbers_in (line m (queue_at r.id Readers)))
 numbers_are m r linked =
     let s = line m (queue_at r.id Reservation) in
     let ws = line m (queue_at r.id Writers) in
@@ -128,7 +129,8 @@ numbers_are m r linked =
 has_not : (n : ℕ) (l : List Stand) → AllByRecursion (λ m. m ≢ n) (numbers_in l) → HasNot n l
 has_not n l a = all_unmap (λ m. m ≢ n) (λ s. s.number) l a
 
--- A request of this number stands between these in one of a row's queues, and nowhere else in them.
+-- The entry with this number is between these entries in one of the row's queues, and no other entry has the
+-- number.
 pub record StandsAlone (m : Maps) (r : Row) (n : ℕ) (kind : QueueKind) (before : List Stand) (s : Stand) (after : List Stand) : Type 0 where
   pub cut : line m (queue_at r.id kind) ≡ before ++ s ∷ after
   pub number_is : s.number ≡ n
@@ -136,7 +138,7 @@ pub record StandsAlone (m : Maps) (r : Row) (n : ℕ) (kind : QueueKind) (before
   pub none_after : HasNot n after
   pub elsewhere : (j : QueueKind) → j ≢ kind → HasNot n (line m (queue_at r.id j))
 
-module _ (m : Maps) (r : Row) (n : ℕ) (linked : IsLinked m r.id) (distinct : IsDistinct nat_eq (numbers (record_of m r))) where
+module _ (m : Maps) (r : Row) (n : ℕ) (linked : HasQueues m r.id) (distinct : IsDistinct nat_eq (numbers (record_of m r))) where
   abbrev lines_of : QueueKind → List Stand
   lines_of kind = line m (queue_at r.id kind)
 
@@ -221,13 +223,13 @@ module _ (m : Maps) (r : Row) (n : ℕ) (linked : IsLinked m r.id) (distinct : I
   line_cut : (kind : QueueKind) (node : ℕ) (f : IsFound m r.id n node kind) → lines_of kind ≡ stands_at m f.before ++ stand_at m node ∷ stands_at m f.after
   line_cut kind node f = ap (stands_at m) f.cut ∙ map-append (stand_at m) f.before (node ∷ f.after)
 
-  -- the request that is found stands nowhere else at the key
+  -- the entry that is found is the only one of its request at the key
   pub found_alone : (kind : QueueKind) (node : ℕ) (f : IsFound m r.id n node kind) → StandsAlone m r n kind (stands_at m f.before) (stand_at m node) (stands_at m f.after)
   found_alone Writers node f = among_writers (stands_at m f.before) (stands_at m f.after) (stand_at m node) f.number_is (line_cut Writers node f)
   found_alone Readers node f = among_readers (stands_at m f.before) (stands_at m f.after) (stand_at m node) f.number_is (line_cut Readers node f)
   found_alone Reservation node f = in_reservation (stands_at m f.before) (stands_at m f.after) (stand_at m node) f.number_is (line_cut Reservation node f)
 
--- ---- a queue searched by number: what its stands are made into has their numbers
+-- ---- a queue searched by number: the images of its entries keep the numbers
 
 module _ {X : Type 0} (f : Stand → X) (number : X → ℕ) (same : (s : Stand) → number (f s) ≡ s.number) (n : ℕ) where
   pub none_among : (l : List Stand) → HasNot n l → list_any (λ x. nat_eq (number x) n) (map f l) ≡ false
@@ -254,7 +256,7 @@ module _ {X : Type 0} (f : Stand → X) (number : X → ℕ) (same : (s : Stand)
   without_one [] after s e b a = let is = same s in let rest = without_none after a in grind (arith, nat_tests)
   without_one (t ∷ before) after s e b a = let no : t.number ≢ n = b.0 in let is = same t in let rest = without_one before after s e b.1 a in grind (arith, nat_tests)
 
--- among writers that may be the distinguished waiter
+-- the eligible ones among writers that lack the number
 pub none_eligible : (reservation : Option QueuedRequest) (n : ℕ) (l : List Stand) → HasNot n l → list_any (λ w. is_eligible reservation w && nat_eq (writer_number w) n) (map writer_of l) ≡ false
 none_eligible reservation n [] a = refl
 none_eligible reservation n (s ∷ l) a = let no : s.number ≢ n = a.0 in let rest = none_eligible reservation n l a.1 in grind (arith, nat_tests)
@@ -278,14 +280,14 @@ module _ (m : Maps) (sound : IsSound m) where
     | x ∷ xs ↦ λ e. (xs, let same : node ≡ x = cc in ap (λ y. y ∷ xs) (sym same))
   ] first
 
--- ---- who may be the distinguished waiter
+-- ---- the eligible waiters
 
--- whether this number may be it, by the readers and by the writers
+-- whether this number is eligible, from the readers and the writers
 pub among_eligible : (m : Maps) (r : Row) (n : ℕ) (reads writes : Bool) → list_any (λ q. nat_eq (number_of q) n) (map request_of (line m (queue_at r.id Readers))) ≡ reads →
     list_any (λ w. is_eligible (record_of m r).reservation w && nat_eq (writer_number w) n) (map writer_of (line m (queue_at r.id Writers))) ≡ writes → list_any (λ k. nat_eq k n) (eligible (record_of m r).reservation (record_of m r).readers (record_of m r).writers) ≡ (reads || writes)
 among_eligible m r n reads writes rs ws = any_eligible (record_of m r).reservation (record_of m r).readers (record_of m r).writers n ∙ rw (rs, ws) refl
 
--- the first writer that may be it
+-- the first eligible writer
 pub first_writer : (reservation : Option QueuedRequest) (l : List Stand) → option_map (λ s. s.number) (find (λ s. is_eligible reservation (writer_of s)) l) ≡ option_map writer_number (find (is_eligible reservation) (map writer_of l))
 first_writer reservation [] = refl
 first_writer reservation (s ∷ l) = elim (is_eligible reservation (writer_of s)) as (λ b. option_map (λ s. s.number) (cond b (Some s) (find (λ s. is_eligible reservation (writer_of s)) l)) ≡ option_map writer_number (cond b (Some (writer_of s)) (find (is_eligible reservation) (map writer_of l)))) [
@@ -293,7 +295,7 @@ first_writer reservation (s ∷ l) = elim (is_eligible reservation (writer_of s)
   | false ↦ first_writer reservation l
 ]
 
--- ---- the distinguished waiter, by where its number is found
+-- ---- the distinguished waiter, from the queue in which its number is found
 
 module _ (m : Maps) (r : Row) (n : ℕ) where
   abbrev may_be : Bool
@@ -302,7 +304,7 @@ module _ (m : Maps) (r : Row) (n : ℕ) where
   pub missing_may_not : IsMissing m r.id n → may_be ≡ false
   missing_may_not none = among_eligible m r n false false (none_among request_of number_of (λ s. refl) n _ (none Readers)) (none_eligible _ n _ (none Writers))
 
-  module _ (linked : IsLinked m r.id) (distinct : IsDistinct nat_eq (numbers (record_of m r))) (kind : QueueKind) (node : ℕ) (found : IsFound m r.id n node kind) where
+  module _ (linked : HasQueues m r.id) (distinct : IsDistinct nat_eq (numbers (record_of m r))) (kind : QueueKind) (node : ℕ) (found : IsFound m r.id n node kind) where
     abbrev pub alone : StandsAlone m r n kind (stands_at m found.before) (stand_at m node) (stands_at m found.after)
     alone = found_alone m r n linked distinct kind node found
 
@@ -316,7 +318,7 @@ module _ (m : Maps) (r : Row) (n : ℕ) where
         (ap (λ l. list_any (λ w. is_eligible (record_of m r).reservation w && nat_eq (writer_number w) n) (map writer_of l)) cut
         ∙ one_eligible (record_of m r).reservation n (stands_at m found.before) (stands_at m found.after) (stand_at m node) alone.number_is alone.none_before alone.none_after)
 
--- the first that may be it, where somebody reads and where nobody does
+-- the first eligible waiter, with and without readers
 module _ (m : Maps) (r : Row) where
   abbrev first_may_be : Option ℕ
   first_may_be = slice_get (eligible (record_of m r).reservation (record_of m r).readers (record_of m r).writers) 0

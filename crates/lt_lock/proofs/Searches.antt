@@ -1,4 +1,4 @@
--- The search for a request's stand at a key, through the list of its number.
+-- The search for a request's queue entry at a key, through the list of its number.
 use Rattle.std.proofs.Common.{◌≡◌, ◌≢◌, ℕ, true, Option, Some, None, List, [], ◌∷◌, refl, sym, ap, ◌∙◌, subst, inl, inr}
 use Rattle.std.specs.Prelude.{is_some, slice_get}
 use Rattle.std.specs.List.{AllByRecursion}
@@ -18,23 +18,23 @@ use Rattle.lt_lock.proofs.Walks.{all_nodes}
 abbrev pub IsAway : Maps → ℕ → ℕ → Type 0
 IsAway m id n = (q : Queue) → has n (queue m q) ≡ true → q.id ≢ id
 
--- The search has come to a place of the number's list: if no node from there on is at the record, none is.
+-- The search has come to a position in the number's list: if no node from there on is at the record, none is.
 pub record IsSearch (m : Maps) (id number : ℕ) (at : Option ℕ) : Type 0 where
-  pub place : is_in (owned m number) at ≡ true
+  pub position : is_in (owned m number) at ≡ true
   pub suffices : AllByRecursion (IsAway m id) (rest_from at (owned m number)) → AllByRecursion (IsAway m id) (owned m number)
 
 module _ (m : Maps) (id number : ℕ) (sound : IsSound m) where
   pub IsSearch-first : (at : Option ℕ) → at ≡ slice_get (owned m number) 0 → IsSearch m id number at
   IsSearch-first at e = record {
-    place = in_first at (owned m number) e;
+    position = in_first at (owned m number) e;
     suffices = subst (AllByRecursion (IsAway m id)) (rest_first at (owned m number) e (sound.numbers_distinct number));
   }
 
-  -- a step past a node in a queue of another record
+  -- one move past a node in a queue of another record
   pub IsSearch-next : (n : ℕ) (at : Option ℕ) (q : Queue) → IsSearch m id number (Some n) → Follows (owned m number) n at → has n (queue m q) ≡ true → q.id ≢ id → IsSearch m id number at
   IsSearch-next n at q search follows there other = record {
-    place = in_next n at (owned m number) search.place follows;
-    suffices = λ rest. search.suffices (subst (AllByRecursion (IsAway m id)) (sym (rest_next n at (owned m number) search.place (sound.numbers_distinct number) follows)) (away, rest));
+    position = in_next n at (owned m number) search.position follows;
+    suffices = λ rest. search.suffices (subst (AllByRecursion (IsAway m id)) (sym (rest_next n at (owned m number) search.position (sound.numbers_distinct number) follows)) (away, rest));
   }
     where
       away : IsAway m id n
@@ -45,7 +45,7 @@ module _ (m : Maps) (id number : ℕ) (sound : IsSound m) where
   IsFound-here n q search there same =
       let e : queue m (queue_at id q.kind) ≡ queue m q = ap (λ i. queue m (queue_at i q.kind)) (sym same) in
       let cut = cut_at n (queue m q) there in
-      let owner = sound.owned_number number n search.place in
+      let owner = sound.owned_number number n search.position in
       record {
         before = cut.0;
         after = cut.1;
@@ -60,7 +60,7 @@ module _ (m : Maps) (id number : ℕ) (sound : IsSound m) where
     | inr o ↦ all_have P n xs (rw o.1 at there) all.1
   ]
 
-  -- and at the end no stand of the number is in a queue of the record
+  -- and at the end, no entry with the number is in a queue of the record
   pub IsMissing-end : IsSearch m id number None → IsMissing m id number
   IsMissing-end search = λ kind. all_nodes (λ s. s.number ≢ number) m (queue m (queue_at id kind)) (λ n h same.
       let r = some_of (stand m n) (sound.queued_there (queue_at id kind) n h) in

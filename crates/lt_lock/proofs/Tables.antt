@@ -29,10 +29,10 @@ use Rattle.lt_plain.specs.Lawful.{IsLawful}
 use Rattle.lt_plain.proofs.Rising.{keys-from_entries}
 use Rattle.lt_plain.proofs.Maps.{order, same_records, same_or_apart, is_apart, others_dropped, sound_filled}
 use Rattle.lt_lock.specs.declared.row.Row.{Row}
-use Rattle.lt_lock.specs.Linked.{Rows, row_at, request_of, writer_of, no_stand, stand_at, stands_at, line, queue_at, record_of, records_of, IsLinked, IsUsed, AreLinked}
-use Rattle.lt_lock.specs.Went.{KeepsOthers, IsRow, Went, IsTable}
+use Rattle.lt_lock.specs.Linked.{Rows, row_at, request_of, writer_of, no_stand, stand_at, stands_at, line, queue_at, record_of, records_of, HasQueues, IsUsed, AreLinked}
+use Rattle.lt_lock.specs.RowStepped.{KeepsOthers, IsRow, RowStepped, IsTable}
 
--- what is found among changed values is the change of what was found
+-- a lookup among mapped values finds the image of what it found before
 find_mapped : {V X : Type 0} (g : V → X) (k : List ℕ) (es : List (List ℕ × V)) → find order k (map (λ e. (e.0, g e.1)) es) ≡ option_map g (lookup (is_at (order k)) es)
 find_mapped g k [] = refl
 find_mapped g k (e ∷ es) = elim (is_at (order k) e.0) as (λ b. cond b (Some (g e.1)) (find order k (map (λ e. (e.0, g e.1)) es)) ≡ option_map g (cond b (Some e.1) (lookup (is_at (order k)) es))) [
@@ -40,11 +40,11 @@ find_mapped g k (e ∷ es) = elim (is_at (order k) e.0) as (λ b. cond b (Some (
   | false ↦ find_mapped g k es
 ]
 
--- a key's record is what its row and the links say
+-- a key's record is the one that its row and the links give
 pub get_of : (m : Maps) (rows : Rows) (k : List ℕ) → get (records_of m rows) k ≡ option_map (record_of m) (row_at rows k)
 get_of m rows k = get-from_entries nat_list_cmp_total (map (λ e. (e.0, record_of m e.1)) rows.entries) k ∙ find_mapped (record_of m) k rows.entries
 
--- the keys that have a record are those that have a row, which rise
+-- the keys that have a record are exactly those that have a row, in rising order
 pub keys_of : (m : Maps) (rows : Rows) → IsStrictlySortedBy order (tree.keys rows) → keys (records_of m rows) ≡ tree.keys rows
 keys_of m rows rising =
     keys-from_entries (map (λ (e : List ℕ × Row). (e.0, record_of m e.1)) rows.entries) (subst (IsStrictlySortedBy order) (sym (firsts (record_of m) rows.entries)) rising)
@@ -58,15 +58,15 @@ pub keys_told : {A E : Type 0} (m : Maps) (rows : Rows) (items : A → List (Lis
 keys_told m rows items (Ok all) are rising = are ∙ sym (keys_of m rows rising)
 keys_told m rows items (Err e) are rising = tt
 
--- the record of a row that a look-up finds
+-- the record of a row that a lookup finds
 pub found : (m : Maps) (rows : Rows) (k : List ℕ) (r : Row) → Some r ≡ row_at rows k → record_at (records_of m rows) k ≡ record_of m r
 found m rows k r e = ap (λ o. unwrap_or o empty) (get_of m rows k ∙ ap (option_map (record_of m)) (sym e))
 
 pub missing : (m : Maps) (rows : Rows) (k : List ℕ) → None ≡ row_at rows k → record_at (records_of m rows) k ≡ empty
 missing m rows k e = ap (λ o. unwrap_or o empty) (get_of m rows k ∙ ap (option_map (record_of m)) (sym e))
 
--- a row that a look-up finds is linked, and lawful
-pub linked_at : (m : Maps) (rows : Rows) (k : List ℕ) (r : Row) → AreLinked m rows → Some r ≡ row_at rows k → IsLinked m r.id
+-- a row that a lookup finds is linked, and its record is lawful
+pub linked_at : (m : Maps) (rows : Rows) (k : List ℕ) (r : Row) → AreLinked m rows → Some r ≡ row_at rows k → HasQueues m r.id
 linked_at m rows k r linked e = linked.each k r (sym e)
 
 pub row_is : (m : Maps) (rows : Rows) (k : List ℕ) (r : Row) → IsTable m rows → Some r ≡ row_at rows k → IsRow m r
@@ -78,14 +78,14 @@ row_is m rows k r t e = record {
       (rw here at sound).lawful;
 }
 
--- nor is it empty
+-- and the record is not empty
 pub filled_at : (m : Maps) (rows : Rows) (k : List ℕ) (r : Row) → IsTable m rows → Some r ≡ row_at rows k → is_empty (record_of m r) ≡ false
 filled_at m rows k r t e =
     let sound = t.records_sound k in
     let here : get (records_of m rows) k ≡ Some (record_of m r) = get_of m rows k ∙ ap (option_map (record_of m)) (sym e) in
     (rw here at sound).filled
 
--- where a row's queues are as before, so is what they say
+-- if the entries of a row's queues are as before, so is its record
 record Stays (old new : Maps) (id : ℕ) : Type 0 where
   lines : (kind : QueueKind) → line new (queue_at id kind) ≡ line old (queue_at id kind)
   there : has_record new id ≡ has_record old id
@@ -93,7 +93,7 @@ record Stays (old new : Maps) (id : ℕ) : Type 0 where
 record_stays : (old new : Maps) (r : Row) → Stays old new r.id → record_of new r ≡ record_of old r
 record_stays old new r s = rw (s.lines Reservation, s.lines Writers, s.lines Readers) refl
 
-linked_stays : (old new : Maps) (id : ℕ) → IsSound new → Stays old new id → IsLinked old id → IsLinked new id
+linked_stays : (old new : Maps) (id : ℕ) → IsSound new → Stays old new id → HasQueues old id → HasQueues new id
 linked_stays old new id sound s linked = record {
   sound = sound;
   there = s.there ∙ linked.there;
@@ -105,7 +105,7 @@ option_stays : (old new : Maps) (o : Option Row) → ((r : Row) → o ≡ Some r
 option_stays old new None stays = refl
 option_stays old new (Some r) stays = ap Some (record_stays old new r (stays r refl))
 
--- Each key has the row that it had, and no row's queues changed.
+-- Each key has the same row as before, and no row's queues have changed.
 module _ (old new : Maps) (rows after : Rows) (same : (q : List ℕ) → row_at after q ≡ row_at rows q) (stays : (q : List ℕ) (r : Row) → row_at rows q ≡ Some r → Stays old new r.id) where
   records_stay : records_of new after ≡ records_of old rows
   records_stay = same_records _ _ (λ q. get_of new after q ∙ ap (option_map (record_of new)) (same q) ∙ option_stays old new (row_at rows q) (stays q) ∙ sym (get_of old rows q))
@@ -118,7 +118,7 @@ module _ (old new : Maps) (rows after : Rows) (same : (q : List ℕ) → row_at 
     used = λ id there. let o = linked.used id (fewer id there) in (o.0, o.1, same o.0 ∙ o.2, o.3);
   }
 
--- One key's row is written, and the other rows' queues are as before.
+-- One key's row is replaced or dropped, and the other rows' queues are as before.
 module _ (old new : Maps) (rows after : Rows) (k : List ℕ) (w : Option Row) (u : UpdatesBy order (order k) rows after w) (stays : (q : List ℕ) (r : Row) → q ≢ k → row_at rows q ≡ Some r → Stays old new r.id) where
   -- the other keys' records are as before
   others_written : (q : List ℕ) → q ≢ k → get (records_of new after) q ≡ get (records_of old rows) q
@@ -127,8 +127,8 @@ module _ (old new : Maps) (rows after : Rows) (k : List ℕ) (w : Option Row) (u
   here_written : get (records_of new after) k ≡ option_map (record_of new) w
   here_written = get_of new after k ∙ ap (option_map (record_of new)) u.1
 
-  -- the rows are linked, where the one that is written is, and has queues of its own
-  linked_written : AreLinked old rows → IsSound new → ((a : Row) → w ≡ Some a → IsLinked new a.id) → ((a : Row) (q : List ℕ) (r : Row) → w ≡ Some a → q ≢ k → row_at rows q ≡ Some r → a.id ≢ r.id) → ((id : ℕ) → has_record new id ≡ true → IsUsed after id) → AreLinked new after
+  -- the rows are linked, if the new one is, and its queues are its own
+  linked_written : AreLinked old rows → IsSound new → ((a : Row) → w ≡ Some a → HasQueues new a.id) → ((a : Row) (q : List ℕ) (r : Row) → w ≡ Some a → q ≢ k → row_at rows q ≡ Some r → a.id ≢ r.id) → ((id : ℕ) → has_record new id ≡ true → IsUsed after id) → AreLinked new after
   linked_written linked sound here own used = record {
     sound = sound;
     each = λ q r e. elim (same_or_apart q k) [
@@ -154,18 +154,18 @@ module _ (old new : Maps) (rows after : Rows) (k : List ℕ) (w : Option Row) (u
       at_other : (q : List ℕ) (r : Row) → q ≢ k → row_at after q ≡ Some r → row_at rows q ≡ Some r
       at_other q r d e = sym (u.2 q (is_apart q k d)) ∙ e
 
--- the row that has these queues, where they are not the row's at the key
+-- the row that uses these queues, if its key is a different one
 other_used : (rows after : Rows) (k : List ℕ) (w : Option Row) (u : UpdatesBy order (order k) rows after w) (id : ℕ) → (o : IsUsed rows id) → o.0 ≢ k → IsUsed after id
 other_used rows after k w u id o apart = (o.0, o.1, u.2 o.0 (is_apart o.0 k apart) ∙ o.2, o.3)
 
--- the row's id at the key, where that is the row that has them
+-- the row's id at the key, if this row uses the queues
 used_here : (rows : Rows) (k : List ℕ) (r : Row) → Some r ≡ row_at rows k → (id : ℕ) (o : IsUsed rows id) → o.0 ≡ k → r.id ≡ id
 used_here rows k r some id o s =
     let at : Some r ≡ Some o.1 = some ∙ ap (row_at rows) (sym s) ∙ o.2 in
     let same : r.id ≡ o.1.id = cc in
     same ∙ o.3
 
--- The row at a key went by an outcome.
+-- The row at a key changed with an outcome.
 module _ (old new : Maps) (rows rows' : Rows) (k : List ℕ) (r after : Row) (linked : AreLinked old rows) (some : Some r ≡ row_at rows k) (u : UpdatesBy order (order k) rows rows' (Some after)) where
   -- the other rows have other queues
   other_id : (q : List ℕ) (o : Row) → q ≢ k → row_at rows q ≡ Some o → o.id ≢ r.id
@@ -177,7 +177,7 @@ module _ (old new : Maps) (rows rows' : Rows) (k : List ℕ) (r after : Row) (li
     there = others.records o.id;
   }
 
-  went_step : (act : Record → Outcome) (reply : Reply) (lets : List Through) → Went old new after r.id (act (record_of old r)) reply lets → IsStep (records_of old rows) k act reply lets (records_of new rows')
+  went_step : (act : Record → Outcome) (reply : Reply) (lets : List Through) → RowStepped old new after r.id (act (record_of old r)) reply lets → IsStep (records_of old rows) k act reply lets (records_of new rows')
   went_step act reply lets went =
       let at : record_at (records_of old rows) k ≡ record_of old r = found old rows k r some in
       record {
@@ -187,9 +187,9 @@ module _ (old new : Maps) (rows rows' : Rows) (k : List ℕ) (r after : Row) (li
         others = others_written old new rows rows' k (Some after) u (others_stay went.others);
       }
 
-  went_linked : (outcome : Outcome) (reply : Reply) (lets : List Through) → Went old new after r.id outcome reply lets → AreLinked new rows'
+  went_linked : (outcome : Outcome) (reply : Reply) (lets : List Through) → RowStepped old new after r.id outcome reply lets → AreLinked new rows'
   went_linked outcome reply lets went = linked_written old new rows rows' k (Some after) u (others_stay went.others) linked went.linked.sound
-      (λ a e. subst (λ i. IsLinked new i) (sym went.same_id ∙ same a e) went.linked)
+      (λ a e. subst (λ i. HasQueues new i) (sym went.same_id ∙ same a e) went.linked)
       (λ a q o e apart f i. other_id q o apart f (sym i ∙ sym (same a e) ∙ went.same_id))
       (λ id there.
       let o = linked.used id (sym (went.others.records id) ∙ there) in
@@ -201,7 +201,7 @@ module _ (old new : Maps) (rows rows' : Rows) (k : List ℕ) (r after : Row) (li
       same : (a : Row) → Some after ≡ Some a → after.id ≡ a.id
       same a e = cc
 
-  -- it is written again as it was
+  -- the row is written back unchanged
   same_rows : after ≡ r → (q : List ℕ) → row_at rows' q ≡ row_at rows q
   same_rows same q = elim (same_or_apart q k) [
     | inl s ↦ ap (row_at rows') s.0 ∙ u.1 ∙ ap Some same ∙ some ∙ ap (row_at rows) (sym s.0)
@@ -217,12 +217,12 @@ module _ (old new : Maps) (rows rows' : Rows) (k : List ℕ) (r after : Row) (li
   same_linked : new ≡ old → after ≡ r → AreLinked new rows'
   same_linked m same = rows_stay old new rows rows' (same_rows same) (λ q o e. all_stay m o.id) (λ id there. ap (λ x. has_record x id) (sym m) ∙ there) (subst IsSound (sym m) linked.sound) linked
 
--- what follows either way
+-- what follows in either case
 pub either_way : {T E : Type 0} (r : Result T E) (P : T → Type 0) (Q Y : Type 0) → ((t : T) → P t → Y) → (Q → Y) → IfOk r P → OnErr r Q → Y
 either_way (Ok t) P Q Y f g ok err = f t ok
 either_way (Err e) P Q Y f g ok err = g err
 
--- where a key has no row, and the act leaves an empty record as it is
+-- a step at a key without a row, if the act leaves an empty record unchanged
 pub nothing_stepped : (m : Maps) (rows rows' : Rows) (k : List ℕ) (act : Record → Outcome) (reply : Reply) (lets : List Through) → None ≡ row_at rows k → rows' ≡ rows → act empty ≡ unchanged empty reply → lets ≡ [] → IsStep (records_of m rows) k act reply lets (records_of m rows')
 nothing_stepped m rows rows' k act reply lets none same nothing no_lets =
     let at : record_at (records_of m rows) k ≡ empty = missing m rows k none in
@@ -234,13 +234,13 @@ nothing_stepped m rows rows' k act reply lets none same nothing no_lets =
       others = λ q apart. ap (λ x. get (records_of m x) q) same;
     }
 
--- What a call on the row that a look-up found does to the table, as it answers or gives an error.
+-- The effect on the table of a call on the row that a lookup found, for a reply and for an error.
 module _ {E : Type 0} (old new : Maps) (rows rows' : Rows) (k : List ℕ) (r after : Row) (table : IsTable old rows) (some : Some r ≡ row_at rows k) (w : tree.WritesThrough order (order k) rows after rows') (act : Record → Outcome) (lets : List Through) (result : Result Reply E) where
   updates : UpdatesBy order (order k) rows rows' (Some after)
   updates = w.3 (subst IsSome some refl)
 
   abbrev goes : Reply → Type 0
-  goes reply = Went old new after r.id (act (record_of old r)) reply lets
+  goes reply = RowStepped old new after r.id (act (record_of old r)) reply lets
 
   pub ok_step : IfOk result goes → IfOk result (λ reply. IsStep (records_of old rows) k act reply lets (records_of new rows'))
   ok_step ok = IfOk-weaker result goes _ (λ reply. went_step old new rows rows' k r after table.linked some updates act reply lets) ok
@@ -255,7 +255,7 @@ module _ {E : Type 0} (old new : Maps) (rows rows' : Rows) (k : List ℕ) (r aft
     pub err_records : X → records_of new rows' ≡ records_of old rows
     err_records x = same_written old new rows rows' k r after table.linked some updates (same x).0 (same x).1
 
-    -- where the act leaves the record lawful and not empty, the table is whole
+    -- if the act leaves the record lawful and not empty, the table invariant holds
     pub either_table : ((q : Record) → IsLawful q → IsLawful (act q).after) → is_empty (act (record_of old r)).after ≡ false → IfOk result goes → OnErr result X → IsTable new rows'
     either_table keeps filled ok err = record {
       linked = either_linked ok err;
@@ -269,7 +269,7 @@ map_same : {A B : Type 0} (f g : A → B) → ((a : A) → f a ≡ g a) → (xs 
 map_same f g same [] = refl
 map_same f g same (x ∷ xs) = ap (λ y. y ∷ map f xs) (same x) ∙ ap (λ l. g x ∷ l) (map_same f g same xs)
 
--- where the queues and the stands are as before, so are the lines
+-- if the queues and their entries are as before, so are the lists of entries
 lines_same : (old new : Maps) → ((q : Queue) → queue new q ≡ queue old q) → ((n : ℕ) → stand new n ≡ stand old n) → (q : Queue) → line new q ≡ line old q
 lines_same old new queues stands q = ap (map (stand_at new)) (queues q) ∙ map_same (stand_at new) (stand_at old) (λ n. ap (λ s. unwrap_or s no_stand) (stands n)) (queue old q)
 
@@ -293,7 +293,7 @@ module _ (m : Maps) where
       by_kind Writers = parts.1
       by_kind Readers = parts.2
 
--- a key without a record is as if its record were dropped
+-- dropping the record of a key that has none changes nothing
 pub nothing_dropped : (m : Maps) (rows : Rows) (k : List ℕ) → None ≡ row_at rows k → records_of m rows ≡ with_record (records_of m rows) k (record_at (records_of m rows) k)
 nothing_dropped m rows k none = rw (missing m rows k none) (same_records _ _ (λ q. elim (same_or_apart q k) [
   | inl s ↦ ap (get (records_of m rows)) s.0 ∙ get_of m rows k ∙ ap (option_map (record_of m)) (sym none) ∙ sym (get-remove nat_list_cmp_total (records_of m rows) k q ∙ rw s.1 refl)
@@ -359,7 +359,7 @@ module _ (old new : Maps) (rows rows' : Rows) (k : List ℕ) (a : Row) (linked :
   no_line : (kind : QueueKind) → line new (queue_at a.id kind) ≡ []
   no_line kind = ap (stands_at new) (no_nodes kind)
 
-  new_linked : IsSound new → IsLinked new a.id
+  new_linked : IsSound new → HasQueues new a.id
   new_linked sound = record {
     sound = sound;
     there = adds.records_are a.id ∙ rw (is_itself a.id) refl;
@@ -369,7 +369,7 @@ module _ (old new : Maps) (rows rows' : Rows) (k : List ℕ) (a : Row) (linked :
 
   pub inserted_linked : row_at rows k ≡ None → IsSound new → AreLinked new rows'
   inserted_linked none sound = linked_written old new rows rows' k (Some a) u both_stay linked sound
-      (λ b e. subst (λ i. IsLinked new i) (same b e) (new_linked sound))
+      (λ b e. subst (λ i. HasQueues new i) (same b e) (new_linked sound))
       (λ b q o e apart f i. is_new q o f (same b e ∙ i))
       (λ id there. elim (rings.same_or_apart id a.id) [
         | inl s ↦ (k, a, u.1, sym s.0)
@@ -387,7 +387,7 @@ module _ (old new : Maps) (rows rows' : Rows) (k : List ℕ) (a : Row) (linked :
   new_record : record_of new a ≡ record empty { holder = a.holder; distinguished = a.distinguished }
   new_record = rw (no_line Reservation, no_line Writers, no_line Readers) refl
 
-  -- The key's lock is taken from nobody.
+  -- The key's lock, which has no holder, is taken.
   pub inserted_step : record_at (records_of old rows) k ≡ empty → (h : Holder) → a.holder ≡ Some h → a.distinguished ≡ None → IsStep (records_of old rows) k (λ r. take_lock r h) Taken [] (records_of new rows')
   inserted_step none h holder first = record {
     replied = refl;
@@ -396,7 +396,7 @@ module _ (old new : Maps) (rows rows' : Rows) (k : List ℕ) (a : Row) (linked :
     others = others_written old new rows rows' k (Some a) u both_stay;
   }
 
--- Queues come, and go again, since no memory was left for the row.
+-- New queues are dropped again, because the allocation for the row failed.
 module _ (old mid new : Maps) (rows rows' : Rows) (id : ℕ) (linked : AreLinked old rows) (same : rows'.entries ≡ rows.entries) (fresh : has_record old id ≡ false) (adds : AddsRecord old mid id) (drops : DropsRecord mid new id) where
   refused_stay : (q : List ℕ) (o : Row) → row_at rows q ≡ Some o → Stays old new o.id
   refused_stay q o e = record {
@@ -417,7 +417,7 @@ module _ (old mid new : Maps) (rows rows' : Rows) (id : ℕ) (linked : AreLinked
         | inr d ↦ sym (drops.records_are i ∙ rw d.1 (adds.records_are i ∙ rw d.1 refl)) ∙ there
       ]) sound linked
 
--- no keys, over links of no nodes
+-- a table without keys, over links without nodes
 pub nothing_linked : (m : Maps) (rows : Rows) → m ≡ no_maps → IsSound m → rows.entries ≡ [] → IsTable m rows
 nothing_linked m rows blank sound none = record {
   linked = record {

@@ -1,4 +1,4 @@
--- What a visit makes of a row's record.
+-- The record of a row after a visit.
 use Rattle.std.proofs.Common.{◌≡◌, ◌≢◌, ◌≤◌, ℕ, false, List, [], ◌∷◌, ◌++◌, length, Some, None, slice_get, refl, sym, ap, ◌∙◌, subst, arith, nat_eq, is_some}
 use Rattle.std.specs.List.{AllByRecursion, IsDistinct, last_or}
 use Rattle.lt_ids.specs.declared.request.Access.{Access}
@@ -15,22 +15,22 @@ use Rattle.lt_links.specs.declared.ids.QueueKind.TheVariants.{Writers, Readers, 
 use Rattle.lt_links.specs.Maps.{Maps, queue, stand}
 use Rattle.lt_lock.specs.declared.row.Row.{Row}
 use Rattle.lt_lock.specs.Linked.{stand_at, stands_at, line, queue_at, record_of, request_of, IsNamed}
-use Rattle.lt_lock.specs.Found.{Writes, Brings}
-use Rattle.lt_lock.specs.Went.{IsRow, Went}
+use Rattle.lt_lock.specs.Found.{WritesQueue, MovesToFront}
+use Rattle.lt_lock.specs.RowStepped.{IsRow, RowStepped}
 use Rattle.lt_lock.proofs.Written.{stand_is}
 use Rattle.lt_lock.proofs.Acts.{rewritten_by}
 
 -- ---- after the visit the numbers still differ
 
-pub visited_distinct : (old new : Maps) (r : Row) (s : Stand) (longest : ℕ) (access : Access) (reply : Reply) → IsRow old r → Went old new r r.id (visit_lock r.holder (record_of old r).reservation (stop_reading (record_of old r) s.number) (request_of s) longest access) reply [] →
+pub visited_distinct : (old new : Maps) (r : Row) (s : Stand) (longest : ℕ) (access : Access) (reply : Reply) → IsRow old r → RowStepped old new r r.id (visit_lock r.holder (record_of old r).reservation (stop_reading (record_of old r) s.number) (request_of s) longest access) reply [] →
     IsDistinct nat_eq (numbers (record_of new r))
 visited_distinct old new r s longest access reply row went =
     let lawful = step_keeps_lawful (record_of old r) s.pass (Visit (request_of s).ticket s.txn s.ts access longest) row.lawful in
     subst (IsDistinct nat_eq) (sym (ap (λ (x : Record). numbers x) went.is_outcome.moved)) lawful.first.numbers_differ
 
--- ---- a reservation is displaced
+-- ---- a reservation is taken over
 
--- Two nodes, with these stands.
+-- Two nodes, with these entries.
 pub record AreTwo (m : Maps) (l : List ℕ) (s t : Stand) : Type 0 where
   pub first : ℕ
   pub second : ℕ
@@ -38,26 +38,26 @@ pub record AreTwo (m : Maps) (l : List ℕ) (s t : Stand) : Type 0 where
   pub first_is : stand_at m first ≡ s
   pub second_is : stand_at m second ≡ t
 
--- nodes with two stands are two
+-- nodes with two entries are two nodes
 two_of : (m : Maps) (l : List ℕ) (s t : Stand) → stands_at m l ≡ s ∷ t ∷ [] → AreTwo m l s t
 two_of m [] s t e = absurd (cc)
 two_of m (a ∷ []) s t e = absurd (cc)
 two_of m (a ∷ b ∷ []) s t e = record { first = a; second = b; is = refl; first_is = cc; second_is = cc }
 two_of m (a ∷ b ∷ c ∷ l) s t e = absurd (cc)
 
--- the only one of a line is its first
+-- the only entry of a list is its first
 only : (l : List Stand) (t : Stand) → length l ≤ 1 → slice_get l 0 ≡ Some t → l ≡ t ∷ []
 only [] t few e = absurd (cc)
 only (s ∷ []) t few e = let same : s ≡ t = cc in ap (λ x. x ∷ []) same
 only (s ∷ u ∷ l) t few e = absurd (omega (arith, few))
 
 -- `s` comes before the reservation `t`
-module _ (old mid : Maps) (r : Row) (s t : Stand) (row : IsRow old r) (reserved : slice_get (line old (queue_at r.id Reservation)) 0 ≡ Some t) (q : Queue) (is : q ≡ queue_at r.id Reservation) (put : Writes old mid q (s ∷ line old q)) where
-  -- the reservation's line was `t` alone
+module _ (old mid : Maps) (r : Row) (s t : Stand) (row : IsRow old r) (reserved : slice_get (line old (queue_at r.id Reservation)) 0 ≡ Some t) (q : Queue) (is : q ≡ queue_at r.id Reservation) (put : WritesQueue old mid q (s ∷ line old q)) where
+  -- the reservation's queue had only the entry `t`
   reserved_line : line old q ≡ t ∷ []
   reserved_line = ap (λ p. line old p) is ∙ only (line old (queue_at r.id Reservation)) t row.linked.one_reservation reserved
 
-  -- and now it is `s` and `t`
+  -- and now it has `s` and `t`
   two : AreTwo mid (queue mid q) s t
   two = two_of mid (queue mid q) s t (put.here ∙ ap (λ l. s ∷ l) reserved_line)
 
@@ -70,24 +70,24 @@ module _ (old mid : Maps) (r : Row) (s t : Stand) (row : IsRow old r) (reserved 
     is_second : node ≡ two.second
     is_second = let e : Some node ≡ Some two.second = last ∙ ap (λ l. last_or None l) two.is in cc
 
-    -- what the queue is cut into at its last node
+    -- the parts of the queue around its last node
     last_cut : queue mid q ≡ two.first ∷ node ∷ []
     last_cut = two.is ∙ ap (λ n. two.first ∷ n ∷ []) (sym is_second)
 
-    -- what stands at the last node is `t`
+    -- the entry at the last node is `t`
     was_second : (back : Stand) → stand mid node ≡ Some back → back ≡ t
     was_second back at = sym (stand_is mid node back at) ∙ ap (stand_at mid) is_second ∙ two.second_is
 
-    -- `t` is written there as one that does not wait, and brought to the front of the writers
+    -- `t` is made inactive there, and moves to the front of the writers
     pub displaced : (set new : Maps) (to : Queue) (found back : Stand) → r.holder ≡ None → IsNamed s → to ≡ queue_at r.id Writers → stand mid node ≡ Some found → back ≡ record found { active = false } →
-        ((p : Queue) → queue set p ≡ queue mid p) → ((xs ys : List ℕ) → queue mid q ≡ xs ++ node ∷ ys → Writes mid set q (stands_at mid xs ++ back ∷ stands_at mid ys)) →
-        ((xs ys : List ℕ) → queue set q ≡ xs ++ node ∷ ys → Brings set new q to (stand_at set node) (stands_at set xs ++ stands_at set ys)) →
-        Went old new r r.id (pass (record (stop_reading (record_of old r) s.number) { reservation = Some (request_of s); writers = set_back (Some (request_of t)) ++ (record_of old r).writers })) Passed []
+        ((p : Queue) → queue set p ≡ queue mid p) → ((xs ys : List ℕ) → queue mid q ≡ xs ++ node ∷ ys → WritesQueue mid set q (stands_at mid xs ++ back ∷ stands_at mid ys)) →
+        ((xs ys : List ℕ) → queue set q ≡ xs ++ node ∷ ys → MovesToFront set new q to (stand_at set node) (stands_at set xs ++ stands_at set ys)) →
+        RowStepped old new r r.id (pass (record (stop_reading (record_of old r) s.number) { reservation = Some (request_of s); writers = set_back (Some (request_of t)) ++ (record_of old r).writers })) Passed []
     displaced set new to found back unheld named is_to at is_back queues writes brings =
         let kind_of = λ (p : Queue). p.kind in
         let id_of = λ (p : Queue). p.id in
-        let w : Writes mid set q (stand_at mid two.first ∷ back ∷ []) = writes (two.first ∷ []) [] last_cut in
-        let brought : Brings set new q to (stand_at set node) (stand_at set two.first ∷ []) = brings (two.first ∷ []) [] (queues q ∙ last_cut) in
+        let w : WritesQueue mid set q (stand_at mid two.first ∷ back ∷ []) = writes (two.first ∷ []) [] last_cut in
+        let brought : MovesToFront set new q to (stand_at set node) (stand_at set two.first ∷ []) = brings (two.first ∷ []) [] (queues q ∙ last_cut) in
         let over = brought.over (λ e. let k : Reservation ≡ Writers = ap kind_of (sym is ∙ e ∙ is_to) in cc) in
         let set_line : stand_at set two.first ∷ stand_at set node ∷ [] ≡ s ∷ back ∷ [] = ap (stands_at set) (sym (queues q ∙ last_cut)) ∙ w.here ∙ ap (λ x. x ∷ back ∷ []) two.first_is in
         let first : stand_at set two.first ≡ s = cc in

@@ -1,4 +1,4 @@
--- What an edit of the links does to the lines of stands.
+-- The effect of a change of the links on the entries of the queues.
 use Rattle.std.proofs.Common.{◌≡◌, ◌≢◌, ℕ, true, false, cond, Option, Some, None, List, [], ◌∷◌, ◌++◌, refl, sym, ap, ◌∙◌, inl, inr, subst}
 use Rattle.std.specs.Prelude.{nat_eq, is_some, unwrap_or}
 use Rattle.std.proofs.lemmas.List.{map-append}
@@ -10,21 +10,21 @@ use Rattle.lt_links.specs.Maps.{Maps, queue, stand, HasNode, IsSound, PushesFron
 use Rattle.lt_links.proofs.Rings.{same_or_apart, is_itself, without_absent, put_after_absent}
 use Rattle.lt_links.proofs.Steps.{is_same, is_other}
 use Rattle.lt_lock.specs.Linked.{line, stand_at, stands_at, no_stand}
-use Rattle.lt_lock.specs.Found.{Writes, Brings, KeepsNodes}
+use Rattle.lt_lock.specs.Found.{WritesQueue, MovesToFront, KeepsNodes}
 use Rattle.lt_lock.proofs.Places.{is_false, has_cut, off_front, off_back, without_cut, put_after_cut}
 
--- nodes with the same stands make the same line
+-- nodes with the same entries give the same list
 pub stands_same : (a b : Maps) (l : List ℕ) → ((n : ℕ) → has n l ≡ true → stand b n ≡ stand a n) → stands_at b l ≡ stands_at a l
 stands_same a b [] same = refl
 stands_same a b (x ∷ xs) same =
     ap (λ o. unwrap_or o no_stand ∷ stands_at b xs) (same x (rw (is_itself x) refl))
     ∙ ap (λ l. stand_at a x ∷ l) (stands_same a b xs (λ n h. same n (rw h (elim (nat_eq n x) as (λ b. cond b true true ≡ true) [ true ↦ refl | false ↦ refl ]))))
 
--- where all but one node have the same stands, a line without that node is the same
+-- if all nodes but one have the same entries, a list without that node is the same
 pub stands_off : (a b : Maps) (n : ℕ) (l : List ℕ) → ((i : ℕ) → i ≢ n → stand b i ≡ stand a i) → has n l ≡ false → stands_at b l ≡ stands_at a l
 stands_off a b n l else off = stands_same a b l (λ i h. else i (λ e. true≢false (sym h ∙ ap (λ k. has k l) e ∙ off)))
 
--- what is written at one place is there, and nowhere else
+-- an entry that is written at one node is there, and no other node changes
 written_here : (f g : ℕ → Option Stand) (n : ℕ) (o : Option Stand) → ((i : ℕ) → f i ≡ cond (nat_eq i n) o (g i)) → f n ≡ o
 written_here f g n o is = is n ∙ ap (λ b. cond b o (g n)) (is_itself n)
 
@@ -37,11 +37,11 @@ written_else f g n o is i apart = elim (same_or_apart i n) [
 pub stand_is : (m : Maps) (n : ℕ) (s : Stand) → stand m n ≡ Some s → stand_at m n ≡ s
 stand_is m n s e = ap (λ o. unwrap_or o no_stand) e
 
--- a line is cut where its nodes are
+-- a list of entries is cut where its nodes are
 pub line_cut : (m : Maps) (n : ℕ) (xs ys : List ℕ) → stands_at m (xs ++ n ∷ ys) ≡ stands_at m xs ++ stand_at m n ∷ stands_at m ys
 line_cut m n xs ys = map-append (stand_at m) xs (n ∷ ys)
 
--- a node with no stand is in no queue
+-- a node without an entry is in no queue
 pub not_queued : (m : Maps) (n : ℕ) → IsSound m → stand m n ≡ None → (q : Queue) → has n (queue m q) ≡ false
 not_queued m n sound none q = is_false (has n (queue m q)) (λ h. true≢false (sym (sound.queued_there q n h) ∙ ap is_some none))
 
@@ -62,8 +62,8 @@ module _ (old new : Maps) (n : ℕ) (to : Queue) (s : Stand) (sound : IsSound ol
   pushed_others : (q : Queue) → q ≢ to → queue new q ≡ queue old q
   pushed_others q apart = pushes.queues_are q ∙ ap (λ b. cond b (n ∷ queue old q) (queue old q)) (is_other q to apart)
 
-  pub Writes-pushed : IsSound new → Writes old new to (s ∷ line old to)
-  Writes-pushed sound' = record {
+  pub WritesQueue-pushed : IsSound new → WritesQueue old new to (s ∷ line old to)
+  WritesQueue-pushed sound' = record {
     here =
         ap (stands_at new) (pushes.queues_are to ∙ ap (λ b. cond b (n ∷ queue old to) (queue old to)) (is_same to))
         ∙ ap (λ t. t ∷ stands_at new (queue old to)) (stand_is new n s (written_here (stand new) (stand old) n (Some s) pushes.stands_are))
@@ -109,8 +109,8 @@ module _ (old new : Maps) (q : Queue) (m : ℕ) (xs ys : List ℕ) (sound : IsSo
     inserted_others : (p : Queue) → p ≢ q → queue new p ≡ queue old p
     inserted_others p apart = inserts.queues_are p ∙ put_after_absent m n (queue old p) (elsewhere old m sound q here p apart)
 
-    pub Writes-inserted : IsSound new → Writes old new q (stands_at old xs ++ stand_at old m ∷ s ∷ stands_at old ys)
-    Writes-inserted sound' =
+    pub WritesQueue-inserted : IsSound new → WritesQueue old new q (stands_at old xs ++ stand_at old m ∷ s ∷ stands_at old ys)
+    WritesQueue-inserted sound' =
         let off = off_part n (not_queued old n sound none q) in
         let n_is : stand_at new n ≡ s = stand_is new n s (written_here (stand new) (stand old) n (Some s) inserts.stands_are) in
         let apart : m ≢ n = λ e. true≢false (sym here ∙ ap (λ k. has k (queue old q)) e ∙ not_queued old n sound none q) in
@@ -147,8 +147,8 @@ module _ (old new : Maps) (q : Queue) (m : ℕ) (xs ys : List ℕ) (sound : IsSo
     pub removed_queue : queue new q ≡ xs ++ ys
     removed_queue = removes.queues_are q ∙ ap (without m) cut ∙ without_cut m xs ys distinct
 
-    pub Writes-removed : IsSound new → Writes old new q (stands_at old xs ++ stands_at old ys)
-    Writes-removed sound' = record {
+    pub WritesQueue-removed : IsSound new → WritesQueue old new q (stands_at old xs ++ stands_at old ys)
+    WritesQueue-removed sound' = record {
       here =
           ap (stands_at new) removed_queue ∙ map-append (stand_at new) xs ys
           ∙ ap (λ l. l ++ stands_at new ys) (stands_off old new m xs removed_else m_front)
@@ -164,8 +164,8 @@ module _ (old new : Maps) (q : Queue) (m : ℕ) (xs ys : List ℕ) (sound : IsSo
     set_else : (i : ℕ) → i ≢ m → stand new i ≡ stand old i
     set_else = written_else (stand new) (stand old) m (Some s) sets.stands_are
 
-    pub Writes-set : IsSound new → Writes old new q (stands_at old xs ++ s ∷ stands_at old ys)
-    Writes-set sound' = record {
+    pub WritesQueue-set : IsSound new → WritesQueue old new q (stands_at old xs ++ s ∷ stands_at old ys)
+    WritesQueue-set sound' = record {
       here =
           ap (stands_at new) (sets.queues_are q ∙ cut) ∙ line_cut new m xs ys
           ∙ ap (λ l. l ++ stand_at new m ∷ stands_at new ys) (stands_off old new m xs set_else m_front)
@@ -196,8 +196,8 @@ module _ (old new : Maps) (q : Queue) (m : ℕ) (xs ys : List ℕ) (sound : IsSo
     absent : (p : Queue) → p ≢ q → stands_at old (without m (queue old p)) ≡ line old p
     absent p other = ap (stands_at old) (without_absent m (queue old p) (elsewhere old m sound q here p other))
 
-    pub Brings-moved : IsSound new → Brings old new q to (stand_at old m) (stands_at old xs ++ stands_at old ys)
-    Brings-moved sound' = record {
+    pub MovesToFront-moved : IsSound new → MovesToFront old new q to (stand_at old m) (stands_at old xs ++ stands_at old ys)
+    MovesToFront-moved sound' = record {
       within = λ same. record {
         here = moved_here ∙ ap (λ p. stand_at old m ∷ stands_at old (without m (queue old p))) (sym same) ∙ ap (λ l. stand_at old m ∷ l) left;
         others = λ p other. moved_else p other ∙ absent p (λ e. other (e ∙ same));

@@ -1,4 +1,4 @@
--- Where a request stands at a key.
+-- The queue entry of a request at a key, the entries that leave a queue, and the effects of changes to a queue.
 use Rattle.std.specs.Prelude.{◌≡◌, ◌≢◌, ◌<◌, ◌≤◌, ℕ, Bool, true, if◌then◌else◌, is_some, ◌&&◌, Option, Some, None, List, [], ◌∷◌, ◌++◌, map, filter}
 use Rattle.std.specs.List.{AllByRecursion, last_or}
 use Rattle.lt_ids.specs.declared.ticket.Through.{Through}
@@ -11,74 +11,75 @@ use Rattle.lt_plain.specs.Rules.{is_txn, through_of}
 use Rattle.lt_plain.specs.Visit.{enqueue}
 use Rattle.lt_lock.specs.Linked.{stand_at, stands_at, line, queue_at, request_of, writer_of, IsNamed}
 use Rattle.lt_lock.specs.declared.find.Found.{Found}
-use Rattle.lt_lock.specs.declared.walk.Who.{Who}
-use Rattle.lt_lock.specs.declared.walk.Who.TheVariants.{All, Below, Of}
+use Rattle.lt_lock.specs.declared.queue_walk.Selection.{Selection}
+use Rattle.lt_lock.specs.declared.queue_walk.Selection.TheVariants.{All, Below, Of}
 
--- The request of this number stands at this node of a queue.
+-- The request with this number has its queue entry at this node of a queue.
 pub record IsFound (m : Maps) (id number : ℕ) (node : ℕ) (kind : QueueKind) : Type 0 where
   pub before : List ℕ
   pub after : List ℕ
   pub cut : queue m (queue_at id kind) ≡ before ++ node ∷ after
   pub number_is : (stand_at m node).number ≡ number
 
--- No request of this number stands at the key.
+-- No request with this number is queued at the key or holds its reservation.
 abbrev pub IsMissing : Maps → ℕ → ℕ → Type 0
 IsMissing m id number = (kind : QueueKind) → AllByRecursion (λ s. s.number ≢ number) (line m (queue_at id kind))
 
--- where a request of this number stands at the key, if it does
+-- the queue entry of the request with this number at the key, if it has one
 abbrev pub Finds : Maps → ℕ → ℕ → Option Found → Type 0
 Finds m id number None = IsMissing m id number
 Finds m id number (Some f) = IsFound m id number f.node f.kind
 
--- One queue is written, and nothing else changes.
-pub record Writes (old new : Maps) (to : Queue) (l : List Stand) : Type 0 where
+-- One queue now has this list of entries, and nothing else has changed.
+pub record WritesQueue (old new : Maps) (to : Queue) (l : List Stand) : Type 0 where
   pub here : line new to ≡ l
   pub others : (q : Queue) → q ≢ to → line new q ≡ line old q
   pub records : (id : ℕ) → has_record new id ≡ has_record old id
   pub sound : IsSound new
 
--- who leaves a queue
-abbrev pub leaves : Who → Stand → Bool
+-- whether the entry leaves the queue
+abbrev pub leaves : Selection → Stand → Bool
 leaves All s = true
 leaves (Below ts) s = is_below s.ts ts
 leaves (Of txn) s = is_txn s.txn txn
 
--- and goes on: who waits there
-abbrev pub goes_on : Who → Stand → Bool
+-- whether the entry leaves the queue and its request is let through, because it is waiting
+abbrev pub goes_on : Selection → Stand → Bool
 goes_on All s = true
 goes_on (Below ts) s = is_below s.ts ts
 goes_on (Of txn) s = is_txn s.txn txn && s.active
 
--- what lets those of these stands through that wait
+-- the lets of those among these entries that are waiting
 abbrev pub waiting_lets : List Stand → List Through
 waiting_lets l = map (λ s. through_of (request_of s)) (filter (λ s. s.active) l)
 
--- the writers in front: those without a transaction before the first with one, and that one
-abbrev pub front : List Stand → List Stand
-front [] = []
-front (s ∷ l) = if is_some s.txn then s ∷ [] else s ∷ front l
+-- the writers that leave when the lock comes free: those without a transaction before the first with one, and that
+-- one
+abbrev pub leading_writers : List Stand → List Stand
+leading_writers [] = []
+leading_writers (s ∷ l) = if is_some s.txn then s ∷ [] else s ∷ leading_writers l
 
--- the writers from the first with a transaction on
+-- the writers from the first one with a transaction
 abbrev pub from_txn : List Stand → List Stand
 from_txn [] = []
 from_txn (s ∷ l) = if is_some s.txn then s ∷ l else from_txn l
 
--- A stand goes from one queue, where these are left, to the front of another.
-pub record BringsOver (old new : Maps) (from to : Queue) (s : Stand) (left : List Stand) : Type 0 where
+-- An entry moves from one queue, which keeps these entries, to the leading_writers of another queue.
+pub record MovesAcross (old new : Maps) (from to : Queue) (s : Stand) (left : List Stand) : Type 0 where
   pub left_is : line new from ≡ left
   pub here : line new to ≡ s ∷ line old to
   pub others : (q : Queue) → q ≢ from → q ≢ to → line new q ≡ line old q
   pub records : (id : ℕ) → has_record new id ≡ has_record old id
   pub sound : IsSound new
 
--- A stand goes to the front of a queue. In the queue that it comes from these are left.
-pub record Brings (old new : Maps) (from to : Queue) (s : Stand) (left : List Stand) : Type 0 where
-  pub within : from ≡ to → Writes old new to (s ∷ left)
-  pub over : from ≢ to → BringsOver old new from to s left
+-- An entry moves to the leading_writers of a queue. The queue that it comes from keeps these entries.
+pub record MovesToFront (old new : Maps) (from to : Queue) (s : Stand) (left : List Stand) : Type 0 where
+  pub within : from ≡ to → WritesQueue old new to (s ∷ left)
+  pub over : from ≢ to → MovesAcross old new from to s left
 
--- The place of a number in a queue: behind this node, where there is one, which is of a smaller number; and before
--- these, whose numbers are greater or the same.
-pub record IsPlace (m : Maps) (q : Queue) (number : ℕ) (at : Option ℕ) : Type 0 where
+-- The position of a number in a queue: after this node, if there is one, which has a smaller number; and before
+-- the remaining nodes, which have greater or equal numbers.
+pub record IsPosition (m : Maps) (q : Queue) (number : ℕ) (at : Option ℕ) : Type 0 where
   pub before : List ℕ
   pub after : List ℕ
   pub cut : queue m q ≡ before ++ after
@@ -86,15 +87,15 @@ pub record IsPlace (m : Maps) (q : Queue) (number : ℕ) (at : Option ℕ) : Typ
   pub smaller : (n : ℕ) → at ≡ Some n → (stand_at m n).number < number
   pub greater : AllByRecursion (λ s. number ≤ s.number) (stands_at m after)
 
--- The nodes of the other queues are as before, and each node that was there has the stand that it had.
+-- The other queues have the same nodes as before, and each node that existed has the same entry as before.
 pub record KeepsNodes (old new : Maps) (to : Queue) : Type 0 where
   pub queues : (q : Queue) → q ≢ to → queue new q ≡ queue old q
   pub stands : (n : ℕ) → HasNode old n → stand new n ≡ stand old n
 
--- A new request comes in its place among the writers.
+-- A new request is inserted at its position among the writers.
 pub record PutsWriter (old new : Maps) (to : Queue) (s : Stand) : Type 0 where
   pub after : List Stand
-  pub writes : Writes old new to after
+  pub writes : WritesQueue old new to after
   pub keeps : KeepsNodes old new to
   pub is_placed : map writer_of after ≡ enqueue (map writer_of (line old to)) (request_of s)
   pub named : AllByRecursion IsNamed (line old to) → AllByRecursion IsNamed after

@@ -1,3 +1,3 @@
 pub mod Linked
 pub mod Found
-pub mod Went
+pub mod RowStepped

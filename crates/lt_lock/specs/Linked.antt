@@ -22,37 +22,37 @@ use Rattle.lt_lock.specs.declared.row.Row.{Row}
 abbrev pub Rows : Type 0
 Rows = BTreeMap (List ℕ) Row
 
--- what the map has of a key
+-- the row of a key
 abbrev pub row_at : Rows → List ℕ → Option Row
 row_at rows key = tree.get (slice_cmp nat_cmp) rows key
 
--- a stand as a request that waits or has the lock reserved
+-- a queue entry as a request that waits or holds the reservation
 abbrev pub request_of : Stand → QueuedRequest
 request_of s = record { ticket = record { number = s.number; wait = s.wait }; txn = s.txn; ts = s.ts; pass = s.pass }
 
--- a stand as a request among the writers
+-- a queue entry as a request among the writers
 abbrev pub writer_of : Stand → QueuedWriter
 writer_of s = record { request = request_of s; active = s.active }
 
 abbrev pub no_stand : Stand
 no_stand = record { number = 0; txn = None; ts = record { wall = 0; logical = 0 }; pass = 0; wait = 0; active = false }
 
--- what stands at a node, which has a stand
+-- the queue entry at a node, which must have one
 abbrev pub stand_at : Maps → ℕ → Stand
 stand_at m n = unwrap_or (stand m n) no_stand
 
--- what stands at these nodes
+-- the queue entries at these nodes
 abbrev pub stands_at : Maps → List ℕ → List Stand
 stands_at m nodes = map (stand_at m) nodes
 
--- what stands in a queue, in order
+-- the entries of a queue, in order
 abbrev pub line : Maps → Queue → List Stand
 line m q = stands_at m (queue m q)
 
 abbrev pub queue_at : ℕ → QueueKind → Queue
 queue_at id kind = record { id = id; kind = kind }
 
--- what a row and its queues say of a key
+-- the record of a key, according to its row and queues
 abbrev pub record_of : Maps → Row → Record
 record_of m r = record {
   holder = r.holder;
@@ -65,12 +65,12 @@ record_of m r = record {
 abbrev pub records_of : Maps → Rows → Records
 records_of m rows = from_entries (map (λ e. (e.0, record_of m e.1)) rows.entries)
 
--- A stand can be named by a ticket.
+-- The entry's number and wait number are those of a ticket.
 abbrev pub IsNamed : Stand → Type 0
 IsNamed s = IsNumber s.number × IsWaitNumber s.wait
 
--- A row has its queues in the links. At most one request has the lock reserved, and each stand has a ticket.
-pub record IsLinked (m : Maps) (id : ℕ) : Type 0 where
+-- The queues of a row are in the links. At most one request holds the reservation, and each entry has a ticket.
+pub record HasQueues (m : Maps) (id : ℕ) : Type 0 where
   pub sound : IsSound m
   pub there : has_record m id ≡ true
   pub one_reservation : length (line m (queue_at id Reservation)) ≤ 1
@@ -80,9 +80,10 @@ pub record IsLinked (m : Maps) (id : ℕ) : Type 0 where
 abbrev pub IsUsed : Rows → ℕ → Type 0
 IsUsed rows id = (k : List ℕ) × (r : Row) × (row_at rows k ≡ Some r) × (r.id ≡ id)
 
--- Each row is linked, no two keys share their queues, and there are no queues but those of rows.
+-- Each row has its queues in the links, no two keys share their queues, and every record of the links belongs to a
+-- row.
 pub record AreLinked (m : Maps) (rows : Rows) : Type 0 where
   pub sound : IsSound m
-  pub each : (k : List ℕ) (r : Row) → row_at rows k ≡ Some r → IsLinked m r.id
+  pub each : (k : List ℕ) (r : Row) → row_at rows k ≡ Some r → HasQueues m r.id
   pub apart : (j k : List ℕ) (q r : Row) → row_at rows j ≡ Some q → row_at rows k ≡ Some r → q.id ≡ r.id → j ≡ k
   pub used : (id : ℕ) → has_record m id ≡ true → IsUsed rows id

@@ -1,8 +1,9 @@
-//! Copies of what stands at a key.
+//! How is the state of one key copied out of the linked queues? [`state`] walks the key's queues and copies each
+//! queue entry, for a caller that inspects a key. `specs/Linked.antt` has the record that the copy must equal.
 ghost use Rattle.std.specs.Prelude.{◌≡◌, ◌++◌, ◌∷◌, [], true, map, IfOk, OnOk};
 ghost use Rattle.std.specs.List.{AllByRecursion};
 ghost use Rattle.lt_links.specs.Maps.{has_record};
-ghost use Rattle.lt_lock.specs.Linked.{line, record_of, request_of, writer_of, IsNamed, IsLinked};
+ghost use Rattle.lt_lock.specs.Linked.{line, record_of, request_of, writer_of, IsNamed, HasQueues};
 
 use crate::row::{Row, queue};
 use crate::settle::reserved;
@@ -23,7 +24,7 @@ fn request_of(stand: &Stand) -> QueuedRequest
     }
 }
 
-/// Adds a copy of the stand's request.
+/// Appends a copy of the queue entry, as a request.
 fn put_request(stand: &Stand, all: &mut Vec<QueuedRequest>) -> Result<(), AllocError>
     requires { IsNamed stand.now }
     ensures { OnOk result (all.new.items ≡ all.old.items ++ request_of stand.now ∷ []) }
@@ -59,7 +60,7 @@ fn requests(links: &Links, alloc: Global, queue: &Queue) -> Result<Vec<QueuedReq
     Ok(all)
 }
 
-/// Adds a copy of the stand's request, among writers.
+/// Appends a copy of the queue entry, as a writer.
 fn put_writer(stand: &Stand, all: &mut Vec<QueuedWriter>) -> Result<(), AllocError>
     requires { IsNamed stand.now }
     ensures { OnOk result (all.new.items ≡ all.old.items ++ writer_of stand.now ∷ []) }
@@ -98,9 +99,9 @@ fn writers(links: &Links, alloc: Global, queue: &Queue) -> Result<Vec<QueuedWrit
     Ok(all)
 }
 
-/// For whom the lock is reserved.
+/// The request that holds the reservation.
 fn reservation(links: &Links, row: &Row) -> Option<QueuedRequest>
-    requires { IsLinked links.now row.now.id }
+    requires { HasQueues links.now row.now.id }
     ensures { result ≡ (record_of links.now row.now).reservation }
 {
     match reserved(links, row) {
@@ -109,9 +110,9 @@ fn reservation(links: &Links, row: &Row) -> Option<QueuedRequest>
     }
 }
 
-/// A copy of the row, with what stands in its queues.
+/// A copy of the row and of its queues.
 pub(crate) fn state(links: &Links, alloc: Global, row: &Row) -> Result<KeyState, AllocError>
-    requires { IsLinked links.now row.now.id }
+    requires { HasQueues links.now row.now.id }
     ensures { IfOk result (λ state. state ≡ record_of links.now row.now) }
 {
     Ok(KeyState {

@@ -1,17 +1,17 @@
-//! Finds a request's stand at a key through the list of the request's own stands.
+//! Finds the queue entry of a request at a key, through the list of the request's own queue entries.
 ghost use Rattle.lt_links.specs.Maps.{IsSound};
 ghost use Rattle.lt_lock.specs.Found.{Finds};
 
 use lt_links::{Links, NodeId, QueueKind, RecordId};
 
-/// Where a request stands at a key: its node, and which of the queues it is in.
+/// The queue entry of a request at a key: its node, and the queue that it is in.
 #[derive(Debug, Drop)]
 pub(crate) struct Found {
     pub node: NodeId,
     pub kind: QueueKind,
 }
 
-/// Where the request of this number stands in the queues of a record.
+/// The queue entry of the request with this number in the queues of a record.
 pub(crate) fn find(links: &Links, id: RecordId, number: u64) -> Option<Found>
     ensures found { Finds links.now id number result }
     ensures sound { IsSound links.now }

@@ -1,29 +1,32 @@
-//! A lock table whose waiters are linked by index.
+//! How does the lock table find and move queued requests without walking its queues? It links them by index.
 //!
-//! [`LinkedTable`] keeps the contract of [`KeyTable`](lt_plain::KeyTable), so each call is the step of the rules on its
-//! key alone, as with the plain table. What it adds is speed. The waiters of all
-//! keys are nodes of one [`Links`](lt_links::Links); the map of keys has only a row for each key that is locked or
-//! waited for: who holds its lock, who is its distinguished waiter, and where its queues are. A request's stand at a
-//! key is found in the list of the request's own stands, so no queue is walked for it; a new writer is put in from
-//! the queue's end, where it mostly belongs; a bound on a queue is met by a walk of as many nodes as the bound at most; and
-//! a queue is walked only where each of its members has to be looked at. A row that becomes empty is dropped in the same
-//! call.
+//! [`LinkedTable`] meets the contract of [`KeyTable`](lt_plain::KeyTable), as the plain table does: each call is
+//! the step of the rules on its key alone. It adds speed. The queue entries of all keys are nodes of one
+//! [`Links`](lt_links::Links). The map of keys has a small row for each key that is held, reserved or waited for:
+//! the holder, the distinguished waiter and the id of the key's queues.
 //!
-//! All memory is taken before the first change, that of the lets too, so an error changes nothing.
+//! A request's entry at a key is found in the list of the request's own entries, without walking a queue. A new
+//! writer is inserted from the end of the queue, where it usually belongs. A check against a bound looks at no
+//! more nodes than the bound. A queue is walked only if each of its entries must be looked at. A row that becomes
+//! empty is dropped in the same call.
 //!
-//! `specs/Linked.antt` says what a row and its queues mean: the record of a key. In `src/`, `copy` tells a key's state, `find` finds a request's
-//! stand, `txn` compares whose it is, `lines` writes queues, `walk` goes through them, `settle` sees to the
-//! distinguished waiter, `visit` and `row` have what the calls do to one row, and `table` the table.
+//! A call makes all its allocations, lets included, before it changes a record. So after an error, nothing has
+//! changed.
+//!
+//! Read next: `specs/Linked.antt` says which record a row and its queues stand for. In `src/`, `table` has the
+//! table, and `visit` and `row` have what the calls do to one row. Below them, `settle` elects the distinguished
+//! waiter, `queue_walk` walks queues, `queue_edit` changes them, `find` finds a request's queue entry, `txn`
+//! compares transactions, and `copy` copies the state of a key.
 #![tactic(auto)]
 
 mod copy;
 mod find;
-mod lines;
+mod queue_edit;
+mod queue_walk;
 mod row;
 mod settle;
 mod table;
 mod txn;
 mod visit;
-mod walk;
 
 pub use table::LinkedTable;

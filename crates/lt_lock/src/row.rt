@@ -1,4 +1,7 @@
-//! What the map of keys has of a key, and what a call that frees, takes, raises or leaves does to it.
+//! What does the map keep for one key, and how do acquire, update, finish, leave and look work there? A [`Row`]
+//! has the holder, the distinguished waiter and the id of the key's queues. The contracts cite the definitions of
+//! the same names in `lt_plain/specs/Rules.antt` and `Step.antt`. Visits are in `visit.rt`; `table.rt` finds the
+//! row of a key.
 ghost use Rattle.std.specs.Prelude.{◌≡◌, ◌++◌, [], suc, not, drop, filter, slice_get, IfOk, OnOk, OnErr, IsOk, None, Some};
 ghost use Rattle.std.specs.List.{find};
 ghost use Rattle.std.specs.Option.{option_map};
@@ -6,20 +9,22 @@ ghost use Rattle.lt_plain.specs.declared.call.Reply.TheVariants.{Freed};
 ghost use Rattle.lt_plain.specs.Rules.{is_empty, has_txn, TakesNoMemory, leading, free, raise, raise_to, take_lock, set_back, is_of, acquire, update, finish, leave};
 ghost use Rattle.lt_plain.specs.Step.{look, look_reader, look_waiter, look_writer, look_behind, waits_for, waits_for_reserved};
 ghost use Rattle.lt_plain.specs.Lawful.{IsLawful};
-ghost use Rattle.lt_lock.specs.Linked.{queue_at, record_of, request_of, writer_of, IsLinked};
-ghost use Rattle.lt_lock.specs.Went.{IsRow, IsRewritten, Went};
+ghost use Rattle.lt_lock.specs.Linked.{queue_at, record_of, request_of, writer_of, HasQueues};
+ghost use Rattle.lt_lock.specs.RowStepped.{IsRow, IsRewritten, RowStepped};
 
 use crate::find::find;
-use crate::lines::{bring_first, renew, take_out};
+use crate::queue_edit::{move_to_front, replace_stand, take_out};
+use crate::queue_walk::{
+    Selection, collect_front_lets, collect_selected, drop_leading, drop_where,
+};
 use crate::settle::{reserved, settle};
 use crate::txn::is_of;
-use crate::walk::{Who, drop_leading, drop_where, let_front, let_through};
 use lt_ids::{Through, Timestamp, TxnId};
 use lt_links::{Links, Queue, QueueKind, RecordId, Stand};
 use lt_plain::{Holder, Reply};
 use std::alloc::AllocError;
 
-/// What the map has of a key. Who waits there is in the links.
+/// What the map keeps for a key. The queued requests are in the links.
 #[derive(Clone, Copy, Debug, PartialEq, Eq)]
 pub struct Row {
     pub id: RecordId,
@@ -34,55 +39,61 @@ pub(crate) fn queue(row: &Row, kind: QueueKind) -> Queue
     Queue { id: row.id, kind }
 }
 
-/// What goes on when the lock comes free: the readers, and the writers in front that wait.
-fn let_first(links: &Links, row: &Row, lets: &mut Vec<Through>) -> Result<(), AllocError>
-    requires linked { IsLinked links.now row.now.id }
+/// Collects the lets of a lock that comes free: those of the readers, and of the waiting writers that leave.
+fn collect_lets(links: &Links, row: &Row, lets: &mut Vec<Through>) -> Result<(), AllocError>
+    requires linked { HasQueues links.now row.now.id }
     requires lets { lets.old.items ≡ [] }
     ensures ok { OnOk result (lets.new.items ≡ (free (record_of links.now row.now) Freed).lets) }
     ensures err { OnErr result (lets.new.items ≡ []) }
 {
-    let_through(links, &queue(row, QueueKind::Readers), &Who::All, lets)?;
-    let_front(links, &queue(row, QueueKind::Writers), lets)
+    collect_selected(
+        links,
+        &queue(row, QueueKind::Readers),
+        &Selection::All,
+        lets,
+    )?;
+    collect_front_lets(links, &queue(row, QueueKind::Writers), lets)
 }
 
-/// The first writer, if there is one, has the lock reserved.
+/// Gives the reservation to the first writer, if there is one.
 fn reserve_first(links: &mut Links, row: &Row)
-    requires linked { IsLinked links.old row.now.id }
+    requires linked { HasQueues links.old row.now.id }
     requires none { (record_of links.old row.now).reservation ≡ None }
     ensures { IsRewritten links.old links.new row.now (record (record_of links.old row.now) { reservation = option_map (λ w. w.request) (slice_get (record_of links.old row.now).writers 0); writers = drop 1 (record_of links.old row.now).writers }) }
 {
     if let Some(node) = links.first(queue(row, QueueKind::Writers)) {
-        bring_first(links, node, &queue(row, QueueKind::Reservation));
+        move_to_front(links, node, &queue(row, QueueKind::Reservation));
     }
 }
 
-/// The readers leave, and so do the writers without a transaction before the first with one. For that one, if there is
-/// one, the lock is reserved.
-fn hand_on(links: &mut Links, row: &Row)
-    requires { IsLinked links.old row.now.id }
+/// Removes the readers, and the writers without a transaction before the first with one. Gives the reservation to
+/// that one, if there is one.
+fn release_to_next(links: &mut Links, row: &Row)
+    requires { HasQueues links.old row.now.id }
     ensures { IsRewritten links.old links.new row.now (record (record_of links.old row.now) { reservation = option_map (λ w. w.request) (find has_txn (record_of links.old row.now).writers); writers = drop (suc (leading (record_of links.old row.now).writers)) (record_of links.old row.now).writers; readers = [] }) }
 {
-    drop_where(links, &queue(row, QueueKind::Readers), &Who::All);
-    drop_where(links, &queue(row, QueueKind::Reservation), &Who::All);
+    drop_where(links, &queue(row, QueueKind::Readers), &Selection::All);
+    drop_where(links, &queue(row, QueueKind::Reservation), &Selection::All);
     drop_leading(links, &queue(row, QueueKind::Writers));
     reserve_first(links, row);
 }
 
-/// Gives the lock the holder that it has from now on, and lets go on who waited for the last one.
+/// Sets the holder, and releases the lock to the requests that are next. The lock has just lost its previous
+/// holder or its reservation.
 fn free(
     links: &mut Links,
     row: &mut Row,
     holder: Option<Holder>,
     lets: &mut Vec<Through>,
 ) -> Result<(), AllocError>
-    requires linked { IsLinked links.old row.old.id }
+    requires linked { HasQueues links.old row.old.id }
     requires lawful { IsLawful (free (record (record_of links.old row.old) { holder = holder }) Freed).after }
     requires lets { lets.old.items ≡ [] }
-    ensures ok { OnOk result (Went links.old links.new row.new row.old.id (free (record (record_of links.old row.old) { holder = holder }) Freed) Freed lets.new.items) }
+    ensures ok { OnOk result (RowStepped links.old links.new row.new row.old.id (free (record (record_of links.old row.old) { holder = holder }) Freed) Freed lets.new.items) }
     ensures err { OnErr result ((links.new ≡ links.old) × (row.new ≡ row.old) × (lets.new.items ≡ [])) }
 {
-    let_first(links, row, lets)?;
-    hand_on(links, row);
+    collect_lets(links, row, lets)?;
+    release_to_next(links, row);
     row.holder = holder;
     settle(links, row);
     Ok(())
@@ -95,15 +106,15 @@ fn raise_to(
     ts: Timestamp,
     lets: &mut Vec<Through>,
 ) -> Result<Reply, AllocError>
-    requires linked { IsLinked links.old row.old.id }
+    requires linked { HasQueues links.old row.old.id }
     requires lawful { IsLawful (raise_to (record_of links.old row.old) holder.now ts).after }
     requires lets { lets.old.items ≡ [] }
-    ensures ok { IfOk result (λ reply. Went links.old links.new row.new row.old.id (raise_to (record_of links.old row.old) holder.now ts) reply lets.new.items) }
+    ensures ok { IfOk result (λ reply. RowStepped links.old links.new row.new row.old.id (raise_to (record_of links.old row.old) holder.now ts) reply lets.new.items) }
     ensures err { OnErr result ((links.new ≡ links.old) × (row.new ≡ row.old) × (lets.new.items ≡ [])) }
 {
     let readers = queue(row, QueueKind::Readers);
-    let_through(links, &readers, &Who::Below(ts), lets)?;
-    drop_where(links, &readers, &Who::Below(ts));
+    collect_selected(links, &readers, &Selection::Below(ts), lets)?;
+    drop_where(links, &readers, &Selection::Below(ts));
     row.holder = Some(Holder {
         txn: holder.txn,
         ts,
@@ -112,7 +123,7 @@ fn raise_to(
     Ok(Reply::Raised)
 }
 
-/// The holder's timestamp rises, unless it is as high already.
+/// Raises the holder's timestamp, unless it is already that high.
 fn raise(
     links: &mut Links,
     row: &mut Row,
@@ -120,10 +131,10 @@ fn raise(
     ts: Timestamp,
     lets: &mut Vec<Through>,
 ) -> Result<Reply, AllocError>
-    requires linked { IsLinked links.old row.old.id }
+    requires linked { HasQueues links.old row.old.id }
     requires lawful { IsLawful (raise (record_of links.old row.old) holder.now ts).after }
     requires lets { lets.old.items ≡ [] }
-    ensures ok { IfOk result (λ reply. Went links.old links.new row.new row.old.id (raise (record_of links.old row.old) holder.now ts) reply lets.new.items) }
+    ensures ok { IfOk result (λ reply. RowStepped links.old links.new row.new row.old.id (raise (record_of links.old row.old) holder.now ts) reply lets.new.items) }
     ensures err { OnErr result ((links.new ≡ links.old) × (row.new ≡ row.old) × (lets.new.items ≡ [])) }
     ensures no_memory { TakesNoMemory (record_of links.old row.old) (raise (record_of links.old row.old) holder.now ts) → IsOk result }
 {
@@ -134,10 +145,10 @@ fn raise(
     }
 }
 
-/// A reservation of this transaction is dropped, and one of another goes to the front of the writers, and does not
-/// wait.
+/// Drops a reservation of this transaction. Moves a reservation of another transaction to the front of the
+/// writers, inactive.
 fn set_back(links: &mut Links, row: &Row, txn: TxnId)
-    requires { IsLinked links.old row.now.id }
+    requires { HasQueues links.old row.now.id }
     ensures { IsRewritten links.old links.new row.now (record (record_of links.old row.now) { reservation = None; writers = filter (λ w. not (is_of txn w)) (set_back (record_of links.old row.now).reservation) ++ (record_of links.old row.now).writers }) }
 {
     let Some(node) = links.first(queue(row, QueueKind::Reservation)) else {
@@ -149,33 +160,33 @@ fn set_back(links: &mut Links, row: &Row, txn: TxnId)
         return;
     }
     stand.active = false;
-    renew(links, node, &stand);
-    bring_first(links, node, &queue(row, QueueKind::Writers));
+    replace_stand(links, node, &stand);
+    move_to_front(links, node, &queue(row, QueueKind::Writers));
 }
 
-/// A lock that nobody holds gets this holder.
+/// Gives a lock that has no holder this one.
 fn take_lock(
     links: &mut Links,
     row: &mut Row,
     holder: &Holder,
     lets: &mut Vec<Through>,
 ) -> Result<Reply, AllocError>
-    requires linked { IsLinked links.old row.old.id }
+    requires linked { HasQueues links.old row.old.id }
     requires lawful { IsLawful (take_lock (record_of links.old row.old) holder.now).after }
     requires lets { lets.old.items ≡ [] }
-    ensures ok { IfOk result (λ reply. Went links.old links.new row.new row.old.id (take_lock (record_of links.old row.old) holder.now) reply lets.new.items) }
+    ensures ok { IfOk result (λ reply. RowStepped links.old links.new row.new row.old.id (take_lock (record_of links.old row.old) holder.now) reply lets.new.items) }
     ensures err { OnErr result ((links.new ≡ links.old) × (row.new ≡ row.old) × (lets.new.items ≡ [])) }
 {
     let writers = queue(row, QueueKind::Writers);
-    let_through(links, &writers, &Who::Of(holder.txn), lets)?;
-    drop_where(links, &writers, &Who::Of(holder.txn));
+    collect_selected(links, &writers, &Selection::Of(holder.txn), lets)?;
+    drop_where(links, &writers, &Selection::Of(holder.txn));
     set_back(links, row, holder.txn);
     row.holder = Some(*holder);
     settle(links, row);
     Ok(Reply::Taken)
 }
 
-/// A transaction takes the lock, or raises its timestamp.
+/// A transaction takes the lock, or raises the timestamp of the lock that it holds.
 pub(crate) fn acquire(
     links: &mut Links,
     row: &mut Row,
@@ -185,7 +196,7 @@ pub(crate) fn acquire(
 ) -> Result<Reply, AllocError>
     requires row { IsRow links.old row.old }
     requires lets { lets.old.items ≡ [] }
-    ensures ok { IfOk result (λ reply. Went links.old links.new row.new row.old.id (acquire (record_of links.old row.old) txn ts) reply lets.new.items) }
+    ensures ok { IfOk result (λ reply. RowStepped links.old links.new row.new row.old.id (acquire (record_of links.old row.old) txn ts) reply lets.new.items) }
     ensures err { OnErr result ((links.new ≡ links.old) × (row.new ≡ row.old) × (lets.new.items ≡ [])) }
     ensures no_memory { TakesNoMemory (record_of links.old row.old) (acquire (record_of links.old row.old) txn ts) → IsOk result }
 {
@@ -207,7 +218,7 @@ pub(crate) fn update(
 ) -> Result<Reply, AllocError>
     requires row { IsRow links.old row.old }
     requires lets { lets.old.items ≡ [] }
-    ensures ok { IfOk result (λ reply. Went links.old links.new row.new row.old.id (update (record_of links.old row.old) txn ts) reply lets.new.items) }
+    ensures ok { IfOk result (λ reply. RowStepped links.old links.new row.new row.old.id (update (record_of links.old row.old) txn ts) reply lets.new.items) }
     ensures err { OnErr result ((links.new ≡ links.old) × (row.new ≡ row.old) × (lets.new.items ≡ [])) }
     ensures no_memory { TakesNoMemory (record_of links.old row.old) (update (record_of links.old row.old) txn ts) → IsOk result }
 {
@@ -218,7 +229,7 @@ pub(crate) fn update(
     }
 }
 
-/// The holder gives the lock up.
+/// The holder releases the lock.
 pub(crate) fn finish(
     links: &mut Links,
     row: &mut Row,
@@ -227,7 +238,7 @@ pub(crate) fn finish(
 ) -> Result<Reply, AllocError>
     requires row { IsRow links.old row.old }
     requires lets { lets.old.items ≡ [] }
-    ensures ok { IfOk result (λ reply. Went links.old links.new row.new row.old.id (finish (record_of links.old row.old) txn) reply lets.new.items) }
+    ensures ok { IfOk result (λ reply. RowStepped links.old links.new row.new row.old.id (finish (record_of links.old row.old) txn) reply lets.new.items) }
     ensures err { OnErr result ((links.new ≡ links.old) × (row.new ≡ row.old) × (lets.new.items ≡ [])) }
     ensures no_memory { TakesNoMemory (record_of links.old row.old) (finish (record_of links.old row.old) txn) → IsOk result }
 {
@@ -241,7 +252,7 @@ pub(crate) fn finish(
     }
 }
 
-/// A request waits no longer, or gives its reservation up.
+/// A request stops waiting, or gives up its reservation.
 pub(crate) fn leave(
     links: &mut Links,
     row: &mut Row,
@@ -250,7 +261,7 @@ pub(crate) fn leave(
 ) -> Result<Reply, AllocError>
     requires row { IsRow links.old row.old }
     requires lets { lets.old.items ≡ [] }
-    ensures ok { IfOk result (λ reply. Went links.old links.new row.new row.old.id (leave (record_of links.old row.old) number) reply lets.new.items) }
+    ensures ok { IfOk result (λ reply. RowStepped links.old links.new row.new row.old.id (leave (record_of links.old row.old) number) reply lets.new.items) }
     ensures err { OnErr result ((links.new ≡ links.old) × (row.new ≡ row.old) × (lets.new.items ≡ [])) }
     ensures no_memory { TakesNoMemory (record_of links.old row.old) (leave (record_of links.old row.old) number) → IsOk result }
 {
@@ -267,7 +278,7 @@ pub(crate) fn leave(
     Ok(Reply::Left)
 }
 
-/// What a waiter of this number is told of the transaction that it waits for.
+/// The reply to a look by the waiting request with this number, which waits for transaction `txn`.
 fn waits_for(row: &Row, number: u64, txn: TxnId, is_held: bool) -> Reply
     ensures { result ≡ waits_for row.now.distinguished number txn is_held }
 {
@@ -277,7 +288,8 @@ fn waits_for(row: &Row, number: u64, txn: TxnId, is_held: bool) -> Reply
     }
 }
 
-/// What a waiter of this number is told of the request for which the lock is reserved, by the transaction of that one.
+/// The reply to a look by the waiting request with this number, which waits for the request that holds the
+/// reservation. `reserved` is the transaction of that request.
 fn waits_for_reserved(row: &Row, number: u64, reserved: Option<TxnId>) -> Reply
     ensures { result ≡ waits_for_reserved row.now.distinguished number reserved }
 {
@@ -287,7 +299,7 @@ fn waits_for_reserved(row: &Row, number: u64, reserved: Option<TxnId>) -> Reply
     }
 }
 
-/// What a writer is told of it.
+/// The reply to a look by a waiting writer, which waits for the request that holds the reservation.
 fn look_behind(row: &Row, stand: &Stand, reserved: Option<TxnId>) -> Reply
     ensures { result ≡ look_behind row.now.distinguished (request_of stand.now) reserved }
 {
@@ -299,7 +311,7 @@ fn look_behind(row: &Row, stand: &Stand, reserved: Option<TxnId>) -> Reply
 }
 
 fn look_writer(links: &Links, row: &Row, stand: &Stand) -> Reply
-    requires { IsLinked links.now row.now.id }
+    requires { HasQueues links.now row.now.id }
     ensures { result ≡ look_writer (record_of links.now row.now) (request_of stand.now) row.now.holder (record_of links.now row.now).reservation }
 {
     match (row.holder, reserved(links, row)) {
@@ -310,7 +322,7 @@ fn look_writer(links: &Links, row: &Row, stand: &Stand) -> Reply
 }
 
 fn look_reader(links: &Links, row: &Row, number: u64) -> Reply
-    requires { IsLinked links.now row.now.id }
+    requires { HasQueues links.now row.now.id }
     ensures { result ≡ look_reader (record_of links.now row.now) number row.now.holder (record_of links.now row.now).reservation }
 {
     match (row.holder, reserved(links, row)) {
@@ -320,9 +332,9 @@ fn look_reader(links: &Links, row: &Row, number: u64) -> Reply
     }
 }
 
-/// What a request among the writers finds out.
+/// What a request among the writers finds at the key.
 fn look_waiting(links: &Links, row: &Row, stand: &Stand) -> Reply
-    requires { IsLinked links.now row.now.id }
+    requires { HasQueues links.now row.now.id }
     ensures { result ≡ look_waiter (record_of links.now row.now) stand.now.number (Some (writer_of stand.now)) }
 {
     if stand.active {
@@ -332,7 +344,7 @@ fn look_waiting(links: &Links, row: &Row, stand: &Stand) -> Reply
     }
 }
 
-/// What the request of this number finds out.
+/// What the request with this number finds at the key.
 pub(crate) fn look(links: &Links, row: &Row, number: u64) -> Reply
     requires { IsRow links.now row.now }
     ensures { result ≡ look (record_of links.now row.now) number }
@@ -347,9 +359,9 @@ pub(crate) fn look(links: &Links, row: &Row, number: u64) -> Reply
     }
 }
 
-/// Whether nobody holds the lock, nor has it reserved, nor waits.
+/// Whether the key has no holder, no reservation and no queued requests.
 pub(crate) fn is_empty(links: &Links, row: &Row) -> bool
-    requires { IsLinked links.now row.now.id }
+    requires { HasQueues links.now row.now.id }
     ensures { result ≡ is_empty (record_of links.now row.now) }
 {
     row.holder.is_none()

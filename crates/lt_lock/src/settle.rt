@@ -1,4 +1,4 @@
-//! The distinguished waiter: the one that sees to it that the lock comes free.
+//! Elects the distinguished waiter, which is responsible for pushing the lock's holder.
 ghost use Rattle.std.specs.Prelude.{◌≡◌, ◌&&◌, nat_eq, map, slice_get};
 ghost use Rattle.std.specs.List.{list_any, IsDistinct};
 ghost use Rattle.std.specs.Option.{option_map};
@@ -6,25 +6,25 @@ ghost use Rattle.lt_links.specs.Maps.{IsSound};
 ghost use Rattle.lt_links.specs.declared.ids.QueueKind.TheVariants.{Reservation};
 ghost use Rattle.lt_plain.specs.Rules.{eligible, distinguished_of, settle};
 ghost use Rattle.lt_plain.specs.Lawful.{numbers};
-ghost use Rattle.lt_lock.specs.Linked.{line, queue_at, record_of, request_of, IsLinked};
+ghost use Rattle.lt_lock.specs.Linked.{line, queue_at, record_of, request_of, HasQueues};
 
 use crate::find::find;
+use crate::queue_walk::{first_eligible, is_eligible};
 use crate::row::{Row, queue};
-use crate::walk::{first_eligible, is_eligible};
 use lt_links::{Links, QueueKind, Stand};
 
-/// For whom the lock is reserved.
+/// The queue entry of the request that holds the reservation.
 pub(crate) fn reserved(links: &Links, row: &Row) -> Option<Stand>
-    requires { IsLinked links.now row.now.id }
+    requires { HasQueues links.now row.now.id }
     ensures stand { result ≡ slice_get (line links.now (queue_at row.now.id Reservation)) 0 }
 {
     let node = links.first(queue(row, QueueKind::Reservation))?;
     Some(links.stand(node))
 }
 
-/// Whether the waiter of this number may be the distinguished one.
+/// Whether the queued request with this number is eligible as the distinguished waiter.
 fn is_among_eligible(links: &Links, row: &Row, number: u64) -> bool
-    requires linked { IsLinked links.now row.now.id }
+    requires linked { HasQueues links.now row.now.id }
     requires distinct { IsDistinct nat_eq (numbers (record_of links.now row.now)) }
     ensures { result ≡ list_any (λ m. nat_eq m number) (eligible (record_of links.now row.now).reservation (record_of links.now row.now).readers (record_of links.now row.now).writers) }
 {
@@ -38,9 +38,9 @@ fn is_among_eligible(links: &Links, row: &Row, number: u64) -> bool
     }
 }
 
-/// The first waiter that may be the distinguished one.
+/// The number of the first queued request that is eligible as the distinguished waiter.
 fn first_waiter(links: &Links, row: &Row) -> Option<u64>
-    requires { IsLinked links.now row.now.id }
+    requires { HasQueues links.now row.now.id }
     ensures { result ≡ slice_get (eligible (record_of links.now row.now).reservation (record_of links.now row.now).readers (record_of links.now row.now).writers) 0 }
 {
     match links.first(queue(row, QueueKind::Readers)) {
@@ -54,7 +54,7 @@ fn first_waiter(links: &Links, row: &Row) -> Option<u64>
 }
 
 fn distinguished_of(links: &Links, row: &Row) -> Option<u64>
-    requires linked { IsLinked links.now row.now.id }
+    requires linked { HasQueues links.now row.now.id }
     requires distinct { IsDistinct nat_eq (numbers (record_of links.now row.now)) }
     ensures { result ≡ distinguished_of row.now.distinguished (eligible (record_of links.now row.now).reservation (record_of links.now row.now).readers (record_of links.now row.now).writers) }
 {
@@ -64,9 +64,9 @@ fn distinguished_of(links: &Links, row: &Row) -> Option<u64>
     }
 }
 
-/// The distinguished waiter stays while it may be it; else it is the first that may.
+/// Elects the distinguished waiter: the current one while it is eligible, else the first eligible one.
 pub(crate) fn settle(links: &Links, row: &mut Row)
-    requires linked { IsLinked links.now row.old.id }
+    requires linked { HasQueues links.now row.old.id }
     requires distinct { IsDistinct nat_eq (numbers (record_of links.now row.old)) }
     ensures id { row.new.id ≡ row.old.id }
     ensures record { record_of links.now row.new ≡ settle (record_of links.now row.old) }

@@ -1,4 +1,6 @@
-//! The table: a row for each key that is locked or waited for, over the links.
+//! How does the linked table keep all keys? [`LinkedTable`] has a row for each key that is held, reserved or
+//! waited for, over one set of links. A function `.._at` applies a call to the row of one key, if there is one.
+//! Read `row.rt` and `visit.rt` next, which have the calls on a row.
 ghost use Rattle.std.specs.Prelude.{◌≡◌, [], true, IfOk, OnErr, OnOk, IsOk};
 ghost use Rattle.std.specs.FinMap as map;
 ghost use Rattle.std.specs.BTreeMap.{keys};
@@ -12,7 +14,7 @@ ghost use Rattle.lt_plain.specs.Visit.{visit};
 ghost use Rattle.lt_plain.specs.Step.{look};
 ghost use Rattle.lt_plain.specs.Table.{queued_of, record_at, with_record, IsStep, AreSound};
 ghost use Rattle.lt_lock.specs.Linked.{records_of, request_of, IsNamed, AreLinked};
-ghost use Rattle.lt_lock.specs.Went.{IsTable};
+ghost use Rattle.lt_lock.specs.RowStepped.{IsTable};
 
 use crate::copy::state;
 use crate::row;
@@ -25,8 +27,8 @@ use std::alloc::{AllocError, Global};
 use std::collections::BTreeMap;
 use std::marker::Model;
 
-/// A lock table that keeps the waiters of all keys in one [`Links`](lt_links::Links). In a contract it is the map of
-/// its keys' records.
+/// A lock table that keeps the queued requests of all keys in one [`Links`](lt_links::Links). In a contract, it is
+/// the map of its keys' records.
 #[derive(Drop)]
 pub struct LinkedTable {
     links: Links,
@@ -42,7 +44,7 @@ impl Model for LinkedTable {
     ghost coded = { records_code };
 
     ghost use Rattle.lt_lock.specs.Linked.{records_of};
-    ghost use Rattle.lt_lock.specs.Went.{IsTable};
+    ghost use Rattle.lt_lock.specs.RowStepped.{IsTable};
 
     ghost view = { λ t. records_of t.links t.rows };
 
@@ -50,7 +52,7 @@ impl Model for LinkedTable {
 }
 
 impl LinkedTable {
-    /// A table of no keys. It takes no memory; what it takes later comes from this allocator.
+    /// A table without keys. This call allocates nothing; later calls allocate from this allocator.
     pub fn new(alloc: Global) -> Self
         ensures { result ≡ map.empty }
     {
@@ -79,7 +81,8 @@ fn stand_of(request: &Request, wait: u32) -> Stand
     }
 }
 
-/// Keeps no row that is empty. Only a lock that comes free, and a request that stops waiting, leave one so.
+/// Drops the row at the key if it is empty. Only a lock that comes free or a request that stops waiting can leave
+/// a row empty.
 fn drop_if_empty(links: &mut Links, rows: &mut Rows, key: &Key)
     requires { AreLinked links.old rows.old }
     ensures linked { AreLinked links.new rows.new }
@@ -199,7 +202,7 @@ fn state_at(links: &Links, rows: &Rows, alloc: Global, key: &Key) -> Result<KeyS
     }
 }
 
-/// The keys that have a row, in order.
+/// The keys that have a row, in byte order.
 fn all_keys(rows: &Rows, alloc: Global) -> Result<Vec<Key>, AllocError>
     ensures keys { IfOk result (λ all. all.items ≡ keys rows.now) }
     ensures rising { OnOk result (IsStrictlySortedBy (slice_cmp nat_cmp) (keys rows.now)) }

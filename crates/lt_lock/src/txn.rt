@@ -1,11 +1,11 @@
-//! Whose a stand is. One without a transaction is no transaction's.
+//! Compares the transactions of queue entries. An entry without a transaction belongs to none.
 ghost use Rattle.std.specs.Prelude.{◌≡◌};
 ghost use Rattle.lt_plain.specs.Rules.{is_txn, is_same_txn};
 
 use lt_ids::TxnId;
 use lt_links::Stand;
 
-/// Whether it is a stand of this transaction.
+/// Whether the entry belongs to this transaction.
 pub(crate) fn is_of(stand: &Stand, txn: TxnId) -> bool
     ensures { result ≡ is_txn stand.now.txn txn }
 {
@@ -15,8 +15,8 @@ pub(crate) fn is_of(stand: &Stand, txn: TxnId) -> bool
     }
 }
 
-/// Whether both are stands of one transaction.
-pub(crate) fn is_of_one_with(stand: &Stand, other: &Stand) -> bool
+/// Whether both entries belong to the same transaction.
+pub(crate) fn is_same_txn(stand: &Stand, other: &Stand) -> bool
     ensures { result ≡ is_same_txn stand.now.txn other.now.txn }
 {
     match other.txn {

@@ -1,4 +1,6 @@
-//! What a visit does to a row and its queues.
+//! What does a visit do to a row and its queues? The functions follow the definitions of the same names in
+//! `lt_plain/specs/Visit.antt`, case by case. `docs/RULES.md` has these cases as a table; the other calls are in
+//! `row.rt`.
 ghost use Rattle.std.specs.Prelude.{◌≡◌, ◌≢◌, ◌<◌, ◌++◌, [], true, map, slice_get, None, Some, IfOk, OnOk, OnErr, IsOk};
 ghost use Rattle.std.specs.List.{AllByRecursion};
 ghost use Rattle.lt_links.specs.declared.ids.QueueKind.TheVariants.{Reservation};
@@ -8,28 +10,28 @@ ghost use Rattle.lt_plain.specs.Visit.{pass, is_queued, is_too_long, wait_to_wri
 ghost use Rattle.lt_links.specs.Maps.{has_record, IsSound};
 ghost use Rattle.lt_lock.specs.Linked.{line, queue_at, record_of, request_of, writer_of, IsNamed};
 ghost use Rattle.lt_lock.specs.Found.{Finds, PutsWriter};
-ghost use Rattle.lt_lock.specs.Went.{IsRow, IsRewritten, Went};
+ghost use Rattle.lt_lock.specs.RowStepped.{IsRow, IsRewritten, RowStepped};
 
 use crate::find::{Found, find};
-use crate::lines::{bring_first, put_behind, put_first, renew, take_out};
+use crate::queue_edit::{insert_behind, insert_first, move_to_front, replace_stand, take_out};
+use crate::queue_walk::{has_at_least, position_of};
 use crate::row::{Row, queue};
 use crate::settle::{reserved, settle};
 use crate::txn::is_of;
-use crate::walk::{has_at_least, place_of};
 use lt_ids::Access;
 use lt_links::{Links, Queue, QueueKind, Stand};
 use lt_plain::{Holder, Reply};
 use std::alloc::AllocError;
 use std::cmp::Ordering;
 
-/// What a visit asks of the key, and the bound of its request.
+/// The access of a visit, and the bound of its request.
 #[derive(Clone, Copy)]
-struct Asked {
+struct VisitTerms {
     longest: u32,
     access: Access,
 }
 
-/// Puts a new request in its place among the writers.
+/// Inserts a new request at its position among the writers.
 fn put_writer(links: &mut Links, to: &Queue, stand: &Stand) -> Result<(), AllocError>
     requires there { has_record links.old to.now.id ≡ true }
     requires sound { IsSound links.old }
@@ -40,13 +42,13 @@ fn put_writer(links: &mut Links, to: &Queue, stand: &Stand) -> Result<(), AllocE
     ensures ok { OnOk result (PutsWriter links.old links.new to.now stand.now) }
     ensures err { OnErr result (links.new ≡ links.old) }
 {
-    match place_of(links, to, stand.number) {
-        None => put_first(links, to, stand),
-        Some(node) => put_behind(links, node, stand),
+    match position_of(links, to, stand.number) {
+        None => insert_first(links, to, stand),
+        Some(node) => insert_behind(links, node, stand),
     }
 }
 
-/// Where the request waited to read, it waits no longer.
+/// Removes the request from the readers, if it was waiting to read.
 fn stop_reading(links: &mut Links, row: &Row, found: &Option<Found>, stand: &Stand)
     requires row { IsRow links.old row.now }
     requires found { Finds links.old row.now.id stand.now.number found.now }
@@ -61,17 +63,17 @@ fn stop_reading(links: &mut Links, row: &Row, found: &Option<Found>, stand: &Sta
     take_out(links, found.node);
 }
 
-/// The request goes on.
+/// The request passes.
 fn pass(links: &mut Links, row: &Row, found: &Option<Found>, stand: &Stand) -> Reply
     requires row { IsRow links.old row.now }
     requires found { Finds links.old row.now.id stand.now.number found.now }
-    ensures { Went links.old links.new row.now row.now.id (pass (stop_reading (record_of links.old row.now) stand.now.number)) result [] }
+    ensures { RowStepped links.old links.new row.now row.now.id (pass (stop_reading (record_of links.old row.now) stand.now.number)) result [] }
 {
     stop_reading(links, row, found, stand);
     Reply::Passed
 }
 
-/// The request takes its place among the writers, or the one that it has already.
+/// The request waits at its position among the writers. If it is there already, this visit replaces its entry.
 fn wait_to_write(
     links: &mut Links,
     row: &Row,
@@ -82,7 +84,7 @@ fn wait_to_write(
     requires found { Finds links.old row.now.id stand.now.number found.now }
     requires active { stand.now.active ≡ true }
     requires named { IsNamed stand.now }
-    ensures ok { IfOk result (λ reply. Went links.old links.new row.now row.now.id (wait_to_write (stop_reading (record_of links.old row.now) stand.now.number) (request_of stand.now)) reply []) }
+    ensures ok { IfOk result (λ reply. RowStepped links.old links.new row.now row.now.id (wait_to_write (stop_reading (record_of links.old row.now) stand.now.number) (request_of stand.now)) reply []) }
     ensures err { OnErr result (links.new ≡ links.old) }
 {
     let writers = queue(row, QueueKind::Writers);
@@ -91,7 +93,7 @@ fn wait_to_write(
         return Ok(Reply::MustWait);
     };
     if found.kind == QueueKind::Writers {
-        renew(links, found.node, stand);
+        replace_stand(links, found.node, stand);
         return Ok(Reply::MustWait);
     }
     put_writer(links, &writers, stand)?;
@@ -102,7 +104,7 @@ fn wait_to_write(
     Ok(Reply::MustWait)
 }
 
-/// Whether the request stands among the writers.
+/// Whether the request is among the writers.
 fn is_queued(links: &Links, row: &Row, found: &Option<Found>, number: u64) -> bool
     requires row { IsRow links.now row.now }
     requires found { Finds links.now row.now.id number found.now }
@@ -118,7 +120,8 @@ fn is_queued(links: &Links, row: &Row, found: &Option<Found>, number: u64) -> bo
     }
 }
 
-/// Whether the writers are too many for the request, which does not stand among them.
+/// Whether the writers are too many for the request: it has a bound, they are at least that many, and it is not
+/// among them.
 fn is_too_long(links: &Links, row: &Row, found: &Option<Found>, stand: &Stand, longest: u32) -> bool
     requires row { IsRow links.now row.now }
     requires found { Finds links.now row.now.id stand.now.number found.now }
@@ -129,7 +132,7 @@ fn is_too_long(links: &Links, row: &Row, found: &Option<Found>, stand: &Stand, l
         && has_at_least(links, &queue(row, QueueKind::Writers), longest)
 }
 
-/// The request joins the writers, if they are not too many for it.
+/// The request joins the writers, unless they are too many for it.
 fn join_writers(
     links: &mut Links,
     row: &Row,
@@ -141,7 +144,7 @@ fn join_writers(
     requires found { Finds links.old row.now.id stand.now.number found.now }
     requires active { stand.now.active ≡ true }
     requires named { IsNamed stand.now }
-    ensures ok { IfOk result (λ reply. Went links.old links.new row.now row.now.id (join_writers (stop_reading (record_of links.old row.now) stand.now.number) (request_of stand.now) longest) reply []) }
+    ensures ok { IfOk result (λ reply. RowStepped links.old links.new row.now row.now.id (join_writers (stop_reading (record_of links.old row.now) stand.now.number) (request_of stand.now) longest) reply []) }
     ensures err { OnErr result (links.new ≡ links.old) }
     ensures no_memory { TakesNoMemory (stop_reading (record_of links.old row.now) stand.now.number) (join_writers (stop_reading (record_of links.old row.now) stand.now.number) (request_of stand.now) longest) → IsOk result }
 {
@@ -152,7 +155,7 @@ fn join_writers(
     wait_to_write(links, row, found, stand)
 }
 
-/// The request waits at the front of the readers; who stands among the writers already waits there.
+/// The request waits at the front of the readers. If it is among the writers already, it waits there.
 fn wait_to_read(
     links: &mut Links,
     row: &Row,
@@ -163,21 +166,21 @@ fn wait_to_read(
     requires found { Finds links.old row.now.id stand.now.number found.now }
     requires active { stand.now.active ≡ true }
     requires named { IsNamed stand.now }
-    ensures ok { IfOk result (λ reply. Went links.old links.new row.now row.now.id (wait_to_read (stop_reading (record_of links.old row.now) stand.now.number) (request_of stand.now)) reply []) }
+    ensures ok { IfOk result (λ reply. RowStepped links.old links.new row.now row.now.id (wait_to_read (stop_reading (record_of links.old row.now) stand.now.number) (request_of stand.now)) reply []) }
     ensures err { OnErr result (links.new ≡ links.old) }
 {
     let readers = queue(row, QueueKind::Readers);
     let Some(found) = found else {
-        put_first(links, &readers, stand)?;
+        insert_first(links, &readers, stand)?;
         return Ok(Reply::MustWait);
     };
     if found.kind == QueueKind::Reservation {
-        put_first(links, &readers, stand)?;
+        insert_first(links, &readers, stand)?;
         return Ok(Reply::MustWait);
     }
-    renew(links, found.node, stand);
+    replace_stand(links, found.node, stand);
     if found.kind == QueueKind::Readers {
-        bring_first(links, found.node, &readers);
+        move_to_front(links, found.node, &readers);
         return Ok(Reply::MustWait);
     }
     Ok(Reply::MustWait)
@@ -189,13 +192,13 @@ fn visit_held(
     holder: &Holder,
     found: &Option<Found>,
     stand: &Stand,
-    asked: Asked,
+    asked: VisitTerms,
 ) -> Result<Reply, AllocError>
     requires row { IsRow links.old row.now }
     requires found { Finds links.old row.now.id stand.now.number found.now }
     requires active { stand.now.active ≡ true }
     requires named { IsNamed stand.now }
-    ensures ok { IfOk result (λ reply. Went links.old links.new row.now row.now.id (visit_held (stop_reading (record_of links.old row.now) stand.now.number) holder.now (request_of stand.now) asked.longest asked.access) reply []) }
+    ensures ok { IfOk result (λ reply. RowStepped links.old links.new row.now row.now.id (visit_held (stop_reading (record_of links.old row.now) stand.now.number) holder.now (request_of stand.now) asked.longest asked.access) reply []) }
     ensures err { OnErr result (links.new ≡ links.old) }
     ensures no_memory { TakesNoMemory (stop_reading (record_of links.old row.now) stand.now.number) (visit_held (stop_reading (record_of links.old row.now) stand.now.number) holder.now (request_of stand.now) asked.longest asked.access) → IsOk result }
 {
@@ -206,7 +209,7 @@ fn visit_held(
     }
 }
 
-/// The request takes the place of the one for which the lock is reserved, and that one is the first writer from now on.
+/// The request takes over the reservation. The request that held it becomes the first writer, inactive.
 fn take_reservation(
     links: &mut Links,
     row: &Row,
@@ -217,22 +220,22 @@ fn take_reservation(
     requires unheld { row.now.holder ≡ None }
     requires reserved { slice_get (line links.old (queue_at row.now.id Reservation)) 0 ≡ Some reservation.now }
     requires named { IsNamed stand.now }
-    ensures ok { IfOk result (λ reply. Went links.old links.new row.now row.now.id (pass (record (stop_reading (record_of links.old row.now) stand.now.number) { reservation = Some (request_of stand.now); writers = set_back (Some (request_of reservation.now)) ++ (record_of links.old row.now).writers })) reply []) }
+    ensures ok { IfOk result (λ reply. RowStepped links.old links.new row.now row.now.id (pass (record (stop_reading (record_of links.old row.now) stand.now.number) { reservation = Some (request_of stand.now); writers = set_back (Some (request_of reservation.now)) ++ (record_of links.old row.now).writers })) reply []) }
     ensures err { OnErr result (links.new ≡ links.old) }
 {
     let reserved = queue(row, QueueKind::Reservation);
-    put_first(links, &reserved, stand)?;
+    insert_first(links, &reserved, stand)?;
     if let Some(node) = links.last(reserved) {
         let mut back = links.stand(node);
         back.active = false;
-        renew(links, node, &back);
-        bring_first(links, node, &queue(row, QueueKind::Writers));
+        replace_stand(links, node, &back);
+        move_to_front(links, node, &queue(row, QueueKind::Writers));
     }
     Ok(Reply::Passed)
 }
 
-/// A request of a smaller number takes the place of the one for which the lock is reserved. One without a transaction
-/// passes, and leaves it reserved.
+/// A request with a smaller number takes over the reservation. A request without a transaction passes instead, and
+/// the reservation stays.
 fn displace(
     links: &mut Links,
     row: &Row,
@@ -246,7 +249,7 @@ fn displace(
     requires less { stand.now.number < reservation.now.number }
     requires found { Finds links.old row.now.id stand.now.number found.now }
     requires named { IsNamed stand.now }
-    ensures ok { IfOk result (λ reply. Went links.old links.new row.now row.now.id (displace stand.now.txn (stop_reading (record_of links.old row.now) stand.now.number) (request_of reservation.now) (request_of stand.now)) reply []) }
+    ensures ok { IfOk result (λ reply. RowStepped links.old links.new row.now row.now.id (displace stand.now.txn (stop_reading (record_of links.old row.now) stand.now.number) (request_of reservation.now) (request_of stand.now)) reply []) }
     ensures err { OnErr result (links.new ≡ links.old) }
     ensures no_memory { TakesNoMemory (stop_reading (record_of links.old row.now) stand.now.number) (displace stand.now.txn (stop_reading (record_of links.old row.now) stand.now.number) (request_of reservation.now) (request_of stand.now)) → IsOk result }
 {
@@ -262,7 +265,7 @@ fn visit_reserved(
     reservation: &Stand,
     found: &Option<Found>,
     stand: &Stand,
-    asked: Asked,
+    asked: VisitTerms,
 ) -> Result<Reply, AllocError>
     requires row { IsRow links.old row.now }
     requires unheld { row.now.holder ≡ None }
@@ -270,7 +273,7 @@ fn visit_reserved(
     requires found { Finds links.old row.now.id stand.now.number found.now }
     requires active { stand.now.active ≡ true }
     requires named { IsNamed stand.now }
-    ensures ok { IfOk result (λ reply. Went links.old links.new row.now row.now.id (visit_reserved (stop_reading (record_of links.old row.now) stand.now.number) (request_of reservation.now) (request_of stand.now) asked.longest asked.access) reply []) }
+    ensures ok { IfOk result (λ reply. RowStepped links.old links.new row.now row.now.id (visit_reserved (stop_reading (record_of links.old row.now) stand.now.number) (request_of reservation.now) (request_of stand.now) asked.longest asked.access) reply []) }
     ensures err { OnErr result (links.new ≡ links.old) }
     ensures no_memory { TakesNoMemory (stop_reading (record_of links.old row.now) stand.now.number) (visit_reserved (stop_reading (record_of links.old row.now) stand.now.number) (request_of reservation.now) (request_of stand.now) asked.longest asked.access) → IsOk result }
 {
@@ -289,13 +292,13 @@ fn visit_lock(
     row: &Row,
     found: &Option<Found>,
     stand: &Stand,
-    asked: Asked,
+    asked: VisitTerms,
 ) -> Result<Reply, AllocError>
     requires row { IsRow links.old row.now }
     requires found { Finds links.old row.now.id stand.now.number found.now }
     requires active { stand.now.active ≡ true }
     requires named { IsNamed stand.now }
-    ensures ok { IfOk result (λ reply. Went links.old links.new row.now row.now.id (visit_lock row.now.holder (record_of links.old row.now).reservation (stop_reading (record_of links.old row.now) stand.now.number) (request_of stand.now) asked.longest asked.access) reply []) }
+    ensures ok { IfOk result (λ reply. RowStepped links.old links.new row.now row.now.id (visit_lock row.now.holder (record_of links.old row.now).reservation (stop_reading (record_of links.old row.now) stand.now.number) (request_of stand.now) asked.longest asked.access) reply []) }
     ensures err { OnErr result (links.new ≡ links.old) }
     ensures no_memory { TakesNoMemory (stop_reading (record_of links.old row.now) stand.now.number) (visit_lock row.now.holder (record_of links.old row.now).reservation (stop_reading (record_of links.old row.now) stand.now.number) (request_of stand.now) asked.longest asked.access) → IsOk result }
 {
@@ -321,12 +324,12 @@ pub(crate) fn visit(
     requires row { IsRow links.old row.old }
     requires active { stand.now.active ≡ true }
     requires named { IsNamed stand.now }
-    ensures ok { IfOk result (λ reply. Went links.old links.new row.new row.old.id (visit (record_of links.old row.old) (request_of stand.now) longest access) reply []) }
+    ensures ok { IfOk result (λ reply. RowStepped links.old links.new row.new row.old.id (visit (record_of links.old row.old) (request_of stand.now) longest access) reply []) }
     ensures err { OnErr result ((links.new ≡ links.old) × (row.new ≡ row.old)) }
     ensures no_memory { TakesNoMemory (record_of links.old row.old) (visit (record_of links.old row.old) (request_of stand.now) longest access) → IsOk result }
 {
     let found = find(links, row.id, stand.number);
-    let reply = visit_lock(links, row, &found, stand, Asked { longest, access })?;
+    let reply = visit_lock(links, row, &found, stand, VisitTerms { longest, access })?;
     settle(links, row);
     Ok(reply)
 }

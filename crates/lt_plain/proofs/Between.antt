@@ -56,7 +56,7 @@ still_held r (g ∷ between) rest legal held none =
     let parts = either_false (is_freed g.reply) (list_any (λ g. is_freed g.reply) between) none in
     still_held (step r g.pass g.call).after between rest legal.2 (step_held r g.pass g.call held (ap is_freed (sym legal.0) ∙ parts.0)) parts.1
 
--- ---- who takes a lock finds it free, and holds it
+-- ---- a transaction that takes a lock finds it free, and then holds it
 
 abbrev TakesFree : Option Holder → Outcome → Type 0
 TakesFree holder o = o.reply ≡ Taken → (holder ≡ None) × IsSome o.after.holder

@@ -1,4 +1,4 @@
--- What is true of a lawful record, case by case of its lock: the form that the proofs go by.
+-- What holds of a lawful record, case by case of its lock: the form that the proofs use.
 use Rattle.std.proofs.Common.{◌≡◌, ◌≢◌, ◌<◌, ◌⊎◌, ℕ, Bool, false, true, zero, suc, take, drop, List, [], ◌∷◌, ◌++◌, map, Option, Some, None, IsNone, IsSome, IfSome, refl, sym, subst, arith, nat_eq, inl, inr}
 use Rattle.std.specs.Prelude.{option_to_list}
 use Rattle.std.proofs.lemmas.List.{map-append}
@@ -12,8 +12,9 @@ use Rattle.lt_plain.specs.declared.queued.QueuedWriter.{QueuedWriter}
 use Rattle.lt_plain.specs.Rules.{Record, number_of, writer_number, has_txn, settle}
 use Rattle.lt_plain.specs.Lawful.{IsLawful, Rises}
 
--- Who may wait at a lock: nobody at one that is free; at a reserved one writers of greater numbers alone;
--- at a held one requests of other transactions, and of these no reader below the holder's time.
+-- The requests that may be queued at a lock. At a free lock there are none. At a reserved one there are only
+-- writers with greater numbers. At a held one there are only requests of other transactions, and no reader below
+-- the holder's timestamp.
 abbrev pub FitsLock : Option Holder → Option QueuedRequest → List QueuedWriter → List QueuedRequest → Type 0
 FitsLock None None writers readers = (writers ≡ []) × (readers ≡ [])
 FitsLock None (Some s) writers readers = AllByRecursion (λ w. number_of s < writer_number w) writers × (readers ≡ [])
@@ -22,21 +23,21 @@ FitsLock (Some h) None writers readers =
     × AllByRecursion (λ q. (q.txn ≢ Some h.txn) × (is_below q.ts h.ts ≡ false)) readers
 FitsLock (Some h) (Some s) writers readers = ⊥
 
--- A writer without a transaction waits.
+-- A writer without a transaction is active.
 abbrev pub IsAwake : QueuedWriter → Type 0
 IsAwake w = has_txn w ≡ false → w.active ≡ true
 
--- who may have a lock reserved, or stand by without waiting: one of a transaction alone
+-- only requests with a transaction hold the reservation or are inactive writers
 pub record AreOwned (r : Record) : Type 0 where
   pub reservation : IfSome r.reservation (λ s. IsSome s.txn)
   pub writers : AllByRecursion IsAwake r.writers
 
--- no two readers have one number
+-- no two readers have the same number
 abbrev pub Differ : List QueuedRequest → Type 0
 Differ [] = Unit {0}
 Differ (q ∷ qs) = AllByRecursion (λ p. nat_eq (number_of p) (number_of q) ≡ false) qs × Differ qs
 
--- no reader's number is a writer's
+-- no reader has a writer's number
 abbrev pub AreApart : List QueuedWriter → List QueuedRequest → Type 0
 AreApart writers readers = AllByRecursion (λ q. AllByRecursion (λ w. nat_eq (writer_number w) (number_of q) ≡ false) writers) readers
 
@@ -78,7 +79,7 @@ all_drop P zero xs a = a
 all_drop P (suc n) [] a = tt
 all_drop P (suc n) (x ∷ xs) a = all_drop P n xs a.1
 
--- a relation of each of these to each of those, from the other side
+-- a relation between each of these and each of those, seen from the other side
 pub all_flip : {X Y : Type 0} (R : X → Y → Type 0) (xs : List X) (ys : List Y) → AllByRecursion (λ x. AllByRecursion (R x) ys) xs → AllByRecursion (λ y. AllByRecursion (λ x. R x y) xs) ys
 all_flip R xs [] a = tt
 all_flip R xs (y ∷ ys) a = (
@@ -86,7 +87,7 @@ all_flip R xs (y ∷ ys) a = (
   all_flip R xs ys (all_weaker (λ x. AllByRecursion (R x) (y ∷ ys)) (λ x. AllByRecursion (R x) ys) (λ x b. b.1) xs a),
 )
 
--- ---- no number stands twice
+-- ---- no number occurs twice
 
 abbrev Apart : List ℕ → List ℕ → Type 0
 Apart ms ns = AllByRecursion (λ m. AllByRecursion (λ n. nat_eq m n ≡ false) ns) ms
@@ -106,13 +107,13 @@ unfolding IsDistinct
 distinct_apart [] ns d = tt
 distinct_apart (m ∷ ms) ns d = (all_back (λ n. nat_eq m n ≡ false) ms ns d.0, distinct_apart ms ns d.1)
 
--- what differs by a test of its images has images that differ
+-- elements whose images are told apart by a test have images that differ
 pub distinct_map : {X Y : Type 0} (e : Y → Y → Bool) (f : X → Y) (xs : List X) → IsDistinct (λ x y. e (f x) (f y)) xs → IsDistinct e (map f xs)
 unfolding IsDistinct
 distinct_map e f [] d = tt
 distinct_map e f (x ∷ xs) d = (all_map (λ y. e (f x) y ≡ false) f xs d.0, distinct_map e f xs d.1)
 
--- two of these writers, or requests, have one number
+-- whether two writers, or two requests, have the same number
 abbrev pub same_writer : QueuedWriter → QueuedWriter → Bool
 same_writer v w = nat_eq (writer_number v) (writer_number w)
 
@@ -138,7 +139,7 @@ distinct_differ [] d = tt
 distinct_differ (q ∷ qs) d =
     (all_weaker (λ p. nat_eq (number_of q) (number_of p) ≡ false) (λ p. nat_eq (number_of p) (number_of q) ≡ false) (λ p e. grind (arith, nat_tests)) qs (all_unmap (λ n. nat_eq (number_of q) n ≡ false) number_of qs d.0), distinct_differ qs d.1)
 
--- ---- the two forms are one
+-- ---- the two forms are equivalent
 
 fits_at : (holder : Option Holder) (s : Option QueuedRequest) (ws : List QueuedWriter) (rs : List QueuedRequest) → IsNone holder ⊎ IsNone s → (IsNone holder → IsNone s → ws ≡ []) → (IsNone holder → rs ≡ []) →
     IfSome s (λ s. AllByRecursion (λ w. number_of s < writer_number w) ws) → IfSome holder (λ h. AllByRecursion (λ q. q.txn ≢ Some h.txn) (map (λ w. w.request) ws ++ rs)) → IfSome holder (λ h. AllByRecursion (λ q. is_below q.ts h.ts ≡ false) rs) → FitsLock holder s ws rs
@@ -153,7 +154,7 @@ fits_at (Some h) (Some s) ws rs both free unheld least others above = elim both 
 pub lawful_fits : (r : Record) → IsLawful r → FitsLock r.holder r.reservation r.writers r.readers
 lawful_fits r l = fits_at r.holder r.reservation r.writers r.readers l.first.not_both l.first.free_has_no_writers l.first.unheld_has_no_readers l.first.reservation_is_least l.first.others_wait l.first.readers_are_not_below
 
--- the numbers of those who wait
+-- the numbers of the queued requests
 abbrev waiting_numbers : List QueuedWriter → List QueuedRequest → List ℕ
 waiting_numbers ws rs = map number_of (map (λ w. w.request) ws) ++ map number_of rs
 

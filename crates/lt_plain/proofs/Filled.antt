@@ -1,4 +1,4 @@
--- Which steps leave no record empty.
+-- The steps that leave no record empty.
 use Rattle.std.proofs.Common.{◌≡◌, ℕ, Bool, true, false, ◌&&◌, is_none, List, [], Option, Some, None, IsNone, refl, sym, ap, subst, ◌∙◌, nat_eq}
 use mathlib.Core.Bool.{true≢false}
 use Rattle.std.specs.Ordering.{nat_cmp}
@@ -22,7 +22,7 @@ is_free holder s = is_none holder && is_none s
 abbrev IsTaken : Outcome → Type 0
 IsTaken o = is_free o.after.holder o.after.reservation ≡ false
 
--- where it is neither, nobody waits, so that the record is empty
+-- if the lock is neither held nor reserved, no request is queued, so the record is empty
 free_parts : (holder : Option Holder) (s : Option QueuedRequest) (ws : List QueuedWriter) (rs : List QueuedRequest) (d : Option ℕ) → is_free holder s ≡ true →
     (IsNone holder → IsNone s → ws ≡ []) → (IsNone holder → rs ≡ []) → distinguished_of d (eligible s rs ws) ≡ d → is_empty (record { holder = holder; reservation = s; writers = ws; readers = rs; distinguished = d }) ≡ true
 free_parts (Some h) s ws rs d free w r settled = absurd (true≢false (sym free))
@@ -46,7 +46,7 @@ taken_parts (Some h) s ws rs d taken = refl
 taken_is_filled : (r : Record) → is_free r.holder r.reservation ≡ false → is_empty r ≡ false
 taken_is_filled r taken = taken_parts r.holder r.reservation r.writers r.readers r.distinguished taken
 
--- a visit lets who holds the lock hold it, and leaves it reserved where it was
+-- a visit keeps the holder, and leaves a reserved lock reserved
 visited : (holder : Option Holder) (s : Option QueuedRequest) (r : Record) (q : QueuedRequest) (longest : ℕ) (access : Access) → r.holder ≡ holder → r.reservation ≡ s → is_free holder s ≡ false → IsTaken (visit_lock holder s r q longest access)
 visited None None r q longest access h e taken = absurd (true≢false taken)
 visited (Some k) s r q longest access h e taken = rw (lock_keeps (Some k) s r q longest access, h) refl
@@ -59,11 +59,11 @@ pub visit_filled : (r : Record) (q : QueuedRequest) (longest : ℕ) (access : Ac
 visit_filled r q longest access l filled = taken_is_filled (visit r q longest access).after
     (visited r.holder r.reservation (stop_reading r (number_of q)) q longest access refl refl (filled_is_taken r l filled))
 
--- who holds the lock raises its time or does not, and holds it
+-- a lock with a holder is not free
 raised : (r : Record) (h : Holder) → r.holder ≡ Some h → is_free r.holder r.reservation ≡ false
 raised r h e = rw e refl
 
--- after an acquire somebody holds the lock
+-- after an acquire, the lock has a holder
 acquired : (holder : Option Holder) (r : Record) (h : Holder) → r.holder ≡ holder → IsTaken (acquire_from holder r h)
 acquired None r h e = refl
 acquired (Some k) r h e = either IsTaken (nat_eq k.txn h.txn) _ _ (either IsTaken (is_below k.ts h.ts) _ _ refl (raised r k e)) (raised r k e)
@@ -78,7 +78,7 @@ updated (Some k) r txn ts e taken = either IsTaken (nat_eq k.txn txn) _ _ (eithe
 pub update_filled : (r : Record) (txn : ℕ) (ts : Timestamp) → IsLawful r → is_empty r ≡ false → is_empty (update r txn ts).after ≡ false
 update_filled r txn ts l filled = taken_is_filled (update r txn ts).after (updated r.holder r txn ts refl (filled_is_taken r l filled))
 
--- where the request stood nowhere, the record is as it was
+-- if the request had no queue entry and no reservation, the record is unchanged
 pub absent_stays : (r : Record) (n : ℕ) → (leave r n).reply ≡ Absent → (leave r n).after ≡ r
 absent_stays r n = either (λ o. o.reply ≡ Absent → o.after ≡ r) (is_reserved_by r.reservation n) _ _ (λ e. absurd cc)
     (either (λ o. o.reply ≡ Absent → o.after ≡ r) (is_waiting r n) _ _ (λ e. absurd cc) (λ e. refl))

@@ -1,4 +1,4 @@
--- Who is let through had to wait, and waits no longer.
+-- A request that is let through had to wait, and is no longer waiting.
 use Rattle.std.proofs.Common.{◌≡◌, ◌≢◌, ◌<◌, ℕ, Bool, true, false, not, cond, zero, suc, List, [], ◌∷◌, ◌++◌, map, filter, take, drop, Option, Some, None, refl, sym, ap, subst, ◌∙◌, arith, nat_eq}
 use Rattle.std.specs.List.{AllByRecursion, IsDistinct}
 use mathlib.Core.Bool.{true≢false}
@@ -28,14 +28,14 @@ use Rattle.lt_plain.proofs.Holders.{either, one_of_three, joined, displaced, res
 use Rattle.lt_plain.proofs.Orderly.{all_filter, enqueue_all}
 use Rattle.lt_plain.proofs.Lawfulness.{step_keeps_lawful, empty_is_lawful, lawful}
 
--- P holds of each request that waits
+-- P holds of each waiting request
 record EachActive (P : QueuedRequest → Type 0) (r : Record) : Type 0 where
   readers : AllByRecursion P r.readers
   writers : AllByRecursion (λ w. w.active ≡ true → P w.request) r.writers
 
 -- ---- a visit
 
--- so it is after a visit, if it holds of who has to wait
+-- P holds of each waiting request after a visit, if it holds of a visiting request that has to wait
 abbrev Waits : (QueuedRequest → Type 0) → QueuedRequest → Outcome → Type 0
 Waits P q o = (o.reply ≡ MustWait → P q) → EachActive P o.after
 
@@ -79,13 +79,14 @@ lock_lets (Some h) s r q longest Read =
     (either (λ o. o.lets ≡ []) (is_queued r.writers (number_of q)) _ _ refl refl))
 lock_lets (Some h) s r q longest Write = either (λ o. o.lets ≡ []) (is_txn q.txn h.txn) _ _ refl (joined (λ o. o.lets ≡ []) r q longest refl refl)
 
--- ---- who goes and who stays
+-- ---- the requests that leave and those that stay
 
--- Nobody of this number is let through.
+-- No request with this number is let through.
 abbrev Misses : List Through → QueuedRequest → Type 0
 Misses lets x = AllByRecursion (λ t. nat_eq t.ticket.number (number_of x) ≡ false) lets
 
--- Whom the outcome lets through was waiting, once each, and who still waits is not let through.
+-- Each request that the outcome lets through was waiting, none is let through twice, and no request that is still
+-- waiting is let through.
 record LetsGo (P : QueuedRequest → Type 0) (o : Outcome) : Type 0 where
   from : AllByRecursion (λ t. (x : QueuedRequest) × (t ≡ through_of x) × P x) o.lets
   left : EachActive (λ x. P x × Misses o.lets x) o.after
@@ -121,7 +122,7 @@ distinct_filter e p (x ∷ xs) d = elim (p x) as (λ b. IsDistinct e (cond b (x 
   | false ↦ distinct_filter e p xs d.1
 ]
 
--- who passes a test and who does not
+-- elements that pass a test differ from those that do not
 split_apart : {X : Type 0} (f : X → ℕ) (p : X → Bool) (xs : List X) → IsDistinct (λ x y. nat_eq (f x) (f y)) xs → AllByRecursion (λ x. AllByRecursion (λ y. nat_eq (f y) (f x) ≡ false) (filter p xs)) (filter (λ x. not (p x)) xs)
 unfolding IsDistinct
 split_apart f p [] d = tt
@@ -130,7 +131,7 @@ split_apart f p (x ∷ xs) d = elim (p x) as (λ b. AllByRecursion (λ z. AllByR
   | false ↦ (all_filter (λ y. nat_eq (f y) (f x) ≡ false) p xs (all_weaker (λ y. nat_eq (f x) (f y) ≡ false) (λ y. nat_eq (f y) (f x) ≡ false) (λ y e. same_flips (f x) (f y) e) xs d.0), split_apart f p xs d.1)
 ]
 
--- what holds of the active writers' requests
+-- a property of the active writers holds of their requests
 active_all : (Q : QueuedRequest → Type 0) (ws : List QueuedWriter) → AllByRecursion (λ w. w.active ≡ true → Q w.request) ws → AllByRecursion Q (active_requests ws)
 active_all Q [] a = tt
 active_all Q (w ∷ ws) a = elim w.active as (λ b. (b ≡ true → Q w.request) → AllByRecursion Q (map (λ v. v.request) (cond b (w ∷ filter (λ v. v.active) ws) (filter (λ v. v.active) ws)))) [
@@ -144,11 +145,11 @@ active_each Q ws a = active_all Q ws (all_weaker (λ w. Q w.request) (λ w. w.ac
 active_distinct : (ws : List QueuedWriter) → IsDistinct same_writer ws → IsDistinct same_request (active_requests ws)
 active_distinct ws d = distinct_map same_request (λ w. w.request) (filter (λ w. w.active) ws) (distinct_filter same_writer (λ w. w.active) ws d)
 
--- the writers before whom nobody reads
+-- no reader has the number of one of these writers
 writers_apart : (ws : List QueuedWriter) (rs : List QueuedRequest) → AreApart ws rs → AllByRecursion (λ w. AllByRecursion (λ q. same_request q w.request ≡ false) rs) ws
 writers_apart ws rs a = all_flip (λ q w. same_request q w.request ≡ false) rs ws (all_weaker (λ q. AllByRecursion (λ w. nat_eq (writer_number w) (number_of q) ≡ false) ws) (λ q. AllByRecursion (λ w. same_request q w.request ≡ false) ws) (λ q b. all_weaker (λ w. nat_eq (writer_number w) (number_of q) ≡ false) (λ w. same_request q w.request ≡ false) (λ w e. same_flips (writer_number w) (number_of q) e) ws b) rs a)
 
--- so it is of the first n writers
+-- the same of the first n writers
 front_apart : (n : ℕ) (ws : List QueuedWriter) (rs : List QueuedRequest) → AreApart ws rs → AllByRecursion (λ q. AllByRecursion (λ x. same_request q x ≡ false) (active_requests (take n ws))) rs
 front_apart n ws rs a = all_weaker (λ q. AllByRecursion (λ w. nat_eq (writer_number w) (number_of q) ≡ false) ws) (λ q. AllByRecursion (λ x. same_request q x ≡ false) (active_requests (take n ws)))
     (λ q b. active_each (λ x. same_request q x ≡ false) (take n ws) (all_take (λ w. same_request q w.request ≡ false) n ws (all_weaker (λ w. nat_eq (writer_number w) (number_of q) ≡ false) (λ w. same_request q w.request ≡ false) (λ w e. same_flips (writer_number w) (number_of q) e) ws b))) rs a
@@ -158,7 +159,7 @@ rises_take zero ws r = tt
 rises_take (suc n) [] r = tt
 rises_take (suc n) (w ∷ ws) r = (all_take (λ v. writer_number w < writer_number v) n ws r.0, rises_take n ws r.1)
 
--- the first n writers are below the others
+-- the first n writers have smaller numbers than the others
 split_rises : (n : ℕ) (ws : List QueuedWriter) → Rises ws → AllByRecursion (λ v. AllByRecursion (λ w. writer_number w < writer_number v) (take n ws)) (drop n ws)
 split_rises zero [] r = tt
 split_rises zero (w ∷ ws) r = (tt, split_rises zero ws r.1)
@@ -221,7 +222,7 @@ module _ (P : QueuedRequest → Type 0) (rs : List QueuedRequest) (d : Option �
         once = through_once gone (active_distinct (filter mine ws) (distinct_filter same_writer mine ws (rises_distinct ws rises)));
       }
     where
-      -- a reservation that is set back does not wait
+      -- a reservation that is set back is inactive
       with_back : (s : Option QueuedRequest) (Q : QueuedRequest → Type 0) (p : QueuedWriter → Bool) (ws : List QueuedWriter) → AllByRecursion (λ w. w.active ≡ true → Q w.request) (filter p ws) → AllByRecursion (λ w. w.active ≡ true → Q w.request) (filter p (set_back s ++ ws))
       with_back None Q p ws a = a
       with_back (Some q) Q p ws a = elim (p (record { request = q; active = false })) as (λ b. AllByRecursion (λ w. w.active ≡ true → Q w.request) (cond b (record { request = q; active = false } ∷ filter p ws) (filter p ws))) [
@@ -266,7 +267,7 @@ module _ (P : QueuedRequest → Type 0) (rs : List QueuedRequest) (d : Option �
 
 -- ---- along a history
 
--- each request that waits was told to
+-- each waiting request was told to wait
 abbrev AllWaiting : List Event → Record → Type 0
 AllWaiting past r = EachActive (λ x. IsWaiting past (through_of x)) r
 
@@ -283,13 +284,13 @@ waits_on past e t w s = record {
 missed_spares : (e : Event) (x : QueuedRequest) → Misses e.lets x → Spares e x.ticket
 missed_spares e x m = all_weaker (λ t. nat_eq t.ticket.number (number_of x) ≡ false) (λ t. t.ticket ≢ x.ticket) (λ t differs same. let own : nat_eq t.ticket.number (number_of x) ≡ true = rw same (grind (arith, nat_tests)) in true≢false (sym own ∙ differs)) e.lets m
 
--- what an event of a legal history shows of the requests that wait
+-- what an event of a legal history shows of the waiting requests
 record Advances (past : List Event) (e : Event) (after : Record) : Type 0 where
   waited : AllByRecursion (IsWaiting past) e.lets
   once : IsDistinct nat_eq (map (λ t. t.ticket.number) e.lets)
   waiting : AllWaiting (past ++ e ∷ []) after
 
--- where the rules say whom the event lets through
+-- the event's lets are those that the rules give
 goes_on : (past : List Event) (e : Event) (o : Outcome) → e.lets ≡ o.lets → LetsGo (λ x. IsWaiting past (through_of x)) o → Advances past e o.after
 goes_on past e o lets g = record {
   waited = rw lets (all_weaker (λ t. (x : QueuedRequest) × (t ≡ through_of x) × IsWaiting past (through_of x)) (IsWaiting past) (λ t a. subst (IsWaiting past) (sym a.1) a.2) o.lets g.from);
@@ -320,7 +321,7 @@ step_goes_on past e r (Finish txn) call reply lets l w = goes_on past e _ lets (
 step_goes_on past e r (Leave number) call reply lets l w = goes_on past e _ lets (leave_goes (λ x. IsWaiting past (through_of x)) r.readers r.distinguished (lawful_differ r l) r.holder r.reservation r.writers number l.first.writers_rise (lawful_apart r l) w)
 step_goes_on past e r (Look number) call reply lets l w = goes_on past e _ lets (nobody_goes (λ x. IsWaiting past (through_of x)) r (look r number) w)
 
--- from a record on at which each who waits was told to
+-- from any record at which each waiting request was told to wait
 waiting_after : (done : List Event) (r : Record) (past rest : List Event) → IsLegalFrom r (past ++ rest) → IsLawful r → AllWaiting done r → AllWaiting (done ++ past) (record_after r past)
 waiting_after done r [] rest legal l w = rw append-nil w
 waiting_after done r (e ∷ past) rest legal l w =

@@ -1,4 +1,4 @@
--- Who has the lock reserved has a transaction, and a writer without one waits: each step keeps it so.
+-- A reservation has a transaction, and a writer without one is active: each step keeps this so.
 use Rattle.std.proofs.Common.{◌≡◌, ℕ, true, false, cond, suc, not, List, [], ◌∷◌, ◌++◌, filter, Option, Some, None, IsSome, IfSome, refl, nat_eq}
 use Rattle.std.specs.List.{AllByRecursion, find}
 use Rattle.std.specs.Option.{option_map}
@@ -24,7 +24,7 @@ use Rattle.lt_plain.proofs.Orderly.{all_filter, enqueue_all}
 abbrev Keeps : Outcome → Type 0
 Keeps o = AreOwned o.after
 
--- the first with a transaction has one
+-- the first writer with a transaction has one
 next_has : (ws : List QueuedWriter) → IfSome (option_map (λ w. w.request) (find has_txn ws)) (λ s. IsSome s.txn)
 next_has [] = tt
 next_has (w ∷ ws) = elim (has_txn w) as (λ b. has_txn w ≡ b → IfSome (option_map (λ v. v.request) (cond b (Some w) (find has_txn ws))) (λ s. IsSome s.txn)) [
@@ -32,7 +32,7 @@ next_has (w ∷ ws) = elim (has_txn w) as (λ b. has_txn w ≡ b → IfSome (opt
   | false ↦ λ e. next_has ws
 ] refl
 
--- who had the lock reserved stands by without waiting
+-- a reservation that is set back has a transaction, so it may be inactive
 back_awake : (s : Option QueuedRequest) → IfSome s (λ q. IsSome q.txn) → AllByRecursion IsAwake (set_back s)
 back_awake None o = tt
 back_awake (Some q) o = ((λ e. cc), tt)

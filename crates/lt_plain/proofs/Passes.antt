@@ -1,4 +1,4 @@
--- What holds of each request that stands at a key, and of who is let through.
+-- Properties of each request at a key, and of each let.
 use Rattle.std.proofs.Common.{◌≡◌, ℕ, Bool, true, false, cond, suc, not, List, [], ◌∷◌, ◌++◌, map, filter, take, Option, Some, None, IfSome, refl, sym, subst, nat_eq}
 use Rattle.std.specs.List.{AllByRecursion, find}
 use Rattle.std.specs.Option.{option_map}
@@ -23,23 +23,24 @@ use Rattle.lt_plain.proofs.Cases.{all_weaker, all_map, all_append, all_take, all
 use Rattle.lt_plain.proofs.Holders.{either, one_of_three, joined, displaced}
 use Rattle.lt_plain.proofs.Orderly.{all_filter, enqueue_all}
 
--- it holds of each request that stands
+-- it holds of each request at the key
 pub record Each (Of : QueuedRequest → Type 0) (r : Record) : Type 0 where
   pub reservation : IfSome r.reservation Of
   pub writers : AllByRecursion (λ w. Of w.request) r.writers
   pub readers : AllByRecursion Of r.readers
 
--- the request that a visit by this pass is of
+-- the request that this call by this pass brings to the key
 abbrev pub IsOfCall : ℕ → Call → QueuedRequest → Type 0
 IsOfCall pass (Visit ticket txn ts access longest) q = (q.pass ≡ pass) × (q.txn ≡ txn)
 IsOfCall pass _ q = ⊥
 
--- What holds of each request that stands, and so of what lets one through, and of who visits, holds after a step too.
+-- A property that each request at the key and the visiting request have, and that a let has if its request does,
+-- holds after a step too.
 module _ (Of : QueuedRequest → Type 0) (Lets : Through → Type 0) (goes : (q : QueuedRequest) → Of q → Lets (through_of q)) where
   abbrev OfWriter : QueuedWriter → Type 0
   OfWriter w = Of w.request
 
-  -- an outcome of which it holds
+  -- it holds of each request and each let of the outcome
   abbrev KeepsTo : Outcome → Type 0
   KeepsTo o = Each Of o.after × AllByRecursion Lets o.lets
 

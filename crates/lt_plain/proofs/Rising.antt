@@ -1,4 +1,4 @@
--- The keys of a map that is made of entries.
+-- The keys of a map that is built from entries.
 use Rattle.std.specs.Prelude.{◌≡◌, ℕ, Bool, true, false, ◌&&◌, List, [], ◌∷◌, map}
 use Rattle.std.proofs.Common.{sym, ap, subst, ◌∙◌, T}
 use Rattle.std.specs.declared.cmp.Ordering.{Ordering}
@@ -28,7 +28,7 @@ module _ {X : Type 0} where
       both true b p q = q
       both false b p q = p
 
-  -- a map that is made of entries whose keys rise has just these keys
+  -- a map that is built from entries with rising keys has exactly these keys
   pub keys-from_entries : (es : List (List ℕ × X)) → IsStrictlySortedBy order (map (λ e. e.0) es) → keys (from_entries {R = order} es) ≡ map (λ e. e.0) es
   keys-from_entries es rising =
       ap keys (same_map nat_list_cmp_total (slice_cmp-IsAntisymmetric nat_cmp-IsAntisymmetric) _ _ (λ q. get-from_entries nat_list_cmp_total es q ∙ sym (get-from_sorted order es q (is_rising es rising))))

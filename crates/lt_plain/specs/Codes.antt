@@ -1,5 +1,5 @@
--- The codes of records and of maps of them, by which proofs tell them apart: for `coded` of a Model whose value has
--- records in it. Nothing here says what a record means.
+-- Codes of records and of maps of records, by which proofs tell them apart. A `Model` whose value contains records
+-- cites them as its `coded`. Nothing here says what a record means.
 use Rattle.std.specs.Prelude.{ℕ, Option, List, refl}
 use Rattle.std.specs.FinMap as map
 use Rattle.std.specs.Coded.{Coded, code_by, coded×, coded_ℕ, coded_list, coded_option}
@@ -20,6 +20,6 @@ record_code =
     (λ p. record { holder = p.0; reservation = p.1.0; writers = p.1.1.0; readers = p.1.1.1.0; distinguished = p.1.1.1.1 })
     (λ _. refl)
 
--- the code of the maps from keys, by their bytes, to records
+-- the code of the maps from keys, as byte lists, to records
 abbrev pub records_code : Coded Records
 records_code = map.code (coded_list coded_ℕ) record_code

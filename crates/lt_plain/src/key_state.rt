@@ -5,18 +5,18 @@ use crate::{Holder, QueuedRequest, QueuedWriter};
 use std::alloc::Global;
 use std::marker::Model;
 
-/// How a key stands: a copy of its record, with all that wait there. In a contract it is a `Record`.
+/// The state of a key: a copy of its record, with all queued requests. In a contract, it is a `Record`.
 #[derive(Debug, Drop)]
 pub struct KeyState {
-    /// Who holds the lock, with the timestamp of its lock.
+    /// The transaction that holds the lock, and the timestamp of its lock.
     pub holder: Option<Holder>,
-    /// For whom the lock is reserved.
+    /// The request that holds the reservation.
     pub reservation: Option<QueuedRequest>,
-    /// Who waits to write, by number. One that is not active lost its reservation, and does not wait.
+    /// The requests queued to write, ordered by number. An inactive one lost its reservation and is not waiting.
     pub writers: Vec<QueuedWriter>,
-    /// Who waits to read, the latest first.
+    /// The requests queued to read, the latest first.
     pub readers: Vec<QueuedRequest>,
-    /// The number of the distinguished waiter, which sees to it that the lock comes free.
+    /// The number of the distinguished waiter, which is responsible for pushing the lock's holder.
     pub distinguished: Option<u64>,
 }
 
@@ -29,7 +29,7 @@ impl Model for KeyState {
 }
 
 impl KeyState {
-    /// The state of a key that nobody locks or waits for.
+    /// The state of a key without a holder, a reservation or queued requests.
     pub fn empty(alloc: Global) -> KeyState
         ensures { result ≡ empty }
     {

@@ -1,15 +1,18 @@
-//! The rules of one key, and a lock table of one thread that follows them.
+//! What does a key do with each call? This crate defines the rules of one key, and a lock table for one thread
+//! that follows them.
 //!
-//! A key's [`Record`](../specs/Rules.antt) says who holds its lock, for whom the lock is reserved, and who waits. The
-//! definitions in `specs/` say what each call makes of a record, what it answers and whom it lets through: `Visit`
-//! has the cases of a visit, `Rules` the other calls, `Step` a call as a value, the legal histories of a key, and who
-//! holds its lock by the events alone, `Lawful` which records come about. They are what a reader has to believe, but for
-//! `Codes`, which proofs alone need; `docs/RULES.md` tells them in words and pictures.
+//! A key's [`Record`](../specs/Rules.antt) holds the lock's holder, its reservation and the queued requests. The
+//! definitions in `specs/` give, for each call, the record afterwards, the reply and the lets. `Visit` has the
+//! cases of a visit, and `Rules` the other calls. `Step` has a call as a value, the legal histories of a key, and
+//! the holder of a lock as the events alone tell it. `Lawful` says which records can arise. To trust the
+//! contracts, read these definitions. You need not read `Codes`, which only proofs use. `docs/RULES.md` gives the
+//! rules in words and pictures.
 //!
-//! [`KeyTable`] is the contract of a table: each call is the step of the rules on its key alone. [`PlainTable`] keeps
-//! it with sorted vectors in an ordered map; it is the plain form to read, to test against, and to check histories
-//! with. [`laws`] has what follows from the rules: one holder, no read past a lock at or below its timestamp, no
-//! write past a smaller number, each wait let through once, the least number next.
+//! [`KeyTable`] is the contract of a table: each call is the step of the rules on its key alone. [`PlainTable`]
+//! meets it with sorted vectors in an ordered map. It is the simple implementation, to read, to test against, and
+//! to check histories with. [`laws`] has what follows from the rules: a lock has one holder, no read passes a lock
+//! at or below its timestamp, no write passes a smaller number, each wait is let through once, and the smallest
+//! number is next.
 #![tactic(auto)]
 
 mod call;

@@ -1,10 +1,10 @@
-//! The rules of one key: examples worked by hand, and random calls at both tables and at a second reading of the rules.
+//! Do both key tables follow the rules of one key? Read [`worked`] first: it plays examples that were worked by hand.
 //!
-//! [`worked`] has the examples, and [`second_reading`] compares the plain table with `lt_test_kit::second`, which is written from
-//! the tables of `docs/RULES.md`. [`linked`] has the plain table and the linked one side by side. A call for which an
-//! allocation failed must have changed nothing there, and is made again; so its tests pass under any single allocation
-//! failure, as by `rt try --test --fail-alloc N`. What came about at a key is counted as the cases of the rules, and each must
-//! have come about.
+//! [`second_reading`] compares the plain table with `lt_test_kit::second`, which is written from the tables of
+//! `docs/RULES.md`. [`linked`] compares the linked table with the plain one. A call that runs out of memory must
+//! have changed nothing and is made again, so the tests of [`linked`] pass under any single allocation failure, as
+//! injected by `rt try --test --fail-alloc N`. The random tests count the cases of the rules and fail if one never
+//! occurred.
 #![tactic(auto)]
 
 #[cfg(test)]

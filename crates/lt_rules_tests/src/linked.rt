@@ -1,68 +1,27 @@
+//! Does the linked table do the same as the plain table? It must pass the same examples and answer random calls
+//! alike.
+//!
+//! The examples are tables of rows, worked by hand: a row is a call, its reply, and the waits that it lets through
+//! ([`crate::calls::expect`] plays them). The random tests make each call at both tables, at one of three keys,
+//! and compare replies, lets and the looks of all requests. Queues grow and drain in turn. A test fails unless
+//! queues became long, keys became empty, and each case of the rules occurred.
 ghost use Rattle.std.specs.Prelude.{◌<◌, ◌≤◌};
 
 use crate::calls::{
-    Found, NUMBERS, at, key, looks, make, ticket, txn, visit, visit_alone, visit_within,
+    ExpectedLets, ExpectedStep, FoundByLook, NOBODY, NUMBERS, at, expect, key, looks, make, one,
+    ticket, two, txn, visit, visit_alone, visit_within,
 };
-use crate::sight::Sight;
+use crate::sight::VisitAnswers;
 use lt_ids::{Access, Key, Through, Timestamp};
 use lt_lock::LinkedTable;
 use lt_plain::{Call, KeyTable, PlainTable, Reply};
-use lt_test_kit::cases::Counts;
+use lt_test_kit::cases::RuleCaseCounts;
+use lt_test_kit::random::Random;
 use std::alloc::Global;
 use std::process::Abort;
 use std::test::Fail;
 
-/// The waits that a call lets through, in order, by number and wait; no call of an example lets through more than two.
-type Lets = [Option<(u64, u32)>; 2];
-
-const NOBODY: Lets = [None, None];
-
-fn one(number: u64, wait: u32) -> Lets {
-    [Some((number, wait)), None]
-}
-
-fn two(first: u64, second: u64) -> Lets {
-    [Some((first, 1)), Some((second, 1))]
-}
-
-/// A call, what it replies, and whom it lets through.
-type Step = (Call, Reply, Lets);
-
-/// Makes the calls at a key, and asks for these replies and lets.
-fn expect<T: KeyTable>(
-    rt: &impl Abort,
-    alloc: Global,
-    table: &mut T,
-    steps: &[Step],
-) -> Result<(), Fail> {
-    let a = key(alloc, b"a")?;
-    let mut refusals = 0;
-    for (call, reply, through) in steps {
-        // Each call has lets of its own, so that the memory of each is refused in turn.
-        let mut lets = Vec::new(alloc);
-        let before = looks(table, &a);
-        assert_eq!(rt;
-            make(rt, table, &a, &before, 3, call, &mut lets, &mut refusals)?,
-            *reply
-        );
-        let mut want = [None, None];
-        let mut found = [None, None];
-        for place in 0..2 {
-            found[place] = lets.get(place).copied();
-            if let Some((number, wait)) = through[place] {
-                want[place] = Some(Through {
-                    pass: 3,
-                    ticket: ticket(number, wait)?,
-                });
-            }
-        }
-        assert_eq!(rt; found, want);
-        assert!(rt; lets.len() <= 2);
-    }
-    Ok(())
-}
-
-/// A key from its first lock to its last waiter, and locked again, with values worked out by hand.
+/// A key from its first lock to its last waiter, and locked once more after that.
 fn expect_the_example<T: KeyTable>(
     rt: &impl Abort,
     alloc: Global,
@@ -76,7 +35,8 @@ fn expect_the_example<T: KeyTable>(
     let steps = [
         (take, Reply::Taken, NOBODY),
         (visit(1, 12, Access::Read, 1)?, Reply::MustWait, NOBODY),
-        // It stands once, and waits anew: the raise lets it through once, with the second wait.
+        // A second visit replaces the queue entry of the first. So the raise below lets the request through once,
+        // with its second wait.
         (visit(1, 12, Access::Read, 2)?, Reply::MustWait, NOBODY),
         (take, Reply::Kept, NOBODY),
         (
@@ -96,10 +56,10 @@ fn expect_the_example<T: KeyTable>(
             NOBODY,
         ),
         (visit(2, 12, Access::Write, 1)?, Reply::MustWait, NOBODY),
-        // Below the lock it reads on, and its stand keeps the first wait.
+        // A read below the lock's timestamp passes, and the queue entry keeps its first wait.
         (visit(2, 12, Access::Read, 2)?, Reply::Passed, NOBODY),
         (visit(3, 20, Access::Write, 1)?, Reply::MustWait, NOBODY),
-        // A writer that now reads waits anew where it stands.
+        // A queued writer that now reads, and has to wait, keeps its position and gets the new wait number.
         (visit(3, 20, Access::Read, 2)?, Reply::MustWait, NOBODY),
         (Call::Leave { number: 1 }, Reply::Absent, NOBODY),
         (Call::Finish { txn: txn(8)? }, Reply::Other, NOBODY),
@@ -114,7 +74,7 @@ fn expect_the_example<T: KeyTable>(
         (Call::Leave { number: 3 }, Reply::Left, NOBODY),
         (Call::Look { number: 3 }, Reply::Nothing, NOBODY),
         (Call::Leave { number: 3 }, Reply::Absent, NOBODY),
-        // Nothing was left of the key.
+        // The key has no record any more, so these calls find it as at the start.
         (take, Reply::Taken, NOBODY),
         (Call::Finish { txn: nine }, Reply::Freed, NOBODY),
         (Call::Look { number: 3 }, Reply::Nothing, NOBODY),
@@ -122,7 +82,7 @@ fn expect_the_example<T: KeyTable>(
     expect(rt, alloc, table, &steps)
 }
 
-/// The lock at the time 10, taken by transaction 9 and given up.
+/// Transaction 9's acquire at time 10, and its finish.
 fn nine() -> Result<(Call, Call), Fail> {
     let take = Call::Acquire {
         txn: txn(9)?,
@@ -131,7 +91,8 @@ fn nine() -> Result<(Call, Call), Fail> {
     Ok((take, Call::Finish { txn: txn(9)? }))
 }
 
-/// Writers without a transaction, at a lock that comes free and at one that is reserved. Nothing is left of the key.
+/// Writers without a transaction, at a lock that comes free and at one that is reserved. The key ends without a
+/// record.
 fn expect_no_transaction<T: KeyTable>(
     rt: &impl Abort,
     alloc: Global,
@@ -144,14 +105,14 @@ fn expect_no_transaction<T: KeyTable>(
         (visit_alone(1, 1)?, Reply::MustWait, NOBODY),
         (visit(2, 1, Access::Write, 1)?, Reply::MustWait, NOBODY),
         (visit_alone(3, 1)?, Reply::MustWait, NOBODY),
-        // The first goes without a reservation, and 3 waits behind 2.
+        // Request 1 is let through without a reservation. Request 2 has the reservation, and 3 waits for it.
         (finish, Reply::Freed, two(1, 2)),
         (Call::Look { number: 1 }, Reply::Nothing, NOBODY),
         (Call::Look { number: 3 }, first_behind, NOBODY),
-        // A write of a smaller number passes, and 2 keeps the lock reserved.
+        // A write of a smaller number without a transaction passes, and 2 keeps its reservation.
         (visit_alone(1, 1)?, Reply::Passed, NOBODY),
         (Call::Look { number: 2 }, Reply::Reserved, NOBODY),
-        // Its own transaction takes the lock, and 3 waits for it.
+        // The transaction of 2 takes the lock, and 3 now waits for the holder.
         (
             Call::Acquire {
                 txn: second,
@@ -165,7 +126,7 @@ fn expect_no_transaction<T: KeyTable>(
             Reply::WaitFirst(second, true),
             NOBODY,
         ),
-        // No writer has a transaction, so nobody is next.
+        // No writer has a transaction, so the finish lets both through and reserves the lock for none.
         (visit_alone(5, 1)?, Reply::MustWait, NOBODY),
         (Call::Finish { txn: second }, Reply::Freed, two(3, 5)),
         (Call::Look { number: 3 }, Reply::Nothing, NOBODY),
@@ -174,7 +135,7 @@ fn expect_no_transaction<T: KeyTable>(
     expect(rt, alloc, table, &steps)
 }
 
-/// Requests that would not join so many writers, at a lock that is held and at one that is reserved.
+/// Requests with a bound, at a lock that is held and at one that is reserved.
 fn expect_bounds<T: KeyTable>(rt: &impl Abort, alloc: Global, table: &mut T) -> Result<(), Fail> {
     let (take, finish) = nine()?;
     let steps = [
@@ -182,18 +143,18 @@ fn expect_bounds<T: KeyTable>(rt: &impl Abort, alloc: Global, table: &mut T) -> 
         (visit_within(2, 1, 1)?, Reply::MustWait, NOBODY),
         (visit_within(3, 1, 1)?, Reply::TooLong, NOBODY),
         (Call::Leave { number: 3 }, Reply::Absent, NOBODY),
-        // A stand to read is taken out, also where the writers are then too many.
+        // The visit removes the request from the readers even if it then finds the writers too many.
         (visit(3, 12, Access::Read, 1)?, Reply::MustWait, NOBODY),
         (visit_within(3, 2, 1)?, Reply::TooLong, NOBODY),
         (Call::Leave { number: 3 }, Reply::Absent, NOBODY),
         (finish, Reply::Freed, one(2, 1)),
         (visit(1, 1, Access::Write, 1)?, Reply::Passed, NOBODY),
         (Call::Look { number: 2 }, Reply::Idle, NOBODY),
-        // One that stands already waits anew, and an idle one is counted.
+        // An inactive writer counts, so 4 is refused. Request 2 is itself that writer, so its visit waits again.
         (visit_within(4, 1, 1)?, Reply::TooLong, NOBODY),
         (visit_within(2, 2, 1)?, Reply::MustWait, NOBODY),
         (visit_within(4, 1, 2)?, Reply::MustWait, NOBODY),
-        // Two wait; the reservation is not counted.
+        // Two writers wait: 2 and 4. The reservation of 1 is not counted.
         (visit_within(3, 3, 2)?, Reply::TooLong, NOBODY),
         (visit_within(3, 3, 3)?, Reply::MustWait, NOBODY),
         (Call::Leave { number: 1 }, Reply::Left, one(2, 2)),
@@ -233,35 +194,17 @@ fn the_linked_table_follows_the_example(rt: HostRuntime) -> Result<(), Fail> {
     expect_the_example(&rt, rt.alloc(), &mut LinkedTable::new(rt.alloc()))
 }
 
-/// A linear congruential generator.
-#[derive(Drop)]
-struct Random {
-    state: u64,
-}
-
-impl Random {
-    fn below(&mut self, bound: u64) -> u64
-        requires { 0 < bound }
-        ensures { result < bound }
-    {
-        self.state = self
-            .state
-            .wrapping_mul(6364136223846793005)
-            .wrapping_add(1442695040888963407);
-        (self.state >> 33) % bound
-    }
-}
-
 const TXNS: u64 = 8;
 
-// Few, so that times are often equal in the wall part, and in both.
+// Few values, so that timestamps are often equal in the wall part, and in both parts.
 const WALLS: u64 = 3;
 
 const LOGICALS: u64 = 3;
 
 const PASSES: u64 = 5;
 
-/// A bound for one of two requests: a small one, or one that long queues come to.
+/// The bound of a request; 0 is no bound. One request in two has one: a small one, or one of up to 30, which long
+/// queues reach.
 fn random_longest(random: &mut Random) -> u32 {
     let small = 1 + random.below(3) as u32;
     let large = 1 + random.below(30) as u32;
@@ -272,7 +215,7 @@ fn random_longest(random: &mut Random) -> u32 {
     }
 }
 
-/// A call at random: mostly visits while the queues are to grow, else mostly calls that let through.
+/// A random call: mostly visits while the queues should grow, otherwise mostly calls that let requests through.
 fn random_call(random: &mut Random, grows: bool) -> Result<Call, Fail> {
     let number = 1 + random.below(NUMBERS - 1);
     let txn = txn(1 + random.below(TXNS))?;
@@ -306,8 +249,8 @@ fn random_call(random: &mut Random, grows: bool) -> Result<Call, Fail> {
     })
 }
 
-/// How many requests stand at the key.
-fn stands(found: &Found) -> u64 {
+/// How many requests are queued at the key or have its reservation.
+fn stands(found: &FoundByLook) -> u64 {
     let mut count: u64 = 0;
     for reply in found {
         if *reply != Reply::Nothing {
@@ -319,56 +262,56 @@ fn stands(found: &Found) -> u64 {
 
 const CALLS: u64 = 15_000;
 
-// The queues grow for so many calls, and drain for as many.
+// The queues grow for this many calls, and then drain for as many.
 const SPELL: u64 = 1_000;
 
-/// A key, what is found there at both tables, and what can be known of it.
+/// A key, the looks of all requests there, and what the calls so far tell of it.
 #[derive(Drop)]
 struct Spot {
     key: Key,
-    found: Found,
-    sight: Sight,
+    found: FoundByLook,
+    sight: VisitAnswers,
 }
 
-/// Both tables, and what came about.
+/// Both tables, and what the test has counted so far.
 #[derive(Drop)]
-struct Both {
+struct TablePair {
     seed: u64,
     turn: u64,
     plain: PlainTable,
     linked: LinkedTable,
-    counts: Counts,
+    counts: RuleCaseCounts,
     refusals: u64,
     longest: u64,
     emptied: u64,
 }
 
-impl Both {
-    fn new(alloc: Global, seed: u64) -> Both {
-        Both {
+impl TablePair {
+    fn new(alloc: Global, seed: u64) -> TablePair {
+        TablePair {
             seed,
             turn: 0,
             plain: PlainTable::new(alloc),
             linked: LinkedTable::new(alloc),
-            counts: Counts::new(),
+            counts: RuleCaseCounts::new(),
             refusals: 0,
             longest: 0,
             emptied: 0,
         }
     }
 
-    /// A key that nobody has called for.
+    /// A key at which no call was made yet.
     fn spot(&self, alloc: Global, name: &[u8]) -> Result<Spot, Fail> {
         let key = key(alloc, name)?;
         let found = looks(&self.plain, &key);
         Ok(Spot {
             key,
             found,
-            sight: Sight::new(),
+            sight: VisitAnswers::new(),
         })
     }
 
-    /// Makes the call at both tables, and asks that the replies and the lets are the same.
+    /// Makes the call at both tables, and fails unless the replies and the lets are equal.
     fn call(
         &mut self,
         rt: &impl Abort,
@@ -382,7 +325,7 @@ impl Both {
     {
         let mut lets = Vec::new(alloc);
         let mut others = Vec::new(alloc);
-        let Both {
+        let TablePair {
             plain,
             linked,
             refusals,
@@ -403,12 +346,12 @@ impl Both {
         Ok(())
     }
 
-    /// Whether the same is found at both tables.
+    /// Whether the looks at both tables are those that are noted for this key.
     fn is_found(&self, spot: &Spot) -> bool {
         looks(&self.plain, &spot.key) == spot.found && looks(&self.linked, &spot.key) == spot.found
     }
 
-    /// Asks that the same is found at both tables, and counts the queue.
+    /// Fails unless both tables have the noted looks, and counts the requests there.
     fn measure(&mut self, rt: &impl Abort, spot: &Spot) {
         let (seed, turn) = (self.seed, self.turn);
         assert!(rt;
@@ -422,7 +365,8 @@ impl Both {
         }
     }
 
-    /// Counts what is found at this key, and asks that at every key it is what it was.
+    /// Counts the looks at the key with this index, and fails unless all keys still have the looks that are noted
+    /// for them.
     fn compare_all(&mut self, rt: &impl Abort, place: usize, spots: &[Spot]) {
         if let Some(spot) = spots.get(place) {
             for reply in &spot.found {
@@ -438,7 +382,7 @@ impl Both {
         }
     }
 
-    /// One random call at one of the keys.
+    /// Makes one random call at one of the keys, and compares.
     fn random_call(
         &mut self,
         rt: &impl Abort,
@@ -458,10 +402,10 @@ impl Both {
     }
 }
 
-/// Random calls at three keys, the same at both tables, compared after each call.
+/// Makes the random calls of one seed, and fails unless both tables agree and the run met what it has to meet.
 fn compare(rt: &impl Abort, alloc: Global, seed: u64) -> Result<(), Fail> {
-    let mut random = Random { state: seed };
-    let mut both = Both::new(alloc, seed);
+    let mut random = Random::new(seed);
+    let mut both = TablePair::new(alloc, seed);
     let mut spots = [
         both.spot(alloc, b"a")?,
         both.spot(alloc, b"b")?,
@@ -481,7 +425,7 @@ fn compare(rt: &impl Abort, alloc: Global, seed: u64) -> Result<(), Fail> {
     Ok(())
 }
 
-// Several tests, since each has a limit of its own when it runs with checks.
+// One test for each seed, since each test has its own limit when it runs with checks.
 
 #[test]
 fn random_calls_from_seed_2_do_the_same_at_both_tables(rt: HostRuntime) -> Result<(), Fail> {

@@ -1,8 +1,13 @@
+//! Does the plain table agree with the rules as they are read a second time, from the tables of `docs/RULES.md`?
+//!
+//! Each seed gives 40 random calls at one key, made at a [`PlainTable`] and at a [`Second`]. After each call the
+//! replies, the lets and the looks of all requests must be equal. The test fails unless each case of the rules
+//! occurred.
 use lt_ids::{Access, Key, Request, Through, Timestamp, TxnId};
 use lt_plain::{KeyTable, PlainTable, Reply};
-use lt_test_kit::cases::{Counts, Visit, case_of};
+use lt_test_kit::cases::{RuleCaseCounts, Visit, case_of};
 use lt_test_kit::random::Random;
-use lt_test_kit::second::{Let, Second, Stand, Time};
+use lt_test_kit::second::{Let, PlainStand, Second, Time};
 use std::alloc::Global;
 use std::process::Abort;
 use std::test::Fail;
@@ -11,7 +16,7 @@ const NUMBERS: u64 = 6;
 
 const TXNS: u64 = 4;
 
-// Few, so that times are often equal in the wall part, and in both.
+// Few values, so that timestamps are often equal in the wall part, and in both parts.
 const WALLS: u64 = 3;
 
 const LOGICALS: u64 = 3;
@@ -29,7 +34,7 @@ fn at(time: Time) -> Timestamp {
     }
 }
 
-/// The transaction of a request; one of four has none.
+/// The transaction of a request. One request in four has none.
 fn random_own(random: &mut Random) -> Option<u64> {
     let txn = 1 + random.below(TXNS);
     if random.below(4) == 0 {
@@ -46,7 +51,7 @@ fn own_of(own: Option<u64>) -> Result<Option<TxnId>, Fail> {
     }
 }
 
-/// A bound for one of two requests.
+/// The bound of a request; 0 is no bound. One request in two has one.
 fn random_longest(random: &mut Random) -> u32 {
     let longest = 1 + random.below(LONGEST) as u32;
     if random.below(2) == 0 { 0 } else { longest }
@@ -57,6 +62,7 @@ fn random_time(random: &mut Random) -> Time {
     (wall, random.below(LOGICALS) as u32)
 }
 
+/// Makes a random visit at both, counts its case, and returns both replies.
 fn visit_both(
     alloc: Global,
     random: &mut Random,
@@ -64,7 +70,7 @@ fn visit_both(
     second: &mut Second,
     key: &Key,
     lets: &mut Vec<Through>,
-    counts: &mut Counts,
+    counts: &mut RuleCaseCounts,
 ) -> Result<(Reply, Reply), Fail> {
     let number = 1 + random.below(NUMBERS);
     let txn = random_own(random);
@@ -73,7 +79,7 @@ fn visit_both(
     let pass = 1 + random.below(3);
     let wait = 1 + random.below(9);
     let is_write = random.below(5) < 3;
-    let stand = Stand {
+    let stand = PlainStand {
         number,
         txn,
         time,
@@ -108,6 +114,7 @@ fn visit_both(
     Ok((first, second.visit(alloc, &stand, longest, is_write)?))
 }
 
+/// Makes a random call at both, and returns both replies.
 fn call_both(
     alloc: Global,
     random: &mut Random,
@@ -115,7 +122,7 @@ fn call_both(
     second: &mut Second,
     key: &Key,
     lets: &mut Vec<Through>,
-    counts: &mut Counts,
+    counts: &mut RuleCaseCounts,
 ) -> Result<(Reply, Reply), Fail> {
     let txn = 1 + random.below(TXNS);
     let time = random_time(random);
@@ -150,13 +157,13 @@ fn lets_of(alloc: Global, lets: &Vec<Through>) -> Result<Vec<Let>, Fail> {
     Ok(found)
 }
 
-/// One script of random calls on one key, compared after each call.
+/// Makes the random calls of one seed at both, and compares after each call.
 fn compare(
     rt: &impl Abort,
     alloc: Global,
     key: &Key,
     seed: u64,
-    counts: &mut Counts,
+    counts: &mut RuleCaseCounts,
 ) -> Result<(), Fail> {
     let mut random = Random::new(seed);
     let mut table = PlainTable::new(alloc);
@@ -198,7 +205,7 @@ fn compare(
 #[test]
 fn random_calls_agree_with_the_rules_read_a_second_time(rt: HostRuntime) -> Result<(), Fail> {
     let key = Key::from_bytes(rt.alloc(), b"key")?;
-    let mut counts = Counts::new();
+    let mut counts = RuleCaseCounts::new();
     for seed in 0..5_000 {
         compare(&rt, rt.alloc(), &key, seed, &mut counts)?;
     }

@@ -1,16 +1,20 @@
-//! What a caller can know of a key from the calls and what they gave, to tell which cases of the rules came about.
+//! Which cases of the rules occurred at a key? [`VisitAnswers`] infers them from the calls and their answers.
+//!
+//! The tables themselves stay closed: only calls, replies, lets and looks are used, so the same code counts for
+//! both tables. [`crate::linked`] calls [`VisitAnswers::note`] after each call. `lt_test_kit::cases` has the
+//! cases.
 ghost use Rattle.std.specs.Prelude.{◌<◌};
 
-use crate::calls::{Found, NUMBERS};
+use crate::calls::{FoundByLook, NUMBERS};
 use lt_ids::{Access, Through, Timestamp};
 use lt_plain::{Call, Reply};
-use lt_test_kit::cases::{Counts, Lock, Release, Visit, case_of};
+use lt_test_kit::cases::{Lock, Release, RuleCaseCounts, Visit, case_of};
 use lt_test_kit::second::Time;
 
-/// Who holds the lock of a key, who waits there to read, and who came there without a transaction when he last had to
-/// wait.
+/// What the calls so far tell of a key: the holder of its lock, which requests wait to read, and which requests
+/// had no transaction when they last had to wait.
 #[derive(Clone, Copy, Debug)]
-pub struct Sight {
+pub struct VisitAnswers {
     holder: Option<(u64, Time)>,
     reads: [bool; 41],
     without_txn: [bool; 41],
@@ -20,8 +24,8 @@ fn time_of(ts: Timestamp) -> Time {
     (ts.wall, ts.logical)
 }
 
-/// For which request the lock is reserved.
-fn reserved(found: &Found) -> Option<u64> {
+/// The number of the request for which the lock is reserved.
+fn reserved(found: &FoundByLook) -> Option<u64> {
     for number in 0..NUMBERS {
         if found[number as usize] == Reply::Reserved {
             return Some(number);
@@ -30,16 +34,17 @@ fn reserved(found: &Found) -> Option<u64> {
     None
 }
 
-fn waits(found: &Found, number: u64) -> bool {
+/// Whether the request is queued at the key, active or not.
+fn waits(found: &FoundByLook, number: u64) -> bool {
     match found.get(number as usize) {
         None | Some(Reply::Nothing) | Some(Reply::Reserved) => false,
         Some(_) => true,
     }
 }
 
-impl Sight {
+impl VisitAnswers {
     pub fn new() -> Self {
-        Sight {
+        VisitAnswers {
             holder: None,
             reads: [false; 41],
             without_txn: [false; 41],
@@ -60,13 +65,13 @@ impl Sight {
         self.reads.get(number as usize) == Some(&true)
     }
 
-    /// Whether the request stands among the writers.
-    fn is_writer(&self, found: &Found, number: u64) -> bool {
+    /// Whether the request is queued among the writers.
+    fn is_writer(&self, found: &FoundByLook, number: u64) -> bool {
         waits(found, number) && !self.is_reader(number)
     }
 
-    /// How many stand among the writers.
-    fn writers(&self, found: &Found) -> u64 {
+    /// How many writers are queued, active or not.
+    fn writers(&self, found: &FoundByLook) -> u64 {
         let mut count: u64 = 0;
         for number in 0..NUMBERS {
             if self.is_writer(found, number) {
@@ -76,8 +81,8 @@ impl Sight {
         count
     }
 
-    /// What came after a lock came free, where these were let through and this is found after it.
-    fn release(&self, lets: &[Through], after: &Found) -> Release {
+    /// What happened when the lock came free: `lets` are the lets of that step, `after` the looks after it.
+    fn release(&self, lets: &[Through], after: &FoundByLook) -> Release {
         let next = reserved(after);
         let mut writers_let: u64 = 0;
         let mut next_is_let = false;
@@ -98,7 +103,8 @@ impl Sight {
         }
     }
 
-    /// A visit that has to wait: who stood among the writers already waits there, to read or to write.
+    /// Notes a visit that has to wait. A request that is queued among the writers stays there, even if it visits
+    /// to read.
     fn wait(&mut self, visit: &Visit) {
         let reads = !visit.is_write && (!visit.waits || self.is_reader(visit.number));
         self.set_reads(visit.number, reads);
@@ -107,7 +113,13 @@ impl Sight {
         }
     }
 
-    fn visited(&mut self, before: &Found, visit: &Visit, reply: Reply, counts: &mut Counts) {
+    fn visited(
+        &mut self,
+        before: &FoundByLook,
+        visit: &Visit,
+        reply: Reply,
+        counts: &mut RuleCaseCounts,
+    ) {
         let lock = Lock {
             holder: self.holder,
             reserved: reserved(before),
@@ -119,15 +131,16 @@ impl Sight {
         }
     }
 
-    /// The call gave this, where that was found before it and after it.
+    /// Notes a call with its reply and its lets, and counts its cases. `before` and `after` are the looks around
+    /// the call.
     pub fn note(
         &mut self,
-        before: &Found,
-        after: &Found,
+        before: &FoundByLook,
+        after: &FoundByLook,
         call: &Call,
         reply: Reply,
         lets: &[Through],
-        counts: &mut Counts,
+        counts: &mut RuleCaseCounts,
     ) {
         match *call {
             Call::Visit {

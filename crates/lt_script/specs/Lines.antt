@@ -3,12 +3,12 @@ use Rattle.std.specs.Prelude.{ℕ, ◌==◌, Bool, true, false, List, [], ◌∷
 use Rattle.std.specs.List.{slice_split}
 use Rattle.bstr.specs.Text.{lines_of, without_terminator}
 
--- The lines of a text: each ends with a line feed, or with a carriage return and a line feed; the last may lack
--- its end. A carriage return anywhere else is a byte of its line.
+-- The lines of a text. Each ends with a line feed, or with a carriage return and a line feed; the last line may
+-- lack its end. A carriage return anywhere else is a byte of its line.
 abbrev pub script_lines : List ℕ → List (List ℕ)
 script_lines text = map without_terminator (lines_of text)
 
--- the very first byte is `#`
+-- The first byte of the line is `#`.
 abbrev pub is_comment : List ℕ → Bool
 is_comment [] = false
 is_comment (b ∷ bs) = b == 35
@@ -17,6 +17,6 @@ abbrev pub is_word : List ℕ → Bool
 is_word [] = false
 is_word (b ∷ bs) = true
 
--- what stands between spaces, one or more
+-- The words of a line, which are separated by one or more spaces.
 abbrev pub words_of : List ℕ → List (List ℕ)
 words_of line = filter is_word (slice_split (λ b. b == 32) line)

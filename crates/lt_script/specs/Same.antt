@@ -1,4 +1,4 @@
--- When two keys with their accesses are the same.
+-- Equality of keys with their accesses.
 use Rattle.std.specs.Prelude.{ℕ, List, Bool}
 use Rattle.std.specs.Ordering.{on, eq_of_both}
 use Rattle.std.specs.Cmp.{IsEquivalence, and_equiv, on_equiv}
@@ -8,7 +8,7 @@ use Rattle.lt_ids.specs.contracts.key.KeyEq.TheImpl.Laws as key_laws
 use Rattle.lt_ids.specs.contracts.request.AccessPartialEq.TheImpl as access
 use Rattle.lt_ids.specs.contracts.request.AccessEq.TheImpl.Laws as access_laws
 
--- the same key, and the same access
+-- The same key and the same access.
 abbrev pub same_access : List ℕ × Access → List ℕ × Access → Bool
 same_access = eq_of_both (on (λ a. a.0) (key.ghosts).eq) (on (λ a. a.1) (access.ghosts).eq)
 

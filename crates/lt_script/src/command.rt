@@ -1,3 +1,7 @@
+//! What does a script consist of?
+//!
+//! A [`Script`] is a list of [`Command`]s, and a command is an [`Action`] with its line number and its pass. Read
+//! next: `line.rt`, which parses an action.
 ghost use Rattle.std.specs.Prelude.{◌≡◌};
 ghost use Rattle.std.specs.Cmp.{partial_equiv_from_equiv};
 ghost use Rattle.std.specs.Cmp.Lexicographic.{pointwise, lists_equiv};
@@ -7,8 +11,8 @@ use crate::ScriptPass;
 use lt_ids::{Access, Key, Timestamp, TxnId};
 use std::marker::Model;
 
-/// The keys that a request names, each with what it means to do with it, in the order of its line; a key may stand more
-/// than once. In a contract it is their list.
+/// The keys that a request names, each with its access, in the order of the line. A key may occur more than once.
+/// In a contract it is the list of these pairs.
 #[derive(Debug, Drop)]
 pub struct Accesses {
     accesses: Vec<(Key, Access)>,
@@ -24,7 +28,7 @@ impl Model for Accesses {
 }
 
 impl Accesses {
-    /// These, as they stand. No memory is taken.
+    /// Wraps this list unchanged. Allocates nothing.
     pub fn new(accesses: Vec<(Key, Access)>) -> Self
         ensures { result ≡ accesses.items }
     {
@@ -55,51 +59,51 @@ impl Eq for Accesses {
 /// What a line of a script asks for.
 #[derive(Debug, PartialEq, Eq, Drop)]
 pub enum Action {
-    /// A request of the transaction, or of none, for these keys. It joins the writers of a key only where they
-    /// are fewer than `longest`; 0 is no bound.
+    /// Open a request for these keys, for the transaction or for none. The request joins the writers of a key only
+    /// if they are fewer than `longest`; 0 means no bound.
     Open {
         txn: Option<TxnId>,
         ts: Timestamp,
         accesses: Accesses,
         longest: u32,
     },
-    /// The request of the pass visits its keys.
+    /// Visit the keys of the pass's request.
     Scan,
-    /// Whether the request of the pass was let through.
+    /// Ask whether the pass's request was let through.
     Await,
-    /// What the request of the pass finds out at the key.
+    /// Report the state of the pass's request at the key: whether it waits there, and for what.
     Look {
         key: Key,
     },
-    /// The transaction takes the lock of the key.
+    /// Take the lock of the key for the transaction.
     Acquire {
         txn: TxnId,
         ts: Timestamp,
         key: Key,
     },
-    /// The transaction raises its time at the key.
+    /// Raise the timestamp of the transaction's lock on the key.
     Update {
         txn: TxnId,
         ts: Timestamp,
         key: Key,
     },
-    /// The transaction gives the lock of the key up.
+    /// Release the transaction's lock on the key.
     Finish {
         txn: TxnId,
         key: Key,
     },
-    /// The request of the pass ends.
+    /// End the pass's request.
     Leave,
 }
 
-/// What a line says: who asks for what.
+/// What a line says: which pass asks for what.
 #[derive(Debug, Drop)]
-pub(crate) struct Saying {
+pub(crate) struct ParsedLine {
     pub pass: ScriptPass,
     pub action: Action,
 }
 
-/// A line of a script that is no comment and not empty, with its number from 1, counted over all lines.
+/// A line of a script that is neither a comment nor blank. Its number counts from 1 over all lines.
 #[derive(Debug, PartialEq, Eq, Drop)]
 pub struct Command {
     pub line: usize,
@@ -107,7 +111,7 @@ pub struct Command {
     pub action: Action,
 }
 
-/// The commands of a text, in its order. In a contract it is their list.
+/// The commands of a text, in their order. In a contract it is the list of them.
 #[derive(Debug, Drop)]
 pub struct Script {
     commands: Vec<Command>,

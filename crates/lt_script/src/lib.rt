@@ -1,13 +1,12 @@
-//! The text of a script, read and checked.
+//! Reads and checks the text of a script.
 //!
-//! A script says, line by line, which pass asks for what: to open a request of any number of keys, to scan, to acquire a
-//! key and so on.
-//! [`read_script`] gives its commands, each with its line and its pass, or the first line with a fault and the first
-//! fault in it. It promises both ways: what it gives is just what the text says, and a text without a fault is read
-//! unless memory runs out.
+//! A script says, line by line, which pass makes which call: open a request for some keys, scan, acquire a key, and
+//! so on. [`read_script`] returns its commands, each with its line number and its pass, or the first faulty line
+//! and the first fault in it. The contract holds in both directions: the commands are exactly what the text says,
+//! and a text without a fault is read unless memory runs out.
 //!
-//! `specs/Lines.antt` says what the lines of a text and the words of a line are, and `specs/Script.antt` what the words
-//! say and which fault is the first. `docs/FORMATS.md` has the same for readers.
+//! Read next: `specs/Lines.antt` for the lines of a text and the words of a line, and `specs/Script.antt` for what
+//! the words mean and which fault comes first. `docs/FORMATS.md` describes the same for readers.
 #![tactic(auto)]
 
 mod command;
@@ -18,6 +17,6 @@ mod read;
 mod words;
 
 pub use command::{Accesses, Action, Command, Script};
-pub use error::{Fault, ScriptError};
+pub use error::{ScriptError, ScriptFault};
 pub use pass::ScriptPass;
 pub use read::read_script;

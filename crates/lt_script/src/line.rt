@@ -1,12 +1,17 @@
+//! What does one line of a script ask for?
+//!
+//! `read_line` parses the words of a line from left to right and stops at the first fault. Each function here
+//! reads one word, a fixed number of words, or the arguments of one call. Read next: `specs/Script.antt`, which
+//! defines the same reading under the same names, and `words.rt`, which splits a line into words.
 ghost use Rattle.std.specs.Prelude.{◌≡◌};
 ghost use Rattle.lt_text.specs.Fields.{number_within};
 ghost use Rattle.lt_script.specs.Lines.{is_comment};
-ghost use Rattle.lt_script.specs.Reading.{Reads};
-ghost use Rattle.lt_script.specs.Script.{pass_of, txn_of, owner_of, ts_of, key_of, split_access, names_access, is_for_bound, longest_of, access_of, accesses_of, next_of, none_of, one_of, two_of, three_of, open_of, look_of, acquire_of, update_of, finish_of, alone, action_named, action_of, saying_of, line_of};
+ghost use Rattle.lt_script.specs.Reading.{IsParsedAs};
+ghost use Rattle.lt_script.specs.Script.{pass_of, txn_of, parsed_owner, ts_of, key_of, split_access, names_access, is_for_bound, longest_of, parsed_access, accesses_of, next_of, none_of, one_of, two_of, three_of, open_of, look_of, acquire_of, update_of, parsed_finish, alone, action_named, action_of, parsed_line_of, line_of};
 
-use crate::command::Saying;
-use crate::error::{Fault, Refusal};
-use crate::words::Words;
+use crate::command::ParsedLine;
+use crate::error::{LineError, ScriptFault};
+use crate::words::SpacedWords;
 use crate::{Accesses, Action, ScriptPass};
 use lt_ids::{Access, IdError, Key, Timestamp, TxnId};
 use lt_text::field;
@@ -19,57 +24,57 @@ fn pass_in(word: &[u8]) -> Option<ScriptPass>
     ScriptPass::new(u32::try_from(number(word)?).ok()?)
 }
 
-fn pass(word: &[u8]) -> Result<ScriptPass, Refusal>
-    ensures { Reads (λ pass. pass) result (pass_of word.now) }
+fn pass(word: &[u8]) -> Result<ScriptPass, LineError>
+    ensures { IsParsedAs (λ pass. pass) result (pass_of word.now) }
 {
     match pass_in(word) {
         Some(pass) => Ok(pass),
-        None => Err(Refusal::Fault(Fault::BadPass)),
+        None => Err(LineError::Fault(ScriptFault::BadPass)),
     }
 }
 
-fn txn(word: &[u8]) -> Result<TxnId, Refusal>
-    ensures { Reads (λ txn. txn) result (txn_of word.now) }
+fn txn(word: &[u8]) -> Result<TxnId, LineError>
+    ensures { IsParsedAs (λ txn. txn) result (txn_of word.now) }
 {
     match field::txn(word) {
         Some(txn) => Ok(txn),
-        None => Err(Refusal::Fault(Fault::BadTxn)),
+        None => Err(LineError::Fault(ScriptFault::BadTxn)),
     }
 }
 
-/// The transaction of a request, or none where the word is `-`.
-fn owner(word: &[u8]) -> Result<Option<TxnId>, Refusal>
-    ensures { Reads (λ txn. txn) result (owner_of word.now) }
+/// The transaction of a request, or none if the word is `-`.
+fn owner(word: &[u8]) -> Result<Option<TxnId>, LineError>
+    ensures { IsParsedAs (λ txn. txn) result (parsed_owner word.now) }
 {
     match field::owner(word) {
         Some(txn) => Ok(txn),
-        None => Err(Refusal::Fault(Fault::BadTxn)),
+        None => Err(LineError::Fault(ScriptFault::BadTxn)),
     }
 }
 
-fn timestamp(word: &[u8]) -> Result<Timestamp, Refusal>
-    ensures { Reads (λ ts. ts) result (ts_of word.now) }
+fn timestamp(word: &[u8]) -> Result<Timestamp, LineError>
+    ensures { IsParsedAs (λ ts. ts) result (ts_of word.now) }
 {
     match field::timestamp(word) {
         Some(ts) => Ok(ts),
-        None => Err(Refusal::Fault(Fault::BadTime)),
+        None => Err(LineError::Fault(ScriptFault::BadTime)),
     }
 }
 
-fn key(alloc: Global, word: &[u8]) -> Result<Key, Refusal>
-    ensures { Reads (λ key. key) result (key_of word.now) }
+fn key(alloc: Global, word: &[u8]) -> Result<Key, LineError>
+    ensures { IsParsedAs (λ key. key) result (key_of word.now) }
 {
     match Key::from_bytes(alloc, word) {
         Ok(key) => Ok(key),
-        Err(IdError::Memory) => Err(Refusal::Memory),
-        Err(_) => Err(Refusal::Fault(Fault::BadKey)),
+        Err(IdError::Memory) => Err(LineError::Memory),
+        Err(_) => Err(LineError::Fault(ScriptFault::BadKey)),
     }
 }
 
-/// The key that the word names, as bytes, and the access that its last two bytes name.
+/// Splits a word into the bytes of its key and the access that its last two bytes name.
 #[tactic(auto, unfolding(crate::specs::Script::split_access))]
-fn split_access(word: &[u8]) -> Result<(&[u8], Access), Refusal>
-    ensures { Reads (λ parts. (parts.0.now, parts.1)) result (split_access word.now) }
+fn split_access(word: &[u8]) -> Result<(&[u8], Access), LineError>
+    ensures { IsParsedAs (λ parts. (parts.0.now, parts.1)) result (split_access word.now) }
 {
     if let Some(key) = word.strip_suffix(b":r") {
         return Ok((key, Access::Read));
@@ -77,12 +82,12 @@ fn split_access(word: &[u8]) -> Result<(&[u8], Access), Refusal>
     if let Some(key) = word.strip_suffix(b":w") {
         return Ok((key, Access::Write));
     }
-    Err(Refusal::Fault(Fault::BadAccess))
+    Err(LineError::Fault(ScriptFault::BadAccess))
 }
 
-/// A key with its access.
-fn access(alloc: Global, word: &[u8]) -> Result<(Key, Access), Refusal>
-    ensures { Reads (λ access. access) result (access_of word.now) }
+/// A key with its access. The access is checked first.
+fn access(alloc: Global, word: &[u8]) -> Result<(Key, Access), LineError>
+    ensures { IsParsedAs (λ access. access) result (parsed_access word.now) }
 {
     let (key_word, access) = split_access(word)?;
     let key = key(alloc, key_word)?;
@@ -96,17 +101,17 @@ fn names_access(word: &[u8]) -> bool
     word.strip_suffix(b":r").is_some() || word.strip_suffix(b":w").is_some()
 }
 
-/// Whether the word stands for a bound: it begins as one does, and is no key with its access.
+/// Whether the word is meant as a bound: it begins like one, and is not a key with its access.
 fn is_for_bound(word: &[u8]) -> bool
     ensures { result ≡ is_for_bound word.now }
 {
     field::is_bound(word) && !names_access(word)
 }
 
-/// The bound, if the next word stands for one; else 0, and the word is left.
+/// The bound, if the next word is meant as one. Otherwise 0, and the word stays unread.
 #[tactic(auto, unfolding(crate::specs::Script::longest_of))]
-fn longest(words: &mut Words) -> Result<u32, Refusal>
-    ensures { Reads (λ longest. (longest, words.new)) result (longest_of words.old) }
+fn longest(words: &mut SpacedWords) -> Result<u32, LineError>
+    ensures { IsParsedAs (λ longest. (longest, words.new)) result (longest_of words.old) }
 {
     let Some(word) = words.peek() else {
         return Ok(0);
@@ -117,13 +122,14 @@ fn longest(words: &mut Words) -> Result<u32, Refusal>
     let _ = words.next();
     match field::bound(word) {
         Some(longest) => Ok(longest),
-        None => Err(Refusal::Fault(Fault::BadMax)),
+        None => Err(LineError::Fault(ScriptFault::BadMax)),
     }
 }
 
-/// The keys with their accesses that all the words left name. Room is taken for one, since most requests name one.
-fn accesses(alloc: Global, words: &mut Words) -> Result<Accesses, Refusal>
-    ensures { Reads (λ accesses. accesses) result (accesses_of words.old) }
+/// Parses all remaining words as keys with their accesses. Allocates room for one at first, since most requests
+/// name one.
+fn accesses(alloc: Global, words: &mut SpacedWords) -> Result<Accesses, LineError>
+    ensures { IsParsedAs (λ accesses. accesses) result (accesses_of words.old) }
 {
     let mut list = Vec::with_capacity(alloc, 1)?;
     while let Some(word) = words.next() {
@@ -132,62 +138,62 @@ fn accesses(alloc: Global, words: &mut Words) -> Result<Accesses, Refusal>
     Ok(Accesses::new(list))
 }
 
-/// The next word; words may be left after it.
-fn next<'a>(words: &mut Words<'a>) -> Result<&'a [u8], Refusal>
-    ensures { Reads (λ word. (word.now, words.new)) result (next_of words.old) }
+/// The next word. More words may follow it.
+fn next<'a>(words: &mut SpacedWords<'a>) -> Result<&'a [u8], LineError>
+    ensures { IsParsedAs (λ word. (word.now, words.new)) result (next_of words.old) }
 {
     match words.next() {
         Some(word) => Ok(word),
-        None => Err(Refusal::Fault(Fault::BadWords)),
+        None => Err(LineError::Fault(ScriptFault::BadWords)),
     }
 }
 
-/// No word is left.
-fn none(words: &mut Words) -> Result<(), Refusal>
-    ensures { Reads (λ _. tt) result (none_of words.old) }
+/// Checks that no word remains.
+fn none(words: &mut SpacedWords) -> Result<(), LineError>
+    ensures { IsParsedAs (λ _. tt) result (none_of words.old) }
 {
     match words.next() {
         None => Ok(()),
-        Some(_) => Err(Refusal::Fault(Fault::BadWords)),
+        Some(_) => Err(LineError::Fault(ScriptFault::BadWords)),
     }
 }
 
-/// The one word that is left.
-fn one<'a>(words: &mut Words<'a>) -> Result<&'a [u8], Refusal>
-    ensures { Reads (λ word. word.now) result (one_of words.old) }
+/// The one word that remains.
+fn one<'a>(words: &mut SpacedWords<'a>) -> Result<&'a [u8], LineError>
+    ensures { IsParsedAs (λ word. word.now) result (one_of words.old) }
 {
     let Some(word) = words.next() else {
-        return Err(Refusal::Fault(Fault::BadWords));
+        return Err(LineError::Fault(ScriptFault::BadWords));
     };
     none(words)?;
     Ok(word)
 }
 
-/// The two words that are left.
-fn two<'a>(words: &mut Words<'a>) -> Result<(&'a [u8], &'a [u8]), Refusal>
-    ensures { Reads (λ two. (two.0.now, two.1.now)) result (two_of words.old) }
+/// The two words that remain.
+fn two<'a>(words: &mut SpacedWords<'a>) -> Result<(&'a [u8], &'a [u8]), LineError>
+    ensures { IsParsedAs (λ two. (two.0.now, two.1.now)) result (two_of words.old) }
 {
     let Some(first) = words.next() else {
-        return Err(Refusal::Fault(Fault::BadWords));
+        return Err(LineError::Fault(ScriptFault::BadWords));
     };
     let second = one(words)?;
     Ok((first, second))
 }
 
-/// The three words that are left.
-fn three<'a>(words: &mut Words<'a>) -> Result<(&'a [u8], &'a [u8], &'a [u8]), Refusal>
-    ensures { Reads (λ three. (three.0.now, three.1.now, three.2.now)) result (three_of words.old) }
+/// The three words that remain.
+fn three<'a>(words: &mut SpacedWords<'a>) -> Result<(&'a [u8], &'a [u8], &'a [u8]), LineError>
+    ensures { IsParsedAs (λ three. (three.0.now, three.1.now, three.2.now)) result (three_of words.old) }
 {
     let Some(first) = words.next() else {
-        return Err(Refusal::Fault(Fault::BadWords));
+        return Err(LineError::Fault(ScriptFault::BadWords));
     };
     let (second, third) = two(words)?;
     Ok((first, second, third))
 }
 
 #[tactic(auto, unfolding(crate::specs::Script::open_of))]
-fn open(alloc: Global, args: &mut Words) -> Result<Action, Refusal>
-    ensures { Reads (λ action. action) result (open_of args.old) }
+fn open(alloc: Global, args: &mut SpacedWords) -> Result<Action, LineError>
+    ensures { IsParsedAs (λ action. action) result (open_of args.old) }
 {
     let txn_word = next(args)?;
     let ts_word = next(args)?;
@@ -204,8 +210,8 @@ fn open(alloc: Global, args: &mut Words) -> Result<Action, Refusal>
 }
 
 #[tactic(auto, unfolding(crate::specs::Script::look_of))]
-fn look(alloc: Global, args: &mut Words) -> Result<Action, Refusal>
-    ensures { Reads (λ action. action) result (look_of args.old) }
+fn look(alloc: Global, args: &mut SpacedWords) -> Result<Action, LineError>
+    ensures { IsParsedAs (λ action. action) result (look_of args.old) }
 {
     let key_word = one(args)?;
     let key = key(alloc, key_word)?;
@@ -213,8 +219,8 @@ fn look(alloc: Global, args: &mut Words) -> Result<Action, Refusal>
 }
 
 #[tactic(auto, unfolding(crate::specs::Script::acquire_of))]
-fn acquire(alloc: Global, args: &mut Words) -> Result<Action, Refusal>
-    ensures { Reads (λ action. action) result (acquire_of args.old) }
+fn acquire(alloc: Global, args: &mut SpacedWords) -> Result<Action, LineError>
+    ensures { IsParsedAs (λ action. action) result (acquire_of args.old) }
 {
     let (txn_word, ts_word, key_word) = three(args)?;
     let txn = txn(txn_word)?;
@@ -224,8 +230,8 @@ fn acquire(alloc: Global, args: &mut Words) -> Result<Action, Refusal>
 }
 
 #[tactic(auto, unfolding(crate::specs::Script::update_of))]
-fn update(alloc: Global, args: &mut Words) -> Result<Action, Refusal>
-    ensures { Reads (λ action. action) result (update_of args.old) }
+fn update(alloc: Global, args: &mut SpacedWords) -> Result<Action, LineError>
+    ensures { IsParsedAs (λ action. action) result (update_of args.old) }
 {
     let (txn_word, ts_word, key_word) = three(args)?;
     let txn = txn(txn_word)?;
@@ -234,9 +240,9 @@ fn update(alloc: Global, args: &mut Words) -> Result<Action, Refusal>
     Ok(Action::Update { txn, ts, key })
 }
 
-#[tactic(auto, unfolding(crate::specs::Script::finish_of))]
-fn finish(alloc: Global, args: &mut Words) -> Result<Action, Refusal>
-    ensures { Reads (λ action. action) result (finish_of args.old) }
+#[tactic(auto, unfolding(crate::specs::Script::parsed_finish))]
+fn finish(alloc: Global, args: &mut SpacedWords) -> Result<Action, LineError>
+    ensures { IsParsedAs (λ action. action) result (parsed_finish args.old) }
 {
     let (txn_word, key_word) = two(args)?;
     let txn = txn(txn_word)?;
@@ -244,17 +250,17 @@ fn finish(alloc: Global, args: &mut Words) -> Result<Action, Refusal>
     Ok(Action::Finish { txn, key })
 }
 
-/// A call that takes no words.
-fn alone(action: Action, args: &mut Words) -> Result<Action, Refusal>
-    ensures { Reads (λ action. action) result (alone action args.old) }
+/// A call without arguments.
+fn alone(action: Action, args: &mut SpacedWords) -> Result<Action, LineError>
+    ensures { IsParsedAs (λ action. action) result (alone action args.old) }
 {
     none(args)?;
     Ok(action)
 }
 
 #[tactic(auto, unfolding(crate::specs::Script::action_named))]
-fn action_named(alloc: Global, name: &[u8], args: &mut Words) -> Result<Action, Refusal>
-    ensures { Reads (λ action. action) result (action_named name.now args.old) }
+fn action_named(alloc: Global, name: &[u8], args: &mut SpacedWords) -> Result<Action, LineError>
+    ensures { IsParsedAs (λ action. action) result (action_named name.now args.old) }
 {
     if name == b"open".as_slice() {
         return open(alloc, args);
@@ -280,27 +286,27 @@ fn action_named(alloc: Global, name: &[u8], args: &mut Words) -> Result<Action, 
     if name == b"leave".as_slice() {
         return alone(Action::Leave, args);
     }
-    Err(Refusal::Fault(Fault::BadCall))
+    Err(LineError::Fault(ScriptFault::BadCall))
 }
 
-fn action(alloc: Global, words: &mut Words) -> Result<Action, Refusal>
-    ensures { Reads (λ action. action) result (action_of words.old) }
+fn action(alloc: Global, words: &mut SpacedWords) -> Result<Action, LineError>
+    ensures { IsParsedAs (λ action. action) result (action_of words.old) }
 {
     let Some(name) = words.next() else {
-        return Err(Refusal::Fault(Fault::BadCall));
+        return Err(LineError::Fault(ScriptFault::BadCall));
     };
     action_named(alloc, name, words)
 }
 
-fn saying(alloc: Global, words: &mut Words) -> Result<Option<Saying>, Refusal>
-    ensures { Reads (λ saying. saying) result (saying_of words.old) }
+fn parsed_line(alloc: Global, words: &mut SpacedWords) -> Result<Option<ParsedLine>, LineError>
+    ensures { IsParsedAs (λ parsed_line. parsed_line) result (parsed_line_of words.old) }
 {
     let Some(word) = words.next() else {
         return Ok(None);
     };
     let pass = pass(word)?;
     let action = action(alloc, words)?;
-    Ok(Some(Saying { pass, action }))
+    Ok(Some(ParsedLine { pass, action }))
 }
 
 fn is_comment(line: &[u8]) -> bool
@@ -312,12 +318,12 @@ fn is_comment(line: &[u8]) -> bool
     }
 }
 
-/// What the line says, whose end is left out; a comment and an empty line say nothing.
-pub(crate) fn read_line(alloc: Global, line: &[u8]) -> Result<Option<Saying>, Refusal>
-    ensures { Reads (λ saying. saying) result (line_of line.now) }
+/// Parses a line, given without its line end. A comment and a line without words ask for nothing.
+pub(crate) fn read_line(alloc: Global, line: &[u8]) -> Result<Option<ParsedLine>, LineError>
+    ensures { IsParsedAs (λ parsed_line. parsed_line) result (line_of line.now) }
 {
     if is_comment(line) {
         return Ok(None);
     }
-    saying(alloc, &mut Words::new(line))
+    parsed_line(alloc, &mut SpacedWords::new(line))
 }

@@ -1,8 +1,9 @@
+//! The pass of a script's line.
 ghost use Rattle.std.specs.Prelude.{◌≡◌, ◌<◌, ◌≤◌, ◌↔◌, IsSome, IfSome};
 
 use std::marker::Model;
 
-/// Who makes the calls of a line: a number from 1 to 64. In a contract it is that number.
+/// The pass that makes the calls of a line: a number from 1 to 64. In a contract it is that number.
 #[derive(Clone, Copy, Debug, PartialEq, Eq)]
 pub struct ScriptPass {
     number: u32,
@@ -21,7 +22,7 @@ impl Model for ScriptPass {
 }
 
 impl ScriptPass {
-    /// The pass of this number, or `None` unless it is 1 to 64.
+    /// The pass of this number, or `None` if the number is not from 1 to 64.
     pub fn new(number: u32) -> Option<ScriptPass>
         ensures some { IsSome result ↔ ((1 ≤ number) × (number ≤ 64)) }
         ensures value { IfSome result (λ pass. pass ≡ number) }

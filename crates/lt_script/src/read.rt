@@ -1,51 +1,53 @@
+//! Reads a whole script, line by line.
 ghost use Rattle.std.specs.Prelude.{◌≡◌, IfOk, IfErr};
-ghost use Rattle.lt_script.specs.Reading.{Reads};
-ghost use Rattle.lt_script.specs.Script.{command_at, commands_of, lines_so_far, line_of, told, IsTold};
+ghost use Rattle.lt_script.specs.Reading.{IsParsedAs};
+ghost use Rattle.lt_script.specs.Script.{command_at, commands_of, lines_so_far, line_of, told, IsFirstFault};
 
-use crate::command::Saying;
-use crate::error::{Refusal, ScriptError};
+use crate::command::ParsedLine;
+use crate::error::{LineError, ScriptError};
 use crate::line::read_line;
 use crate::{Command, Script};
 use bstr::ByteSlice;
 use std::alloc::Global;
 
-fn command_at(line: usize, saying: Saying) -> Command
-    ensures { result ≡ command_at line saying }
+fn command_at(line: usize, parsed_line: ParsedLine) -> Command
+    ensures { result ≡ command_at line parsed_line }
 {
-    let Saying { pass, action } = saying;
+    let ParsedLine { pass, action } = parsed_line;
     Command { line, pass, action }
 }
 
-fn told(refusal: Refusal, line: usize) -> ScriptError
+fn told(refusal: LineError, line: usize) -> ScriptError
     ensures { result ≡ told refusal line }
 {
     match refusal {
-        Refusal::Memory => ScriptError::Memory,
-        Refusal::Fault(fault) => ScriptError::Fault { line, fault },
+        LineError::Memory => ScriptError::Memory,
+        LineError::Fault(fault) => ScriptError::Fault { line, fault },
     }
 }
 
-/// Puts what the line says behind the commands.
+/// Appends the command of this line, if it has one.
 fn read_into(
     alloc: Global,
     commands: &mut Vec<Command>,
     line: usize,
     bytes: &[u8],
-) -> Result<(), Refusal>
-    ensures { Reads (λ _. commands.new.items) result (lines_so_far line commands.old.items (line_of bytes.now)) }
+) -> Result<(), LineError>
+    ensures { IsParsedAs (λ _. commands.new.items) result (lines_so_far line commands.old.items (line_of bytes.now)) }
 {
-    if let Some(saying) = read_line(alloc, bytes)? {
-        commands.push(command_at(line, saying))?;
+    if let Some(parsed_line) = read_line(alloc, bytes)? {
+        commands.push(command_at(line, parsed_line))?;
     }
     Ok(())
 }
 
 #[tactic(auto, using(crate::proofs::Fronts::goes_on, crate::proofs::Fronts::stops, crate::proofs::Fronts::ends))]
-/// The commands of a script, or the first faulty line and the first fault in it. Only want of memory keeps a
-/// script without a fault from being read. Room is taken at once for lines of sixteen bytes, so that their list seldom moves.
+/// Reads the commands of a script, or reports the first faulty line and the first fault in it. A script without a
+/// fault is always read, unless memory runs out. Allocates room for one command per sixteen bytes of text at once,
+/// so that the list rarely has to move.
 pub fn read_script(alloc: Global, text: &[u8]) -> Result<Script, ScriptError>
     ensures ok { IfOk result (λ script. commands_of text.now ≡ Ok script) }
-    ensures err { IfErr result (λ e. IsTold e (commands_of text.now)) }
+    ensures err { IfErr result (λ e. IsFirstFault e (commands_of text.now)) }
 {
     let Ok(mut commands) = Vec::with_capacity(alloc, text.len() / 16 + 1) else {
         return Err(ScriptError::Memory);

@@ -1,4 +1,4 @@
--- The keys that a table names are those that are locked or waited for.
+-- The keys that a table names are the ones that are locked or waited for.
 use Rattle.std.proofs.Common.{◌≡◌, ℕ, Bool, true, false, ◌&&◌, List, [], ◌∷◌, map, Option, Some, None, unwrap_or, refl, sym, ap, ◌∙◌, T}
 use mathlib.Core.Bool.{true≢false}
 use Rattle.std.specs.Prelude.{Contains, IfSome, is_some}
@@ -17,7 +17,7 @@ use Rattle.lt_plain.specs.Rules.{Record, empty, is_empty}
 use Rattle.lt_plain.specs.Table.{Records, record_at, AreSound, IsKept}
 use Rattle.lt_plain.proofs.Maps.{order}
 use Rattle.lt_entry.specs.declared.entry.Entry.{Entry}
-use Rattle.lt_words.specs.History.{record_of}
+use Rattle.lt_words.specs.History.{key_record}
 use Rattle.lt_shard.specs.Shards.{AreLockedKeys}
 
 -- ---- the keys of a map rise
@@ -44,7 +44,7 @@ unfolding IsStrictlySortedBy
 rising [] sorted = tt
 rising (e ∷ es) sorted = (all_above e.0 es (first _ _ sorted), rising es (second _ _ sorted))
 
--- ---- a key has a record if that is not empty
+-- ---- a key has a record exactly if the record is not empty
 
 filled : (o : Option Record) → IfSome o IsKept → is_some o ≡ true → is_empty (unwrap_or o empty) ≡ false
 filled None kept is = absurd (true≢false (sym is))
@@ -60,7 +60,7 @@ named m key has = contains_key-keys m key ∙ list_any-from_Contains (eq_by_cmp_
 names : (m : Records) (key : List ℕ) → is_some (get m key) ≡ true → Contains (keys m) key
 names m key is = Contains-from_any (λ x y e. tells_apart exact_bytes x y e) key (keys m) (sym (contains_key-keys m key) ∙ is)
 
-pub locked_keys : (m : Records) (es : List Entry) (all : List (List ℕ)) → AreSound m → ((key : List ℕ) → record_at m key ≡ record_of key es) → all ≡ keys m → AreLockedKeys es all
+pub locked_keys : (m : Records) (es : List Entry) (all : List (List ℕ)) → AreSound m → ((key : List ℕ) → record_at m key ≡ key_record key es) → all ≡ keys m → AreLockedKeys es all
 locked_keys m es all sound replays same = rw same (record {
   rising = rising (entries m) (entries_sorted m);
   locked = λ key. (

@@ -1,4 +1,4 @@
-//! Which steps a shard holds.
+//! Which steps does a shard store?
 ghost use Rattle.std.specs.Prelude.{◌≡◌, ◌+◌, ◌<◌, ◌^◌, false, IsTrue, IsSome, IfOk, IsOk, OnOk, vec_len, vec_capacity};
 ghost use Rattle.lt_shard.specs.Shards.{is_recorded, IsSpare, KeepsBy};
 
@@ -8,7 +8,7 @@ use lt_ids::Key;
 use lt_words::Keeping;
 use std::alloc::AllocError;
 
-/// The steps that are left of a shard.
+/// What is left of a shard's steps.
 #[derive(Drop)]
 pub struct Rest {
     /// How many steps were made of the shard before these.
@@ -17,7 +17,7 @@ pub struct Rest {
     pub entries: Vec<Entry>,
 }
 
-/// Whether a step is stored.
+/// Whether steps are stored.
 pub(crate) fn is_recorded(keeping: Keeping) -> bool
     ensures { result ≡ is_recorded keeping }
 {
@@ -27,7 +27,7 @@ pub(crate) fn is_recorded(keeping: Keeping) -> bool
     }
 }
 
-/// Takes room for one more step, and for its key, where steps are recorded.
+/// Allocates room for one more step and a copy of its key, if steps are recorded.
 pub(crate) fn make_room(
     recorded: bool,
     key: &Key,
@@ -45,7 +45,7 @@ pub(crate) fn make_room(
     Ok(Some(key.copy()?))
 }
 
-/// Holds one more step, where there is a key for its entry, or counts it with those before.
+/// Stores one more step if there is a key for its entry. Otherwise counts it among those that are not held.
 pub(crate) fn keep(spare: Option<Key>, before: &mut u64, held: &mut Vec<Entry>, step: MadeStep<'_>)
     requires room { IsSome spare → vec_len held.old < vec_capacity held.old }
     requires few { before.old + 1 < 2 ^ 64 }

@@ -1,4 +1,4 @@
-//! A step that the table has made.
+//! How does a shard's table make a step?
 ghost use Rattle.std.specs.Prelude.{◌≡◌, ◌≤◌, IfOk, IsOk, OnErr};
 ghost use Rattle.lt_plain.specs.Rules.{TakesNoMemory};
 ghost use Rattle.lt_plain.specs.Step.{step};
@@ -14,7 +14,7 @@ use lt_plain::{Call, KeyTable, Reply};
 use lt_words::EntryParts;
 use std::alloc::{AllocError, Global};
 
-/// A step that the table has made, on its way into the history: of which shard it is, its entry, and what the entry has
+/// A step that the table has made, on its way into the history: its shard, its entry, and what the entry has
 /// besides its key and its pass.
 #[derive(Drop)]
 pub(crate) struct MadeStep<'a> {
@@ -26,7 +26,7 @@ pub(crate) struct MadeStep<'a> {
     ghost parts: { entry ≡ made entry.key entry.pass call.now reply lets.items },
 }
 
-/// Makes the call at the table. All memory is taken before the table changes.
+/// Makes the call at the table. Everything is allocated before the table changes.
 pub(crate) fn make_step<'a, T: KeyTable>(
     alloc: Global,
     table: &mut T,
@@ -44,12 +44,12 @@ pub(crate) fn make_step<'a, T: KeyTable>(
     ensures sound { AreSound (T.records table.new) }
     ensures in_range { IfOk result (λ s. IsInRange s.entry) }
     ensures err { OnErr result (T.records table.new ≡ T.records table.old) }
-    // No memory is taken for what an entry would have.
+    // The parts of an entry need no memory of their own.
     ensures no_memory { TakesNoMemory (record_at (T.records table.old) key.now) (step (record_at (T.records table.old) key.now) pass call.now) → IsOk result }
 {
     let mut lets = Vec::new(alloc);
     let reply = make(table, key, pass, call, &mut lets)?;
-    // Brings into the proof that the types keep each number in its range.
+    // Ghost call: tells the prover that the types keep each number in its range.
     Entry::parts_in_range(key, pass, call, &reply, &lets);
     Ok(MadeStep {
         shard,

@@ -1,7 +1,23 @@
-//! The lock table of a transactional store: requests of many threads wait their turn at contended keys.
+//! A lock table for a transactional store: requests of many threads queue at contended keys, and each one is told
+//! when it may proceed.
 //!
-//! A store opens a table in two steps, since a proof knows a table by its name: [`prepare`] takes the memory of its words, and
-//! a function over `N: Name`, which is called at `Brand`, opens it and does all that is done with it:
+//! This page says how a store uses the table and what the store may rely on. The locks are exclusive and on single
+//! keys. In the order in which a store meets them:
+//!
+//! - A [`Table`] is shared by all threads. It has as many passes as its [`Config`] says.
+//! - A [`Pass`](lt_words::Pass) is one caller's token. It makes the caller's calls, and it serves one caller at a
+//!   time.
+//! - A **request** names the keys that it reads and writes. It enters with a pass and draws a **number**: a smaller
+//!   number goes first. Its [`Guard`] keeps the pass until the request leaves.
+//! - A **scan** visits the request's keys in order. At a conflict the request is queued at the key and waits.
+//! - A **let** ends a wait: the step of another call has let the request through.
+//! - A transaction **acquires** the locks that it needs, and later **finishes** each one, which frees it.
+//!
+//! # Opening a table
+//!
+//! A store opens a table in two steps, because a proof knows a table by its name, which is a type. [`prepare`]
+//! allocates the table's words and passes. A function over `N: Name`, called at `Brand`, then opens the table and
+//! does everything that is done with it:
 //!
 //! ```text
 //! fn serve<N: Name + Send + Sync, R: Threads + Wait + Sync>(rt: &R, alloc: Global, ready: Ready) -> Option<Histories>
@@ -19,8 +35,10 @@
 //! serve::<Brand, R>(rt, alloc, ready)
 //! ```
 //!
-//! For each request a thread goes round this loop with its pass. It leaves on every path, since whoever stands behind it waits
-//! until it does, and it looks at what an acquire was replied:
+//! # The life of a request
+//!
+//! For each request a thread goes through this loop with its pass. The request leaves on every path, because the
+//! requests queued after it wait until it does. The thread also checks what the acquire replied:
 //!
 //! ```text
 //! fn proceed(rt: &R, table: &Table<N, T>, guard: &mut Guard) -> bool {
@@ -30,63 +48,96 @@
 //!             Ok(Scan::Rescan) => {}                                       // it waited on the way: once more
 //!             Ok(Scan::Waiting(_)) => { table.wait(rt, guard); }           // it sleeps until it is let through
 //!             Ok(Scan::TooLong(_)) => return false,                        // there are as many writers as its bound
-//!             Err(_) => return false,                                      // a full history, no memory, too many waits
+//!             Err(_) => return false,                                      // a full history, out of memory, too many waits
 //!         }
 //!     }
 //!     unreachable!()
 //! }
 //!
 //! let mut guard = match table.enter(rt, alloc, pass, Some(txn), ts, &accesses, longest) {
-//!     Ok(guard) => guard,                                                  // a number is drawn: who is first, goes first
+//!     Ok(guard) => guard,                                                  // it has drawn a number: the smaller goes first
 //!     Err(EnterRefused { pass, error: _ }) => { seat.put(pass); return None; }
 //! };
 //! let is_locked = proceed(rt, &table, &mut guard)
 //!     && is_ours(table.acquire_in(rt, &mut guard, key, txn, ts));          // `Taken`, `Raised` or `Kept`, and not `Other`
-//! match table.leave(rt, guard) {                                           // its stands in the queues are given up
+//! match table.leave(rt, guard) {                                           // it gives up its queue entries
 //!     Ok(Left { pass, answers: _ }) => seat.put(pass),
-//!     Err(LeaveStopped { guard, error: _ }) => ..                          // no memory: it leaves again from there
+//!     Err(LeaveStopped { guard, error: _ }) => ..                          // out of memory: leave again from there
 //! }
-//! // Later, at the transaction's end, where it holds the lock: the lock comes free, and the next may go.
+//! // At the transaction's end, if it holds the lock: the lock comes free, and the next request proceeds.
 //! table.finish(rt, &mut pass, key, txn)
 //! ```
 //!
-//! What a store brings itself: latches, since two requests that meet no lock both proceed, and of their acquires the second is
-//! answered `Other`; pushing, that is what becomes of a transaction that holds a lock for too long, and deadlock detection, for
-//! which [`Table::inspect`] tells who waits for whom; and timestamps. The crate `lt_table_tests` has such a store's threads,
-//! whole and proved, in `lent.rt` and `queue.rt`.
+//! # What the store adds
 //!
-//! A scan waits for the locks of shards alone. At a conflict its request stands in the key's queue, and it answers
-//! `Waiting`. A poll is one load of the pass's own status word, so a thread may poll as often as it likes, or do something
-//! else meanwhile. [`Table::wait`] sleeps until the step that lets the request through wakes it, and [`Table::wait_until`]
-//! does so up to a deadline. A store that does not keep a thread for each request opens its table with a [`Waker`]
-//! ([`open_waking`]), which is told of each let.
+//! - **Latches.** Two requests that meet no lock both proceed. If both then acquire the same lock, the second is
+//!   answered `Other`.
+//! - **Pushing**: what becomes of a transaction that holds a lock for too long.
+//! - **Deadlock detection.** [`Table::inspect`] tells which requests wait at a key, and for which transaction.
+//! - **Timestamps.**
 //!
-//! Keys are spread over 1 to 64 shards by the sum of their bytes. Each shard has a lock of its own, and a call holds at most
-//! one of them, for one key step.
+//! The crate `lt_table_tests` has the threads of such a store, complete and proved, in `src/waiting/lent.rt` and
+//! `src/waiting/queue.rt`.
 //!
-//! A request may be of no transaction: no lock is ever reserved for it. And it may have a bound: where a key has as
-//! many writers, or more, its scan answers `TooLong` and does not join them.
+//! # Waiting
 //!
-//! **What is promised**, in any schedule: each key step that a call reports stands with its reply in one legal history of
-//! all steps, once, and after all that its caller had seen; a request that is read as let through was let through there; no
-//! key ever has two holders; a reader passes another transaction's lock only below the lock's timestamp. The contracts of
-//! the calls say this of what their pass has then seen, and [`Table::close`] says that all that was ever seen is one history.
-//! No wake-up is lost: whoever has seen that the very wait that it is in was shown to it, is answered `Through` by its next
-//! poll, unless a later ticket of its pass was let through ([`laws`]).
-//! Premises: passes and guards are those of this table, each used by its owner; a call that takes a lock promises if it
-//! returns.
+//! A scan blocks only on the locks of shards. At a conflict it leaves its request in the key's queue and answers
+//! `Waiting`. The request then learns in one of three ways that it was let through:
 //!
-//! **How the history is kept.** A table that [`prepare`] makes ready holds each step until it is closed, up to `max_steps` of
-//! a shard. [`prepare_with`] makes one ready that streams its steps, which [`Table::take_history`] and [`Table::take_next`]
-//! take out while it runs, or that records none. The promises are the same, and [`Table::close_rest`] gives what is left.
+//! - [`Table::poll`] is one load of the pass's own status word. A thread may poll as often as it likes, or do
+//!   something else in between.
+//! - [`Table::wait`] sleeps until the step that lets the request through wakes it. [`Table::wait_until`] does the
+//!   same up to a deadline.
+//! - A [`Waker`] is called for each let. A store that does not keep a thread for each request opens its table with
+//!   one ([`open_waking`]).
 //!
-//! **What can be asked.** [`Table::inspect`] tells how a key stands, and [`Table::locked_keys`] which keys of a shard are
-//! locked, reserved or waited for. Both are true after the steps of the shard that the pass has then seen, and stand in no
-//! history.
+//! # Requests without a transaction, and bounds
 //!
-//! **Passes and threads.** A [`Pass`](lt_words::Pass) and a [`Guard`] are not `Drop`: a path that forgets one does not compile,
-//! and `abandon` gives one up by name. The library's threads take only values that may be dropped. So a pass goes to a thread
-//! in a *seat*, a struct of the caller's own whose `Drop` gives the pass up:
+//! A request may have no transaction: no lock is ever reserved for it. A request may also have a bound: if a key
+//! has as many writers as the bound or more, the request's scan answers `TooLong` and the request does not join
+//! them.
+//!
+//! # Shards
+//!
+//! Keys are spread over 1 to 64 shards by the sum of their bytes. Each shard has a lock of its own. A call holds at
+//! most one of these locks at a time, for one key step.
+//!
+//! # What is promised
+//!
+//! In every schedule:
+//!
+//! - Each key step that a call reports is in one legal history of all steps: with its reply, once, and after
+//!   everything that its caller had seen.
+//! - A request that is read as let through was let through in that history.
+//! - No key ever has two holders.
+//! - A reader passes another transaction's lock only below the lock's timestamp.
+//! - No wake-up is lost. If a request's pass has seen that the very wait that the request is in was shown to it,
+//!   the request's next poll answers `Through`, unless a later ticket of its pass was let through ([`laws`]).
+//!
+//! The contract of each call says this of what the call's pass has then seen. [`Table::close`] says that everything
+//! that was ever seen is one history.
+//!
+//! Premises: passes and guards are those of this table, and each is used by its owner. A call that takes a lock
+//! keeps its promises if it returns.
+//!
+//! # How the history is kept
+//!
+//! A table that [`prepare`] makes ready holds each step until it is closed, up to `max_steps` steps of a shard.
+//! [`prepare_with`] makes a table ready that streams its steps, which [`Table::take_history`] and
+//! [`Table::take_next`] take out while it runs, or a table that records none. The promises are the same in all
+//! three ways. [`Table::close_rest`] gives what is left.
+//!
+//! # Asking a running table
+//!
+//! [`Table::inspect`] gives the record of a key. [`Table::locked_keys`] gives the keys of a shard that are locked,
+//! reserved or waited for. Both answers are true after the steps of the shard that the pass has then seen. Neither
+//! call is in any history.
+//!
+//! # Passes and threads
+//!
+//! A pass and a guard are not `Drop`: a path that forgets one does not compile, and `abandon` gives one up by name.
+//! The library's threads take only values that may be dropped. So a pass goes to a thread in a *seat*, a struct of
+//! the caller's own whose `Drop` gives the pass up:
 //!
 //! ```text
 //! pub struct Seat<N: Name> {
@@ -108,9 +159,12 @@
 //! let seats = map_vec(rt, seats, &|seat: Seat<N>| -> Option<Seat<N>> { turn(rt, &table, seat) })?;
 //! ```
 //!
-//! The table itself is in `lt_table_core`, over any table of one key's rules; this crate opens it over linked queues. Look next
-//! there. `docs/RULES.md`, "A request", has the rules in words, and `docs/PROOFS.md` each promise with the contract that carries
-//! it.
+//! # Read next
+//!
+//! The table itself is in `lt_table_core`, over any table of one key's rules; this crate opens it over linked
+//! queues. Read next `lt_table_core/src/lib.rt`. `docs/RULES.md`, "A request", has the rules in words.
+//! `docs/PROOFS.md` lists each promise with the contract that carries it, and `docs/LIMITS.md` says what happens at
+//! each limit.
 #![tactic(auto)]
 
 mod linked;

@@ -1,4 +1,4 @@
-//! A table over linked queues is opened.
+//! How is a table over linked queues opened?
 ghost use Rattle.std.specs.Prelude.{◌≡◌, IfOk, length};
 ghost use Rattle.std.specs.List.{All};
 ghost use Rattle.std.specs.FinMap as finmap;
@@ -9,7 +9,7 @@ use lt_table_core::{Ready, Table, empty_tables, open_waking_with, open_with};
 use lt_words::{Name, Pass, Waker};
 use std::alloc::{AllocError, Global};
 
-/// So many empty tables over linked queues, one for each shard of a table that [`open_with`] opens.
+/// Makes `count` empty tables over linked queues: one for each shard of a table that [`open_with`] opens.
 pub fn linked_tables(alloc: Global, count: usize) -> Result<Vec<LinkedTable>, AllocError>
     ensures many { IfOk result (λ tables. length tables.items ≡ count) }
     ensures empty { IfOk result (λ tables. All (λ t. t ≡ finmap.empty) tables.items) }
@@ -23,7 +23,8 @@ pub fn linked_tables(alloc: Global, count: usize) -> Result<Vec<LinkedTable>, Al
     )
 }
 
-/// Opens the table of a book over linked tables.
+/// Opens the table of a prepared book over linked queues. The passes have seen nothing and made no step. `N` names
+/// the book that was prepared. If an allocation fails, the passes are given up with the book.
 pub fn open<N: Name>(
     alloc: Global,
     ready: Ready,
@@ -40,7 +41,7 @@ pub fn open<N: Name>(
     open_with(alloc, ready, tables)
 }
 
-/// [`open`], with a waker that is told of each let. Each pass takes room for a let of each pass.
+/// [`open`], with a waker that is called for each let. Each pass allocates room for one let of each pass.
 pub fn open_waking<N: Name, W: Waker + Drop>(
     alloc: Global,
     ready: Ready,

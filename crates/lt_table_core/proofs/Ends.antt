@@ -1,4 +1,4 @@
--- A table on its way to be closed.
+-- A table that is being closed.
 use Rattle.std.proofs.Common.{◌≡◌, ℕ, zero, suc, true, false, nat_eq, Option, Some, None, IfNone, ◌+◌, ◌<◌, ◌≤◌, List, [], ◌∷◌, ◌++◌, length, map, take, drop, get_or, ap, refl, sym, subst, ◌∙◌, arith, add-one, length-append}
 use Rattle.std.proofs.Math.Seq.{get_or-append_seam}
 use Rattle.std.proofs.lemmas.Bool.Decides.{nat_tests}
@@ -17,7 +17,7 @@ use Rattle.lt_words.specs.declared.event.Event.{Event}
 use Rattle.lt_words.specs.History.{part, draws_of, shard_of, IsLegalHistory}
 use Rattle.lt_ids.specs.declared.ticket.Through.{Through}
 use Rattle.lt_words.specs.Shown.{AreShown, AreLet}
-use Rattle.lt_words.specs.Row.{Opening, Seer, SeesMore}
+use Rattle.lt_words.specs.Row.{Opening, PassState, SeesMore}
 use Rattle.lt_words.proofs.Prefixes.{prefix_trans}
 use Rattle.lt_words.proofs.Histories.{part_prefix}
 use Rattle.lt_shard.specs.declared.holding.Rest.{Rest}
@@ -33,61 +33,61 @@ use Rattle.lt_table_core.specs.Closed.{counts_at, IsCounted, IsMiscount, IsUnclo
 
 -- ---- counts
 
-pub counts_append : (s : ℕ) (ps qs : List Seer) → counts_at s (ps ++ qs) ≡ counts_at s ps + counts_at s qs
+pub counts_append : (s : ℕ) (ps qs : List PassState) → counts_at s (ps ++ qs) ≡ counts_at s ps + counts_at s qs
 counts_append s [] qs = omega arith
 counts_append s (p ∷ ps) qs = omega (arith, counts_append s ps qs)
 
 -- one more of the items that each have a pass
-pub counts_taken : {A : Type 0} (f : A → Seer) (s : ℕ) (xs : List A) (i : ℕ) (x : A) → i < length xs → x ≡ get_or xs i x → counts_at s (map f (take (suc i) xs)) ≡ counts_at s (map f (take i xs)) + slice_index (f x).counts s
+pub counts_taken : {A : Type 0} (f : A → PassState) (s : ℕ) (xs : List A) (i : ℕ) (x : A) → i < length xs → x ≡ get_or xs i x → counts_at s (map f (take (suc i) xs)) ≡ counts_at s (map f (take i xs)) + slice_index (f x).counts s
 counts_taken f s [] i x lt is = absurd (omega arith)
 counts_taken f s (y ∷ ys) zero x lt is = let same : slice_index (f x).counts s ≡ slice_index (f y).counts s = ap (λ z. slice_index (f z).counts s) is in omega (arith, same)
 counts_taken f s (y ∷ ys) (suc i) x lt is = omega (arith, counts_taken f s ys i x (omega arith) is)
 
-pub less_one : {A : Type 0} (f : A → Seer) (s : ℕ) (xs : List A) (i : ℕ) (x : A) (left left' steps : ℕ) → left + counts_at s (map f (take i xs)) ≡ steps → i < length xs → x ≡ get_or xs i x → left' + slice_index (f x).counts s ≡ left → left' + counts_at s (map f (take (i + 1) xs)) ≡ steps
+pub less_one : {A : Type 0} (f : A → PassState) (s : ℕ) (xs : List A) (i : ℕ) (x : A) (left left' steps : ℕ) → left + counts_at s (map f (take i xs)) ≡ steps → i < length xs → x ≡ get_or xs i x → left' + slice_index (f x).counts s ≡ left → left' + counts_at s (map f (take (i + 1) xs)) ≡ steps
 less_one f s xs i x left left' steps so_far lt is less = rw add-one (omega (arith, so_far, less, counts_taken f s xs i x lt is))
 
--- a fact that holds in any case holds where there is none
+-- a fact that holds anyway holds if there is none
 pub on_none : {A : Type 0} (o : Option A) (P : Type 0) → P → IfNone o P
 on_none None P p = p
 on_none (Some x) P p = tt
 
-counts_front : {A : Type 0} (f : A → Seer) (s : ℕ) (xs : List A) (i : ℕ) → counts_at s (map f (take i xs)) ≤ counts_at s (map f xs)
+counts_front : {A : Type 0} (f : A → PassState) (s : ℕ) (xs : List A) (i : ℕ) → counts_at s (map f (take i xs)) ≤ counts_at s (map f xs)
 counts_front f s [] zero = omega arith
 counts_front f s [] (suc i) = omega arith
 counts_front f s (y ∷ ys) zero = omega arith
 counts_front f s (y ∷ ys) (suc i) = omega (arith, counts_front f s ys i)
 
--- fewer are left than one item takes, so they all take more than there were
-pub more_taken : {A : Type 0} (f : A → Seer) (s : ℕ) (xs : List A) (i : ℕ) (x : A) (left steps : ℕ) → left + counts_at s (map f (take i xs)) ≡ steps → i < length xs → x ≡ get_or xs i x → left < slice_index (f x).counts s → steps < counts_at s (map f xs)
+-- fewer steps are left than one item takes, so all items together take more than there were
+pub more_taken : {A : Type 0} (f : A → PassState) (s : ℕ) (xs : List A) (i : ℕ) (x : A) (left steps : ℕ) → left + counts_at s (map f (take i xs)) ≡ steps → i < length xs → x ≡ get_or xs i x → left < slice_index (f x).counts s → steps < counts_at s (map f xs)
 more_taken f s xs i x left steps so_far lt is more = omega (arith, so_far, more, counts_taken f s xs i x lt is, counts_front f s xs (suc i))
 
-pub more_taken_alone : (s : ℕ) (ps : List Seer) (i : ℕ) (p : Seer) (left steps : ℕ) → left + counts_at s (map (λ q. q) (take i ps)) ≡ steps → i < length ps → p ≡ get_or ps i p → left < slice_index p.counts s → steps < counts_at s ps
+pub more_taken_alone : (s : ℕ) (ps : List PassState) (i : ℕ) (p : PassState) (left steps : ℕ) → left + counts_at s (map (λ q. q) (take i ps)) ≡ steps → i < length ps → p ≡ get_or ps i p → left < slice_index p.counts s → steps < counts_at s ps
 more_taken_alone s ps i p left steps so_far lt is more = omega (arith, same ps, more_taken (λ q. q) s ps i p left steps so_far lt is more)
   where
-    same : (qs : List Seer) → counts_at s (map (λ q. q) qs) ≡ counts_at s qs
+    same : (qs : List PassState) → counts_at s (map (λ q. q) qs) ≡ counts_at s qs
     same [] = refl
     same (q ∷ qs) = ap (λ n. slice_index q.counts s + n) (same qs)
 
 -- ---- what was seen
 
--- what holds of what each pass had seen, and follows
-pub each_seen : {P Q : List Event → Type 0} (ps : List Seer) → ((h : List Event) → P h → Q h) → AllByRecursion (λ p. P p.seen) ps → AllByRecursion (λ p. Q p.seen) ps
+-- what follows from a fact about what each pass had seen
+pub each_seen : {P Q : List Event → Type 0} (ps : List PassState) → ((h : List Event) → P h → Q h) → AllByRecursion (λ p. P p.seen) ps → AllByRecursion (λ p. Q p.seen) ps
 each_seen [] f a = tt
 each_seen (p ∷ ps) f a = (f p.seen a.0, each_seen ps f a.1)
 
--- one more pass was learnt of
-pub learnt : {A : Type 0} (f : Seer → List A) (ps : List Seer) (i : ℕ) (p : Seer) (h h' : List A) → AllByRecursion (λ q. IsPrefix (f q) h) (take i ps) → i < length ps → p ≡ get_or ps i p → IsPrefix h h' → IsPrefix (f p) h' → AllByRecursion (λ q. IsPrefix (f q) h') (take (suc i) ps)
+-- what one more pass had seen was learned
+pub learnt : {A : Type 0} (f : PassState → List A) (ps : List PassState) (i : ℕ) (p : PassState) (h h' : List A) → AllByRecursion (λ q. IsPrefix (f q) h) (take i ps) → i < length ps → p ≡ get_or ps i p → IsPrefix h h' → IsPrefix (f p) h' → AllByRecursion (λ q. IsPrefix (f q) h') (take (suc i) ps)
 learnt f [] i p h h' a lt is more that = absurd (omega arith)
-learnt f (q ∷ qs) zero p h h' a lt is more that = (subst (λ (s : Seer). IsPrefix (f s) h') is that, tt)
+learnt f (q ∷ qs) zero p h h' a lt is more that = (subst (λ (s : PassState). IsPrefix (f s) h') is that, tt)
 learnt f (q ∷ qs) (suc i) p h h' a lt is more that = (prefix_trans (f q) h h' a.0 more, learnt f qs i p h h' a.1 (omega arith) is more that)
 
-pub all_and_last : {A : Type 0} (f : Seer → List A) (ps : List Seer) (p : Seer) (h : List A) → AllByRecursion (λ q. IsPrefix (f q) h) ps → IsPrefix (f p) h → AllByRecursion (λ q. IsPrefix (f q) h) (ps ++ p ∷ [])
+pub all_and_last : {A : Type 0} (f : PassState → List A) (ps : List PassState) (p : PassState) (h : List A) → AllByRecursion (λ q. IsPrefix (f q) h) ps → IsPrefix (f p) h → AllByRecursion (λ q. IsPrefix (f q) h) (ps ++ p ∷ [])
 all_and_last f [] p h a last = (last, tt)
 all_and_last f (q ∷ qs) p h a last = (a.0, all_and_last f qs p h a.1 last)
 
 -- ---- shards that were met
 
-pub was_met : (of : Opening) (v w : View) (old new : Seer) (t : Rest) → IsShard of w → OnlySeesMore v w → t.from ≡ w.before → t.entries.items ≡ w.held → part v.index new.seen ≡ v.stored → IsPrefix v.told new.shown → IsPrefix old.seen new.seen → IsEnded of old new v.index v t
+pub was_met : (of : Opening) (v w : View) (old new : PassState) (t : Rest) → IsShard of w → OnlySeesMore v w → t.from ≡ w.before → t.entries.items ≡ w.held → part v.index new.seen ≡ v.stored → IsPrefix v.told new.shown → IsPrefix old.seen new.seen → IsEnded of old new v.index v t
 was_met of v w old new t kept same from entries met told more = record {
   met = record {
     legal = subst AreLegalKeys same.stored kept.legal;
@@ -106,13 +106,13 @@ was_met of v w old new t kept same from entries met told more = record {
   limit = omega (arith, ap length entries, kept.room, same.max_steps);
 }
 
-met_later : (of : Opening) (old mid new : Seer) (s : ℕ) (es : List Entry) → IsMet of old mid s es → IsPrefix mid.seen new.seen → IsPrefix mid.shown new.shown → IsMet of old new s es
+met_later : (of : Opening) (old mid new : PassState) (s : ℕ) (es : List Entry) → IsMet of old mid s es → IsPrefix mid.seen new.seen → IsPrefix mid.shown new.shown → IsMet of old new s es
 met_later of old mid new s es m more later = record { legal = m.legal; home = m.home; in_range = m.in_range; within = m.within; behind = prefix_trans es (part s mid.seen) (part s new.seen) m.behind (part_prefix s mid.seen new.seen more); shown = shown_on es mid.shown new.shown later m.shown }
 
-met_before : (of : Opening) (old mid new : Seer) (s : ℕ) (es : List Entry) → IsMet of mid new s es → IsPrefix old.seen mid.seen → IsMet of old new s es
+met_before : (of : Opening) (old mid new : PassState) (s : ℕ) (es : List Entry) → IsMet of mid new s es → IsPrefix old.seen mid.seen → IsMet of old new s es
 met_before of old mid new s es m more = record { legal = m.legal; home = m.home; in_range = m.in_range; within = prefix_trans (part s old.seen) (part s mid.seen) es (part_prefix s old.seen mid.seen more) m.within; behind = m.behind; shown = m.shown }
 
--- at each place of a list and of one more, a fact of the item there
+-- a fact of the item at each index of a list with one more item
 at_each : {A : Type 0} (P : ℕ → A → Type 0) (xs : List A) (x : A) (n : ℕ) → n ≡ length xs → ((s : ℕ) (d : A) → s < n → P s (get_or xs s d)) → P n x → (s : ℕ) (d : A) → s < n + 1 → P s (get_or (xs ++ x ∷ []) s d)
 at_each P xs x n many each last s d lt =
     dite (ℕ_discrete s n)
@@ -123,10 +123,10 @@ at_each P xs x n many each last s d lt =
 pub new_more : (of : Opening) (max_steps : ℕ) (vs : List View) (v : View) → AreNewShards of max_steps vs → v ≡ new_shard of (length vs) max_steps → AreNewShards of max_steps (vs ++ v ∷ [])
 new_more of max_steps vs v each last = λ s d lt. at_each (λ k x. x ≡ new_shard of k max_steps) vs v (length vs) refl each last s d (omega (arith, lt, length-append vs (v ∷ [])))
 
-ended_at : (of : Opening) (old new old' new' : Seer) (s : ℕ) (v v' : View) (t : Rest) → v ≡ v' → (IsMet of old new s v.stored → IsMet of old' new' s v.stored) → IsEnded of old new s v t → IsEnded of old' new' s v' t
+ended_at : (of : Opening) (old new old' new' : PassState) (s : ℕ) (v v' : View) (t : Rest) → v ≡ v' → (IsMet of old new s v.stored → IsMet of old' new' s v.stored) → IsEnded of old new s v t → IsEnded of old' new' s v' t
 ended_at of old new old' new' s v v' t same f m = subst (λ x. IsEnded of old' new' s x t) same (record { met = f m.met; from = m.from; entries = m.entries; within = m.within; held = m.held; whole = m.whole; unrecorded = m.unrecorded; limit = m.limit })
 
-pub met_more : (of : Opening) (old mid new : Seer) (vs : List View) (ts : List Rest) (v : View) (t : Rest) → AreEnded of old mid vs ts → IsPrefix old.seen mid.seen → IsPrefix mid.seen new.seen → IsPrefix mid.shown new.shown → IsEnded of mid new (length vs) v t
+pub met_more : (of : Opening) (old mid new : PassState) (vs : List View) (ts : List Rest) (v : View) (t : Rest) → AreEnded of old mid vs ts → IsPrefix old.seen mid.seen → IsPrefix mid.seen new.seen → IsPrefix mid.shown new.shown → IsEnded of mid new (length vs) v t
     → AreEnded of old new (vs ++ v ∷ []) (ts ++ t ∷ [])
 met_more of old mid new vs ts v t m before later shown last =
     let longer : length (vs ++ v ∷ []) ≡ length vs + 1 = length-append vs (v ∷ []) in
@@ -141,11 +141,11 @@ met_more of old mid new vs ts v t m before later shown last =
 
 -- ---- the end
 
-each_shown_on : (ps : List Seer) (h h' : List Through) → IsPrefix h h' → AllByRecursion (λ p. IsPrefix p.shown h) ps → AllByRecursion (λ p. IsPrefix p.shown h') ps
+each_shown_on : (ps : List PassState) (h h' : List Through) → IsPrefix h h' → AllByRecursion (λ p. IsPrefix p.shown h) ps → AllByRecursion (λ p. IsPrefix p.shown h') ps
 each_shown_on [] h h' more all = tt
 each_shown_on (p ∷ ps) h h' more all = (prefix_trans p.shown h h' all.0 more, each_shown_on ps h h' more all.1)
 
-rest_of : (of : Opening) (wanted : Wanted) (ps : List Seer) (one two three : Seer) (s : ℕ) (v : View) (t : Rest) → AllByRecursion (λ p. IsPrefix p.seen one.seen) ps → IsEnded of one two s v t → IsPrefix two.seen three.seen → IsPrefix two.shown three.shown → IsCounted wanted ps s v → IsRest of ps three.seen three.shown s t.from t.entries.items
+rest_of : (of : Opening) (wanted : Wanted) (ps : List PassState) (one two three : PassState) (s : ℕ) (v : View) (t : Rest) → AllByRecursion (λ p. IsPrefix p.seen one.seen) ps → IsEnded of one two s v t → IsPrefix two.seen three.seen → IsPrefix two.shown three.shown → IsCounted wanted ps s v → IsRest of ps three.seen three.shown s t.from t.entries.items
 rest_of of wanted ps one two three s v t seen m second later counted = record {
   all = v.stored;
   final = record {
@@ -163,7 +163,7 @@ rest_of of wanted ps one two three s v t seen m second later counted = record {
   unrecorded = λ e. m.entries ∙ m.unrecorded e;
 }
 
-pub ends : (of : Opening) (wanted : Wanted) (ps : List Seer) (vs : List View) (ts : List Rest) (one two three : Seer) (draws : ℕ) → AllByRecursion (λ p. IsPrefix p.seen one.seen) ps → AllByRecursion (λ p. IsPrefix p.shown one.shown) ps → IsPrefix one.shown two.shown → IsPrefix two.shown three.shown → AreLet three.seen three.shown
+pub ends : (of : Opening) (wanted : Wanted) (ps : List PassState) (vs : List View) (ts : List Rest) (one two three : PassState) (draws : ℕ) → AllByRecursion (λ p. IsPrefix p.seen one.seen) ps → AllByRecursion (λ p. IsPrefix p.shown one.shown) ps → IsPrefix one.shown two.shown → IsPrefix two.shown three.shown → AreLet three.seen three.shown
     → AreEnded of one two vs ts → IsPrefix one.seen two.seen → IsPrefix two.seen three.seen
     → IsLegalHistory of.shards three.seen → draws ≡ draws_of three.seen → length vs ≡ of.shards → ((s : ℕ) (v : View) → s < of.shards → IsCounted wanted ps s (get_or vs s v)) → (v : View) → IsClosedRest of ps ts draws
 ends of wanted ps vs ts one two three draws seen shown more later through met first second legal drawn many counted v = record {
@@ -178,21 +178,21 @@ ends of wanted ps vs ts one two three draws seen shown more later through met fi
   each = λ s d lt. rest_of of wanted ps one two three s (get_or vs s v) (get_or ts s d) seen (met.each s v d (omega (arith, lt, many))) second later (counted s v lt);
 }
 
--- nothing is gone of shards that have to hold all
-pub ends_whole : (of : Opening) (wanted : Wanted) (ps : List Seer) (vs : List View) (ts : List Rest) (one two : Seer) → AreEnded of one two vs ts → length vs ≡ of.shards → ((s : ℕ) (v : View) → s < of.shards → IsCounted wanted ps s (get_or vs s v)) → (v : View) → wanted.whole ≡ true → AreWhole of ts
+-- nothing is gone from shards that have to hold all of their steps
+pub ends_whole : (of : Opening) (wanted : Wanted) (ps : List PassState) (vs : List View) (ts : List Rest) (one two : PassState) → AreEnded of one two vs ts → length vs ≡ of.shards → ((s : ℕ) (v : View) → s < of.shards → IsCounted wanted ps s (get_or vs s v)) → (v : View) → wanted.whole ≡ true → AreWhole of ts
 ends_whole of wanted ps vs ts one two met many counted v sure = λ s d lt. (met.each s v d (omega (arith, lt, many))).from ∙ (counted s v lt).whole sure
 
 -- no more is left of a shard than it may hold
-pub ends_short : (of : Opening) (wanted : Wanted) (ps : List Seer) (vs : List View) (ts : List Rest) (one two : Seer) → AreEnded of one two vs ts → length vs ≡ of.shards → ((s : ℕ) (v : View) → s < of.shards → IsCounted wanted ps s (get_or vs s v)) → (v : View) → (s : ℕ) (d : Rest) → s < length ts → length (get_or ts s d).entries.items ≤ wanted.max_steps
+pub ends_short : (of : Opening) (wanted : Wanted) (ps : List PassState) (vs : List View) (ts : List Rest) (one two : PassState) → AreEnded of one two vs ts → length vs ≡ of.shards → ((s : ℕ) (v : View) → s < of.shards → IsCounted wanted ps s (get_or vs s v)) → (v : View) → (s : ℕ) (d : Rest) → s < length ts → length (get_or ts s d).entries.items ≤ wanted.max_steps
 ends_short of wanted ps vs ts one two met many counted v = λ s d lt. let inside : s < length vs = omega (arith, lt, met.many) in omega (arith, (met.each s v d inside).limit, (counted s v (omega (arith, inside, many))).limit)
 
--- what is left where nothing is gone is the histories
-all_left : (of : Opening) (ps : List Seer) (whole : List Event) (shown : List Through) (s from : ℕ) (es fs : List Entry) → IsRest of ps whole shown s from es → from ≡ 0 → es ≡ fs → IsFinal of ps whole s fs × AllByRecursion (λ e. AreShown shown e.lets) fs
+-- if nothing is gone, what is left is the histories
+all_left : (of : Opening) (ps : List PassState) (whole : List Event) (shown : List Through) (s from : ℕ) (es fs : List Entry) → IsRest of ps whole shown s from es → from ≡ 0 → es ≡ fs → IsFinal of ps whole s fs × AllByRecursion (λ e. AreShown shown e.lets) fs
 all_left of ps whole shown s from es fs m none same =
     let all : m.all ≡ fs = sym (ap (λ n. drop n m.all) none) ∙ (sym m.rest ∙ same) in
     (subst (IsFinal of ps whole s) all m.final, subst (AllByRecursion (λ e. AreShown shown e.lets)) all m.lets_shown)
 
-pub whole_closed : (of : Opening) (ps : List Seer) (ts : List Rest) (hs : List (Vec Entry)) (draws draws' : ℕ) → IsClosedRest of ps ts draws → AreWhole of ts → hs ≡ map (λ t. t.entries) ts → draws' ≡ draws → IsClosed of ps hs draws'
+pub whole_closed : (of : Opening) (ps : List PassState) (ts : List Rest) (hs : List (Vec Entry)) (draws draws' : ℕ) → IsClosedRest of ps ts draws → AreWhole of ts → hs ≡ map (λ t. t.entries) ts → draws' ≡ draws → IsClosed of ps hs draws'
 whole_closed of ps ts hs draws draws' m none same drawn = record {
   whole = m.whole;
   legal = m.legal;
@@ -212,25 +212,25 @@ whole_closed of ps ts hs draws draws' m none same drawn = record {
         let at : get_or hs s d ≡ (get_or ts s t).entries = ap (λ l. get_or l s d) same ∙ get_or-map (λ t. t.entries) ts s t d (omega (arith, lt, m.many)) in
         all_left of ps m.whole m.whole_shown s (get_or ts s t).from (get_or ts s t).entries.items (get_or hs s d).items (m.each s t lt) (none s t lt) (sym (ap (λ x. x.items) at))
 
--- a shard at its place with the steps of the passes and of the guards' passes
-pub counted_here : (wanted : Wanted) (ps qs : List Seer) (s left rest steps : ℕ) (v : View) → v.index ≡ s → steps ≡ length v.stored → left + counts_at s ps ≡ steps → rest + counts_at s qs ≡ left → rest ≡ 0 → v.max_steps ≡ wanted.max_steps → (wanted.whole ≡ true → v.before ≡ 0) → IsCounted wanted (ps ++ qs) s v
+-- a shard with its index, and with exactly the steps of the passes and of the guards' passes
+pub counted_here : (wanted : Wanted) (ps qs : List PassState) (s left rest steps : ℕ) (v : View) → v.index ≡ s → steps ≡ length v.stored → left + counts_at s ps ≡ steps → rest + counts_at s qs ≡ left → rest ≡ 0 → v.max_steps ≡ wanted.max_steps → (wanted.whole ≡ true → v.before ≡ 0) → IsCounted wanted (ps ++ qs) s v
 counted_here wanted ps qs s left rest steps v index all first second none limit whole = record { index = index; counted = omega (arith, all, first, second, none, counts_append s ps qs); limit = limit; whole = whole }
 
--- a shard of which some count is not that of the passes and of the guards' passes
-pub few_steps : (wanted : Wanted) (ps qs : List Seer) (s steps : ℕ) (v : View) → steps ≡ length v.stored → steps < counts_at s ps → IsCounted wanted (ps ++ qs) s v → ⊥
+-- a shard whose steps are fewer or more than those of the passes and of the guards' passes is not counted
+pub few_steps : (wanted : Wanted) (ps qs : List PassState) (s steps : ℕ) (v : View) → steps ≡ length v.stored → steps < counts_at s ps → IsCounted wanted (ps ++ qs) s v → ⊥
 few_steps wanted ps qs s steps v all less m = absurd (omega (arith, all, less, m.counted, counts_append s ps qs))
 
-pub few_left : (wanted : Wanted) (ps qs : List Seer) (s left steps : ℕ) (v : View) → steps ≡ length v.stored → left + counts_at s ps ≡ steps → left < counts_at s qs → IsCounted wanted (ps ++ qs) s v → ⊥
+pub few_left : (wanted : Wanted) (ps qs : List PassState) (s left steps : ℕ) (v : View) → steps ≡ length v.stored → left + counts_at s ps ≡ steps → left < counts_at s qs → IsCounted wanted (ps ++ qs) s v → ⊥
 few_left wanted ps qs s left steps v all first less m = absurd (omega (arith, all, first, less, m.counted, counts_append s ps qs))
 
-pub some_left : (wanted : Wanted) (ps qs : List Seer) (s left rest steps : ℕ) (v : View) → steps ≡ length v.stored → left + counts_at s ps ≡ steps → rest + counts_at s qs ≡ left → nat_eq rest 0 ≡ false → IsCounted wanted (ps ++ qs) s v → ⊥
+pub some_left : (wanted : Wanted) (ps qs : List PassState) (s left rest steps : ℕ) (v : View) → steps ≡ length v.stored → left + counts_at s ps ≡ steps → rest + counts_at s qs ≡ left → nat_eq rest 0 ≡ false → IsCounted wanted (ps ++ qs) s v → ⊥
 some_left wanted ps qs s left rest steps v all first second some m =
     let more : 0 < rest = grind (arith, nat_tests) in
     absurd (omega (arith, all, first, second, more, m.counted, counts_append s ps qs))
 
--- why a table is not closed whose counts are wrong at one of its shards
-pub is_unclosed : (wanted : Wanted) (ps : List Seer) (vs : List View) (e : CloseError) (handed : ℕ) (c : Config) → IsMiscount wanted ps vs e → c.passes ≤ handed → length vs ≡ c.shards → IsUnclosed e handed c
-is_unclosed wanted ps vs (Counts place) handed c m enough same = (enough, subst (λ n. place < n) same m.0)
+-- the error of a table whose counts are wrong at one of its shards
+pub is_unclosed : (wanted : Wanted) (ps : List PassState) (vs : List View) (e : CloseError) (handed : ℕ) (c : Config) → IsMiscount wanted ps vs e → c.passes ≤ handed → length vs ≡ c.shards → IsUnclosed e handed c
+is_unclosed wanted ps vs (Counts index) handed c m enough same = (enough, subst (λ n. index < n) same m.0)
 is_unclosed wanted ps vs (PassesOut missing) handed c m enough same = absurd m
 is_unclosed wanted ps vs Memory handed c m enough same = absurd m
 
@@ -245,10 +245,10 @@ all_mapped P f [] h k d lt = absurd (omega arith)
 all_mapped P f (x ∷ xs) h zero d lt = h 0 x (omega arith)
 all_mapped P f (x ∷ xs) h (suc k) d lt = all_mapped P f xs (λ j e inside. h (suc j) e (omega (arith, inside))) k d (omega (arith, lt))
 
-pub sees_on : (old mid new : Seer) → SeesMore old mid → SeesMore mid new → SeesMore old new
+pub sees_on : (old mid new : PassState) → SeesMore old mid → SeesMore mid new → SeesMore old new
 sees_on old mid new a b = record { of = b.of ∙ a.of; number = b.number ∙ a.number; counts = b.counts ∙ a.counts; seen = prefix_trans old.seen mid.seen new.seen a.seen b.seen; shown = prefix_trans old.shown mid.shown new.shown a.shown b.shown }
 
--- a fact of each item holds of the last
+-- a fact of each item holds of the last item
 pub of_last : {A : Type 0} (P : A → Type 0) (xs ys : List A) (y : A) → xs ≡ ys ++ y ∷ [] → ((k : ℕ) (d : A) → k < length xs → P (get_or xs k d)) → P y
 of_last P xs ys y is each =
     let lt : length ys < length xs = omega (arith, ap length is, length-append ys (y ∷ [])) in

@@ -1,4 +1,4 @@
--- The keys that were met so far, and the key list.
+-- The keys that were collected so far, and the key list that they make.
 use Rattle.std.proofs.Common.{◌≡◌, ◌≢◌, ◌⊎◌, inl, inr, ℕ, List, [], ◌∷◌, ◌++◌, sym, ◌∙◌, ap, ◌+◌, ◌<◌, length, take, get_or, ◌≤◌}
 use Rattle.std.proofs.lemmas.List.{take_more, take_all}
 use Rattle.lt_table_core.specs.Keys.{IsOnlyRead, AreTheKeys, Among}
@@ -7,7 +7,7 @@ use Rattle.std.proofs.lemmas.List.Elements.{Contains-append_left, Contains-push,
 use Rattle.lt_ids.specs.declared.request.Access.{Access}
 use Rattle.lt_ids.specs.declared.request.Access.TheVariants.{Read, Write}
 
--- the list has the keys of which the fact holds
+-- the list has exactly the keys that satisfy P
 pub record Holds (keys : List (List ℕ)) (P : List ℕ → Type 0) : Type 0 where
   pub each : (k : List ℕ) → Contains keys k → P k
   pub all : (k : List ℕ) → P k → Contains keys k
@@ -15,7 +15,7 @@ pub record Holds (keys : List (List ℕ)) (P : List ℕ → Type 0) : Type 0 whe
 abbrev pub IsWritten : List (List ℕ × Access) → List ℕ → Type 0
 IsWritten given k = Contains given (k, Write)
 
--- among all that is given, and what was met so far
+-- read by an access that was met so far, and written by none of those given
 abbrev pub IsRead : List (List ℕ × Access) → List (List ℕ × Access) → List ℕ → Type 0
 IsRead given met k = Contains met (k, Read) × (¬ Contains given (k, Write))
 
@@ -59,7 +59,7 @@ read_met keys given key a other h = record {
   all = λ k c. h.all k (other_pushed given key k a Write other c);
 }
 
--- the beginning that is one longer
+-- the prefix that is one longer
 taken : (given : List (List ℕ × Access)) (i : ℕ) (item : List ℕ × Access) → i < length given → item ≡ get_or given i item → take (i + 1) given ≡ take i given ++ item ∷ []
 taken given i item lt is = take_more given i item lt ∙ ap (λ x. take i given ++ x ∷ []) (sym is)
 
@@ -105,11 +105,11 @@ read_more writes keys after given i item lt is are h (inr r) =
 
 -- ---- the lists that they make
 
--- the same fact in other words
+-- the same list, for an equivalent fact
 AreTheKeys-same : (keys : List (List ℕ)) (P Q : List ℕ → Type 0) → AreTheKeys keys P → ((k : List ℕ) → P k → Q k) → ((k : List ℕ) → Q k → P k) → AreTheKeys keys Q
 AreTheKeys-same keys P Q a there back = record { rise = a.rise; are = λ k. (λ h. there k ((a.are k).0 h), λ h. (a.are k).1 (back k h)) }
 
--- where all is met
+-- once every access was met
 pub all_written : (sorted keys : List (List ℕ)) (given : List (List ℕ × Access)) (i : ℕ) → length given ≤ i → Holds keys (IsWritten (take i given)) → AreTheKeys sorted (Among keys) → AreTheKeys sorted (λ k. Contains given (k, Write))
 all_written sorted keys given i end h a =
     let whole : Holds keys (IsWritten given) = rw (take_all i given end) at h in

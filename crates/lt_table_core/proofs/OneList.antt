@@ -45,7 +45,7 @@ module _ {X : Type 0} {R : X → X → Ordering} (o : IsTotalOrder R) where
       let turned : R x y ≡ Greater = o.antisymm x y ∙ ap ordering_reverse down in
       absurd cc
 
-  -- what is in one list beside its first is in the other beside its first
+  -- each further item of one list is a further item of the other
   rest_of : (x : X) (xs ys : List X) → AllByRecursion (λ k. R x k ≡ Less) xs → ((k : X) → Contains (x ∷ xs) k → Contains (x ∷ ys) k) → (k : X) → Contains xs k → Contains ys k
   rest_of x xs ys a there k c = elim (cons_cases x ys k (there k (later_in x xs k c))) [
     | inl e ↦ absurd (not_below_itself x (subst (λ z. R x z ≡ Less) (sym e) (each_of (λ z. R x z ≡ Less) xs k a c)))

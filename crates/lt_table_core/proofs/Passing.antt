@@ -1,4 +1,5 @@
--- A visit in a legal history passes, has to wait, or meets a queue that is too long; so who proceeds has passed each key.
+-- A visit in a legal history passes, has to wait, or meets a queue that is too long. So a request that proceeds has
+-- passed each key.
 use Rattle.std.proofs.Common.{◌+◌, ◌≡◌, ℕ, zero, suc, Bool, true, false, cond, Option, Some, None, List, [], ◌∷◌, map, slice_get, refl, sym, ◌∙◌, ap, subst, Ok, ◌==◌, length}
 use Rattle.std.specs.Prelude.{filter}
 use Rattle.std.specs.Option.{option_map}
@@ -15,13 +16,13 @@ use Rattle.lt_plain.specs.Step.{IsLegalFrom, step}
 use Rattle.lt_plain.specs.Step as plain
 use Rattle.lt_entry.specs.declared.entry.Entry.{Entry}
 use Rattle.lt_entry.specs.Legal.{event_of}
-use Rattle.lt_entry.specs.Legal.{part as key_part}
+use Rattle.lt_entry.specs.Legal.{key_part}
 use Rattle.lt_words.specs.declared.event.Event.{Event}
 use Rattle.lt_words.specs.declared.event.Event.TheVariants.{Opened, Draw, Step}
 use Rattle.lt_words.specs.History.{part, steps_of, IsLegalHistory}
-use Rattle.lt_words.specs.Row.{Seer}
-use Rattle.lt_table_core.specs.declared.progress.Progress.{Progress}
-use Rattle.lt_table_core.specs.declared.scan.Scan.TheVariants.{Proceed}
+use Rattle.lt_words.specs.Row.{PassState}
+use Rattle.lt_table_core.specs.declared.walk_progress.Progress.{Progress}
+use Rattle.lt_table_core.specs.declared.scan_results.Scan.TheVariants.{Proceed}
 use Rattle.lt_table_core.specs.Machine.{Asked, met, may_visit, visit_call, Visits, WalkState, IsScanFrom, IsScanBegun}
 use Rattle.lt_table_core.specs.Machine as runs
 use Rattle.lt_table_core.specs.Reported.{shard_at}
@@ -91,11 +92,11 @@ is_a_visit : (o : Option (List ℕ × Access)) (f : Access → Call) (key : List
 is_a_visit None f key call e = absurd cc
 is_a_visit (Some k) f key call e = (k.1, sym (pair_same k.0 key (f k.1) call e).1)
 
-visits_fine : (asked : Asked) (max_waits : ℕ) (p : Progress) (xs : List runs.Step) (q : Progress) (shards : ℕ) (old new : Seer) → IsLegalHistory shards new.seen → Visits asked max_waits p xs q → AllByRecursion (Stands old new) xs → AllByRecursion (λ x. IsVisitReply x.answer.reply) xs
+visits_fine : (asked : Asked) (max_waits : ℕ) (p : Progress) (xs : List runs.Step) (q : Progress) (shards : ℕ) (old new : PassState) → IsLegalHistory shards new.seen → Visits asked max_waits p xs q → AllByRecursion (Stands old new) xs → AllByRecursion (λ x. IsVisitReply x.answer.reply) xs
 visits_fine asked max_waits p [] q shards old new legal v s = tt
 visits_fine asked max_waits p (x ∷ xs) q shards old new legal v s =
     let due = guarded (may_visit (length asked.keys) max_waits p) _ _ v.0 in
-    let visit = is_a_visit (slice_get asked.keys p.place) (visit_call asked p) x.key x.call due.1 in
+    let visit = is_a_visit (slice_get asked.keys p.index) (visit_call asked p) x.key x.call due.1 in
     let fine = entry_fine shards (shard_at old x) new.seen x.answer.at s.0.entry legal s.0.at in (
       subst IsVisitReply s.0.reply_is (fine (record { number = asked.number; wait = p.waits + 1 }) asked.txn asked.ts visit.0 asked.longest (s.0.call_is ∙ visit.1)),
       visits_fine asked max_waits (met p x.answer.reply) xs q shards old new legal v.1 s.1,

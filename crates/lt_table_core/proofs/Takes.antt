@@ -8,7 +8,7 @@ use Rattle.lt_words.specs.History.{part}
 use Rattle.lt_words.proofs.Histories.{part_prefix}
 use Rattle.lt_table_core.specs.Taken.{TakesJoin}
 
--- of two beginnings of one list the shorter begins the longer
+-- of two prefixes of one list, the shorter is a prefix of the longer
 shorter : {A : Type 0} (xs ys zs : List A) → IsPrefix xs zs → IsPrefix ys zs → length xs ≤ length ys → take (length xs) ys ≡ xs
 shorter xs ys zs p q le =
     sym (take-append-le (length xs) ys q.0 le) ∙ (ap (take (length xs)) (q.1 ∙ sym p.1) ∙ take-append_seam xs p.0)

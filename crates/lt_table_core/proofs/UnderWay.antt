@@ -1,24 +1,24 @@
--- A scan through a pass, on its way; and what a status word tells.
+-- A scan through a pass that is under way, and what follows from a status word.
 use Rattle.std.proofs.Common.{◌≡◌, ◌≢◌, inl, inr, ℕ, Bool, true, false, nat_eq, List, [], ◌∷◌, ◌++◌, refl, sym, ◌∙◌, ap, subst, arith, Some, length}
 use Rattle.std.proofs.lemmas.Bool.Decides.{nat_tests}
-use Rattle.lt_table_core.specs.declared.scan.Poll.TheVariants.{Through}
-use Rattle.lt_table_core.specs.Sound.{IsSound}
+use Rattle.lt_table_core.specs.declared.scan_results.Poll.TheVariants.{Through}
+use Rattle.lt_table_core.specs.Sound.{IsSoundProgress}
 use mathlib.Core.List.{IsPrefix}
 use Rattle.lt_ids.specs.Ids.{Wait, IsNumber, IsWaitNumber, value_of}
 use Rattle.lt_words.specs.declared.event.Event.{Event}
 use Rattle.lt_words.specs.History.{LetIn, IsStatus}
-use Rattle.lt_words.specs.Row.{Seer}
+use Rattle.lt_words.specs.Row.{PassState}
 use Rattle.lt_words.proofs.Histories.{let_later}
-use Rattle.lt_table_core.specs.declared.progress.Mode.{Mode}
-use Rattle.lt_table_core.specs.declared.progress.Mode.TheVariants.{Free, Awaiting, Let, Stopped, Leaving}
-use Rattle.lt_table_core.specs.declared.progress.Progress.{Progress}
+use Rattle.lt_table_core.specs.declared.walk_progress.Mode.{Mode}
+use Rattle.lt_table_core.specs.declared.walk_progress.Mode.TheVariants.{Free, Awaiting, Let, Stopped, Leaving}
+use Rattle.lt_table_core.specs.declared.walk_progress.Progress.{Progress}
 use Rattle.std.specs.Prelude.{Result, Ok, Err, IfOk, OnErr}
 use Rattle.lt_plain.specs.declared.call.Call.{Call}
 use Rattle.lt_shard.specs.declared.answer.Answer.{Answer}
 use Rattle.lt_shard.specs.declared.answer.StepError.{StepError}
-use Rattle.lt_table_core.specs.Machine.{heard, mode_heard, polled_in, met, met_as, is_wait, is_long, next_visit, next_leave, passed, WalkState}
+use Rattle.lt_table_core.specs.Machine.{after_status, mode_after_status, polled_in, met, met_as, is_wait, is_long, next_visit, next_leave, passed, WalkState}
 use Rattle.lt_table_core.specs.Machine as runs
-use Rattle.lt_table_core.specs.Reported.{GuardState, Reported, AreReported, wait_of}
+use Rattle.lt_table_core.specs.Reported.{GuardState, Reported, AreReported, current_wait}
 use Rattle.lt_table_core.proofs.Going.{IsGoing, IsGoing-more}
 use Rattle.lt_table_core.proofs.Parting.{IsParting, IsParting-more}
 
@@ -41,9 +41,9 @@ pub record IsUnderWay (begun : GuardState) (max_waits : ℕ) (now : GuardState) 
   pub goes_on : now.walk.progress.mode ≢ Let
   pub of : now.pass.of ≡ begun.pass.of
 
--- ---- who was let through, is so in what was seen
+-- ---- a request that was let through was let through in what was seen
 
-let_from : (P : Type 0) (m : Mode) (b : Bool) → (m ≡ Awaiting → b ≡ true → P) → (m ≡ Let → P) → mode_heard m b ≡ Let → P
+let_from : (P : Type 0) (m : Mode) (b : Bool) → (m ≡ Awaiting → b ≡ true → P) → (m ≡ Let → P) → mode_after_status m b ≡ Let → P
 let_from P Free b told was e = absurd cc
 let_from P Awaiting true told was e = told refl refl
 let_from P Awaiting false told was e = absurd cc
@@ -54,16 +54,16 @@ let_from P Leaving b told was e = absurd cc
 pub named : (word n : ℕ) → nat_eq word n ≡ true → word ≡ n
 named word n e = grind (arith, nat_tests)
 
-pub heard_tells : (old new : WalkState) (word : ℕ) (seen seen' : List Event) (pass pass' answers : ℕ) → new ≡ record old { progress = heard old.asked.number old.progress word } → pass' ≡ pass → IsPrefix seen seen' →
-    IsNumber old.asked.number → IsSound (length old.asked.keys) old.progress answers → IsStatus seen' pass word → (old.progress.mode ≡ Let → LetIn seen pass (wait_of old)) →
-    new.progress.mode ≡ Let → LetIn seen' pass' (wait_of new)
-heard_tells old new word seen seen' pass pass' answers is same begins number sound status was e =
-    let heard_let : mode_heard old.progress.mode (nat_eq word (value_of (wait_of old))) ≡ Let = ap (λ s. s.progress.mode) (sym is) ∙ e in
-    let tells : LetIn seen' pass (wait_of old) =
-    let_from (LetIn seen' pass (wait_of old)) old.progress.mode (nat_eq word (value_of (wait_of old)))
-    (λ waits named_it. status_tells seen' pass word (wait_of old) number (sound.has_ticket waits, sound.in_range) status (named word (value_of (wait_of old)) named_it))
-    (λ let_before. let_later seen seen' pass (wait_of old) begins (was let_before))
-    heard_let in
+pub after_status_tells : (old new : WalkState) (word : ℕ) (seen seen' : List Event) (pass pass' answers : ℕ) → new ≡ record old { progress = after_status old.asked.number old.progress word } → pass' ≡ pass → IsPrefix seen seen' →
+    IsNumber old.asked.number → IsSoundProgress (length old.asked.keys) old.progress answers → IsStatus seen' pass word → (old.progress.mode ≡ Let → LetIn seen pass (current_wait old)) →
+    new.progress.mode ≡ Let → LetIn seen' pass' (current_wait new)
+after_status_tells old new word seen seen' pass pass' answers is same begins number sound status was e =
+    let after_status_let : mode_after_status old.progress.mode (nat_eq word (value_of (current_wait old))) ≡ Let = ap (λ s. s.progress.mode) (sym is) ∙ e in
+    let tells : LetIn seen' pass (current_wait old) =
+    let_from (LetIn seen' pass (current_wait old)) old.progress.mode (nat_eq word (value_of (current_wait old)))
+    (λ waits named_it. status_tells seen' pass word (current_wait old) number (sound.has_ticket waits, sound.in_range) status (named word (value_of (current_wait old)) named_it))
+    (λ let_before. let_later seen seen' pass (current_wait old) begins (was let_before))
+    after_status_let in
     rw (is, same) tells
 
 pub through_is_let : (m : Mode) → polled_in m ≡ Through → m ≡ Let
@@ -75,7 +75,7 @@ through_is_let Leaving e = absurd cc
 
 -- ---- one more visit
 
-AreReported-more : (p : Seer) (xs : List runs.Step) (q : Seer) (x : runs.Step) (r : Seer) → AreReported p xs q → Reported q r x → AreReported p (xs ++ x ∷ []) r
+AreReported-more : (p : PassState) (xs : List runs.Step) (q : PassState) (x : runs.Step) (r : PassState) → AreReported p xs q → Reported q r x → AreReported p (xs ++ x ∷ []) r
 AreReported-more p [] q x r e last = (r, rw (sym e) last, refl)
 AreReported-more p (y ∷ ys) q x r c last = (c.0, c.1, AreReported-more c.0 ys q x r c.2 last)
 
@@ -84,7 +84,7 @@ met-goes_on p true long goes = λ e. cc
 met-goes_on p false true goes = λ e. cc
 met-goes_on p false false goes = goes
 
-pub IsUnderWay-more : (begun : GuardState) (max_waits : ℕ) (now : GuardState) (x : runs.Step) (pass : Seer) (walk : WalkState) → IsUnderWay begun max_waits now →
+pub IsUnderWay-more : (begun : GuardState) (max_waits : ℕ) (now : GuardState) (x : runs.Step) (pass : PassState) (walk : WalkState) → IsUnderWay begun max_waits now →
     next_visit now.walk.asked max_waits now.walk.progress ≡ Some (x.key, x.call) →
     walk ≡ record now.walk { progress = met now.walk.progress x.answer.reply; answers = now.walk.answers ++ x.answer ∷ [] } →
     Reported now.pass pass x → IsUnderWay begun max_waits (record { pass = pass; walk = walk })
@@ -96,14 +96,14 @@ IsUnderWay-more begun max_waits now x pass walk way next e reported = record {
   of = reported.reports.of ∙ way.of;
 }
 
--- a leave through a pass, on its way
+-- a leave through a pass, under way
 pub record IsPartingGuard (begun now : GuardState) : Type 0 where
   pub steps : List runs.Step
   pub reported : AreReported begun.pass steps now.pass
   pub parting : IsParting begun.walk now.walk steps
   pub of : now.pass.of ≡ begun.pass.of
 
-pub IsPartingGuard-more : (begun now : GuardState) (x : runs.Step) (pass : Seer) (walk : WalkState) → IsPartingGuard begun now →
+pub IsPartingGuard-more : (begun now : GuardState) (x : runs.Step) (pass : PassState) (walk : WalkState) → IsPartingGuard begun now →
     next_leave now.walk.asked now.walk.progress ≡ Some (x.key, x.call) →
     walk ≡ record now.walk { progress = passed now.walk.progress; answers = now.walk.answers ++ x.answer ∷ [] } →
     Reported now.pass pass x → IsPartingGuard begun (record { pass = pass; walk = walk })
@@ -116,8 +116,8 @@ IsPartingGuard-more begun now x pass walk way next e reported = record {
 
 -- ---- a step of any key through the pass
 
-pub still_let : (r : Result Answer StepError) (key : List ℕ) (call : Call) (old new : Seer) (walk : WalkState) →
+pub still_let : (r : Result Answer StepError) (key : List ℕ) (call : Call) (old new : PassState) (walk : WalkState) →
     IfOk r (λ answer. Reported old new (record { key = key; call = call; answer = answer })) → OnErr r (new ≡ old) →
-    (walk.progress.mode ≡ Let → LetIn old.seen old.number (wait_of walk)) → walk.progress.mode ≡ Let → LetIn new.seen new.number (wait_of walk)
-still_let (Ok answer) key call old new walk made same was e = rw made.reports.number (let_later old.seen new.seen old.number (wait_of walk) made.reports.seen (was e))
+    (walk.progress.mode ≡ Let → LetIn old.seen old.number (current_wait walk)) → walk.progress.mode ≡ Let → LetIn new.seen new.number (current_wait walk)
+still_let (Ok answer) key call old new walk made same was e = rw made.reports.number (let_later old.seen new.seen old.number (current_wait walk) made.reports.seen (was e))
 still_let (Err refused) key call old new walk made same was e = rw same (was e)

@@ -1,4 +1,4 @@
--- The numbers that a table is opened with.
+-- The numbers with which a table is opened, their ranges, and what a table is opened over.
 use Rattle.std.specs.Prelude.{ℕ, ◌≡◌, ◌&&◌, ◌<◌, ◌≤◌, ◌^◌, Bool, nat_le, if◌then◌else◌, Option, Some, None, List, length, slice_index_or}
 use Rattle.lt_words.specs.Row.{Opening}
 use Rattle.lt_shard.specs.Shards.{View, new_shard}
@@ -35,17 +35,17 @@ pub record IsConfig (c : Config) : Type 0 where
   pub some_waits : 1 ≤ c.max_waits
   pub few_waits : c.max_waits ≤ 16777215
 
--- The book that was opened has the numbers of shards and passes of the configuration.
+-- Each number is in its range, and the book has the configuration's numbers of shards and passes.
 pub record IsOpened (c : Config) (of : Opening) : Type 0 where
   pub config : IsConfig c
   pub shards : of.shards ≡ c.shards
   pub passes : of.passes ≡ c.passes
 
--- what contracts see of a book and its passes that are not handed out yet
+-- what contracts see of a prepared book whose passes are not handed out yet
 pub record ReadyState : Type 0 where
   pub config : Config
   pub of : Opening
 
--- Each of these shards stands at its place, may hold so many steps, and has made none.
+-- Each of these shards has its index, may hold max_steps steps, and has made none.
 abbrev pub AreNewShards : Opening → ℕ → List View → Type 0
 AreNewShards of max_steps vs = (s : ℕ) (v : View) → s < length vs → slice_index_or vs s v ≡ new_shard of s max_steps

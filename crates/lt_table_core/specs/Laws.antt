@@ -1,4 +1,4 @@
--- What follows from what the calls of a table tell.
+-- What follows from what the calls of a table tell their callers.
 use Rattle.std.specs.Prelude.{ℕ, [], ◌∷◌, ◌++◌, ◌&&◌, nat_eq, if◌then◌else◌, ◌≡◌, ◌≢◌, ◌+◌, ◌<◌, ◌≤◌, ◌⊎◌, Option, List, length, map, Result, Ok, Err, Some, IsOk, slice_get, slice_index, slice_index_or}
 use Rattle.std.specs.Global.{Vec}
 use mathlib.Core.List.{IsPrefix}
@@ -11,31 +11,31 @@ use Rattle.lt_plain.specs.declared.call.Call.TheVariants.{Visit}
 use Rattle.lt_plain.specs.declared.call.Reply.TheVariants.{Passed, MustWait, TooLong}
 use Rattle.lt_plain.specs.Step.{Event as KeyEvent, Holds, IsBelowOthers}
 use Rattle.lt_entry.specs.declared.entry.Entry.{Entry}
-use Rattle.lt_words.specs.History.{part, shard_of, key_history, IsLegalHistory, Among, LetIn}
+use Rattle.lt_words.specs.History.{part, shard_of, key_history, IsLegalHistory, IsLetAmong, LetIn}
 use Rattle.lt_words.specs.Shown.{IsShown}
 use Rattle.lt_words.specs.declared.event.Event.{Event}
-use Rattle.lt_words.specs.Row.{Opening, Seer, SeesMore, fresh}
+use Rattle.lt_words.specs.Row.{Opening, PassState, SeesMore, fresh}
 use Rattle.lt_shard.specs.declared.answer.Answer.{Answer}
-use Rattle.lt_table_core.specs.declared.progress.Mode.TheVariants.{Free, Awaiting}
-use Rattle.lt_table_core.specs.declared.progress.Progress.{Progress}
-use Rattle.lt_table_core.specs.declared.scan.Scan.{Scan}
-use Rattle.lt_table_core.specs.declared.scan.Scan.TheVariants.{Proceed}
-use Rattle.lt_table_core.specs.declared.scan.ScanError.{ScanError}
-use Rattle.lt_table_core.specs.declared.scan.ScanError.TheVariants.{StillWaiting}
-use Rattle.lt_table_core.specs.declared.scan.Poll.{Poll}
-use Rattle.lt_table_core.specs.declared.scan.Poll.TheVariants.{Through}
-use Rattle.lt_table_core.specs.Machine.{Asked, heard, polled, scan_start, restarted, visit_call, Step, answer_of}
+use Rattle.lt_table_core.specs.declared.walk_progress.Mode.TheVariants.{Free, Awaiting}
+use Rattle.lt_table_core.specs.declared.walk_progress.Progress.{Progress}
+use Rattle.lt_table_core.specs.declared.scan_results.Scan.{Scan}
+use Rattle.lt_table_core.specs.declared.scan_results.Scan.TheVariants.{Proceed}
+use Rattle.lt_table_core.specs.declared.scan_results.ScanError.{ScanError}
+use Rattle.lt_table_core.specs.declared.scan_results.ScanError.TheVariants.{StillWaiting}
+use Rattle.lt_table_core.specs.declared.scan_results.Poll.{Poll}
+use Rattle.lt_table_core.specs.declared.scan_results.Poll.TheVariants.{Through}
+use Rattle.lt_table_core.specs.Machine.{Asked, after_status, polled, scan_start, restarted, visit_call, Step, answer_of}
 use Rattle.lt_table_core.specs.Keys.{IsKeyList}
-use Rattle.lt_table_core.specs.Reported.{shard_at, Reported, AreReported, steps_at, GuardState, IsScan, IsPoll, wait_of}
+use Rattle.lt_table_core.specs.Reported.{shard_at, Reported, AreReported, steps_at, GuardState, IsScan, IsPoll, current_wait}
 use Rattle.lt_table_core.specs.Entered.{IsEntered}
 use Rattle.lt_table_core.specs.Closed.{IsClosed}
 
--- The accesses decide the key list.
+-- The accesses determine the key list.
 abbrev pub OneKeyList : Type 0
 OneKeyList = (given visited visited' : List (List ℕ × Access)) → IsKeyList given visited → IsKeyList given visited' → visited ≡ visited'
 
--- The step stands at its place in the new part of what was seen, as this pass's own.
-pub record Stands (old new : Seer) (x : Step) : Type 0 where
+-- The step is at its index in the new part of what was seen, and it is this pass's own.
+pub record Stands (old new : PassState) (x : Step) : Type 0 where
   pub entry : Entry
   pub key_is : entry.key ≡ x.key
   pub pass_is : entry.pass ≡ old.number
@@ -44,118 +44,122 @@ pub record Stands (old new : Seer) (x : Step) : Type 0 where
   pub at : slice_get (part (shard_at old x) new.seen) x.answer.at ≡ Some entry
   pub later : length (part (shard_at old x) old.seen) ≤ x.answer.at
 
--- Of steps that were reported one after the other, each stands in the new part; what was seen before begins what is
--- seen now; and the count of the pass at each shard is higher by the steps there.
-pub record AllStand (old : Seer) (steps : List Step) (new : Seer) : Type 0 where
+-- Each of these steps is in the new part of what was seen. What was seen before is a prefix of what is seen now.
+-- The pass's count at each shard is higher by the number of steps there.
+pub record AllStand (old : PassState) (steps : List Step) (new : PassState) : Type 0 where
   pub seen : IsPrefix old.seen new.seen
   pub stand : AllByRecursion (Stands old new) steps
   pub counted : (s : ℕ) → slice_index new.counts s ≡ slice_index old.counts s + steps_at old.of.shards s steps
 
 abbrev pub ReportedStand : Type 0
-ReportedStand = (old new : Seer) (steps : List Step) → AreReported old steps new → AllStand old steps new
+ReportedStand = (old new : PassState) (steps : List Step) → AreReported old steps new → AllStand old steps new
 
--- one answer for each key, in the list's order, each Passed
+-- There is one answer for each key, in the list's order, and each is Passed.
 pub record PassedEach (asked : Asked) (steps : List Step) (answers : List Answer) : Type 0 where
   pub keys : map (λ x. x.key) steps ≡ map (λ k. k.0) asked.keys
   pub answered : answers ≡ map answer_of steps
   pub passed : AllByRecursion (λ a. a.reply ≡ Passed) answers
 
--- A queue was too long for a scan: the visit of the key at this place was answered so, and stands in what was then seen. The request is at its list's start again, with nothing to wait for and as many waits as before.
-pub record IsTooLong (old new : GuardState) (place : ℕ) : Type 0 where
+-- A scan met a queue that is too long for its request: the visit of the key at this index was answered so, and it
+-- is in what was then seen. The request is back at its list's start, with nothing to wait for and with the same
+-- count of waits.
+pub record IsTooLong (old new : GuardState) (index : ℕ) : Type 0 where
   pub step : Step
   pub access : Access
-  pub at_key : slice_get old.walk.asked.keys place ≡ Some (step.key, access)
+  pub at_key : slice_get old.walk.asked.keys index ≡ Some (step.key, access)
   pub call_is : step.call ≡ visit_call old.walk.asked old.walk.progress access
   pub reply_is : step.answer.reply ≡ TooLong
   pub stands : Stands old.pass new.pass step
   pub start : new.walk.progress ≡ restarted old.walk.progress
 
--- A scan from the list's start that answers Proceed has passed each key, where what is then seen is legal.
+-- If what is then seen is legal, a scan from the list's start that answers Proceed has passed each key.
 abbrev pub ProceedHasPassedEach : Type 0
-ProceedHasPassedEach = (max_waits : ℕ) (old new : GuardState) (shards : ℕ) → IsLegalHistory shards new.pass.seen → old.walk.progress.place ≡ 0 → old.walk.progress.mode ≡ Free →
+ProceedHasPassedEach = (max_waits : ℕ) (old new : GuardState) (shards : ℕ) → IsLegalHistory shards new.pass.seen → old.walk.progress.index ≡ 0 → old.walk.progress.mode ≡ Free →
     (scan : IsScan max_waits old new (Ok Proceed)) → PassedEach old.walk.asked scan.steps new.walk.answers
 
--- After a poll that answered Through, a scan is not refused at once, whatever word it reads.
+-- After a poll that answered Through, a scan begins whatever status word it reads.
 abbrev pub ThroughGoesOn : Type 0
-ThroughGoesOn = (number : ℕ) (p : Progress) (word word' : ℕ) → polled (heard number p word) ≡ Through → IsOk (scan_start (heard number (heard number p word) word'))
+ThroughGoesOn = (number : ℕ) (p : Progress) (word word' : ℕ) → polled (after_status number p word) ≡ Through → IsOk (scan_start (after_status number (after_status number p word) word'))
 
 -- A later ticket of this pass was let through.
 abbrev pub LaterLet : List Event → ℕ → Wait → Type 0
 LaterLet h pass t = (later : Wait) × (value_of t < value_of later) × LetIn h pass later
 
--- Who waits, and was shown the very wait that it is in, as far as its pass had seen, is answered Through by its next poll;
--- unless a later ticket of its pass was let through.
+-- If a request waits, and its pass had seen that the very wait that it is in was shown to it, its next poll answers
+-- Through, unless a later ticket of its pass was let through.
 abbrev pub ShownIsThrough : Type 0
-ShownIsThrough = (old new : GuardState) (result : Poll) → IsPoll old new result → old.walk.progress.mode ≡ Awaiting → IsShown old.pass.shown old.pass.number (wait_of old.walk) →
-    (result ≡ Through) ⊎ LaterLet new.pass.seen old.pass.number (wait_of old.walk)
+ShownIsThrough = (old new : GuardState) (result : Poll) → IsPoll old new result → old.walk.progress.mode ≡ Awaiting → IsShown old.pass.shown old.pass.number (current_wait old.walk) →
+    (result ≡ Through) ⊎ LaterLet new.pass.seen old.pass.number (current_wait old.walk)
 
--- The same of its next scan, which is not refused.
+-- In the same situation its next scan is not refused with StillWaiting.
 abbrev pub ShownGoesOn : Type 0
-ShownGoesOn = (max_waits : ℕ) (old new : GuardState) (result : Result Scan ScanError) → IsScan max_waits old new result → old.walk.progress.mode ≡ Awaiting → IsShown old.pass.shown old.pass.number (wait_of old.walk) →
-    (result ≢ Err StillWaiting) ⊎ LaterLet new.pass.seen old.pass.number (wait_of old.walk)
+ShownGoesOn = (max_waits : ℕ) (old new : GuardState) (result : Result Scan ScanError) → IsScan max_waits old new result → old.walk.progress.mode ≡ Awaiting → IsShown old.pass.shown old.pass.number (current_wait old.walk) →
+    (result ≢ Err StillWaiting) ⊎ LaterLet new.pass.seen old.pass.number (current_wait old.walk)
 
--- No wake-up is lost: where a step that anyone reports lets the very wait through that a request is in, and the request's pass
--- has seen what was shown to whoever made the step, its next poll answers Through; unless a later ticket of its pass was let
--- through.
+-- No wake-up is lost: if any reported step lets through the very wait that a request is in, and the request's pass
+-- has seen what was shown to the pass that made the step, the request's next poll answers Through, unless a later
+-- ticket of its pass was let through.
 abbrev pub NoWakeUpIsLost : Type 0
-NoWakeUpIsLost = (before after : Seer) (x : Step) (old new : GuardState) (result : Poll) → (step : Reported before after x) → Among step.entry.lets old.pass.number (wait_of old.walk) →
+NoWakeUpIsLost = (before after : PassState) (x : Step) (old new : GuardState) (result : Poll) → (step : Reported before after x) → IsLetAmong step.entry.lets old.pass.number (current_wait old.walk) →
     IsPrefix after.shown old.pass.shown → old.walk.progress.mode ≡ Awaiting → IsPoll old new result →
-    (result ≡ Through) ⊎ LaterLet new.pass.seen old.pass.number (wait_of old.walk)
+    (result ≡ Through) ⊎ LaterLet new.pass.seen old.pass.number (current_wait old.walk)
 
--- Guards that entered by different passes, or the one after what the other's pass had then seen, have different numbers,
--- where what both passes have seen begins one legal history.
+-- Two guards have different numbers if they entered by different passes, or if the second entered after its pass
+-- had seen what the first one's pass had seen. Premise: what each of the two passes has seen is a prefix of one
+-- legal history.
 abbrev pub NumbersOfGuardsDiffer : Type 0
-NumbersOfGuardsDiffer = (shards : ℕ) (whole : List Event) (old old' : Seer) (given given' : List (List ℕ × Access)) (txn txn' : Option ℕ) (ts ts' : Timestamp) (longest longest' max max' : ℕ) (guard guard' : GuardState) →
+NumbersOfGuardsDiffer = (shards : ℕ) (whole : List Event) (old old' : PassState) (given given' : List (List ℕ × Access)) (txn txn' : Option ℕ) (ts ts' : Timestamp) (longest longest' max max' : ℕ) (guard guard' : GuardState) →
     IsLegalHistory shards whole → IsPrefix guard.pass.seen whole → IsPrefix guard'.pass.seen whole →
     IsEntered old given txn ts longest max guard → IsEntered old' given' txn' ts' longest' max' guard' →
     (old.number ≢ old'.number) ⊎ IsPrefix guard.pass.seen old'.seen → guard.walk.asked.number ≢ guard'.walk.asked.number
 
--- A step that was reported to a pass which is handed back at the close stands at its place in the shard's final history.
+-- A step that was reported to a pass that is handed back at the close is at its index in the shard's final history.
 abbrev pub ReportedStandAtClose : Type 0
-ReportedStandAtClose = (of : Opening) (ps : List Seer) (shards : List (Vec Entry)) (draws k : ℕ) (p old new : Seer) (x : Step) (d : Vec Entry) →
+ReportedStandAtClose = (of : Opening) (ps : List PassState) (shards : List (Vec Entry)) (draws k : ℕ) (p old new : PassState) (x : Step) (d : Vec Entry) →
     IsClosed of ps shards draws → k < length ps → p ≡ slice_index_or ps k p → (step : Reported old new x) → IsPrefix new.seen p.seen → shard_at old x < of.shards →
     slice_get (slice_index_or shards (shard_at old x) d).items x.answer.at ≡ Some step.entry
 
--- ---- the headline, of what a close gives
+-- ---- the main theorem, for what a close gives
 
--- At no place of a key's history do two transactions hold the lock.
+-- After any prefix of a key's history, at most one transaction holds the lock.
 abbrev pub OneHolderAtClose : Type 0
-OneHolderAtClose = (of : Opening) (ps : List Seer) (shards : List (Vec Entry)) (draws s : ℕ) (d : Vec Entry) (key : List ℕ) (past rest : List KeyEvent) (T U : ℕ) → IsClosed of ps shards draws → s < of.shards →
+OneHolderAtClose = (of : Opening) (ps : List PassState) (shards : List (Vec Entry)) (draws s : ℕ) (d : Vec Entry) (key : List ℕ) (past rest : List KeyEvent) (T U : ℕ) → IsClosed of ps shards draws → s < of.shards →
     key_history key (slice_index_or shards s d).items ≡ past ++ rest → Holds past T → Holds past U → T ≡ U
 
--- A read passes exactly where each other holder's stamp is above its time, and else has to wait.
+-- A read passes exactly when each other holder's stamp is above the read's timestamp; otherwise it has to wait.
 abbrev pub ReadsPassAtClose : Type 0
-ReadsPassAtClose = (of : Opening) (ps : List Seer) (shards : List (Vec Entry)) (draws s : ℕ) (d : Vec Entry) (key : List ℕ) (past rest : List KeyEvent) (e : KeyEvent) (ticket : Wait) (txn : Option ℕ) (ts : Timestamp) (longest : ℕ) → IsClosed of ps shards draws → s < of.shards →
+ReadsPassAtClose = (of : Opening) (ps : List PassState) (shards : List (Vec Entry)) (draws s : ℕ) (d : Vec Entry) (key : List ℕ) (past rest : List KeyEvent) (e : KeyEvent) (ticket : Wait) (txn : Option ℕ) (ts : Timestamp) (longest : ℕ) → IsClosed of ps shards draws → s < of.shards →
     key_history key (slice_index_or shards s d).items ≡ past ++ e ∷ rest → e.call ≡ Visit ticket txn ts Read longest →
     ((e.reply ≡ Passed) × IsBelowOthers past txn ts) ⊎ ((e.reply ≡ MustWait) × (IsBelowOthers past txn ts → ⊥))
 
--- What a pass did: it saw more, and its calls reported these steps, one after the other.
-abbrev pub Lived : Seer → List Step → Seer → Type 0
+-- What a pass did: its calls reported these steps, one after the other, and in between it saw more.
+abbrev pub Lived : PassState → List Step → PassState → Type 0
 Lived p [] q = SeesMore p q
-Lived p (x ∷ xs) q = (m : Seer) × (n : Seer) × SeesMore p m × Reported m n x × Lived n xs q
+Lived p (x ∷ xs) q = (m : PassState) × (n : PassState) × SeesMore p m × Reported m n x × Lived n xs q
 
--- It goes on with each call, which sees more or reports steps.
+-- Each call extends what a pass did: it sees more, or it reports steps.
 abbrev pub LivesGoOn : Type 0
-LivesGoOn = (p q r : Seer) (xs ys : List Step) → Lived p xs q → (SeesMore q r → Lived p xs r) × (AreReported q ys r → Lived p (xs ++ ys) r)
+LivesGoOn = (p q r : PassState) (xs ys : List Step) → Lived p xs q → (SeesMore q r → Lived p xs r) × (AreReported q ys r → Lived p (xs ++ ys) r)
 
--- These passes, of different numbers, did these steps since they were handed out.
-abbrev pub AreLives : Opening → List (List Step) → List Seer → Type 0
+-- These passes, with different numbers, made these steps since they were handed out.
+abbrev pub AreLives : Opening → List (List Step) → List PassState → Type 0
 AreLives of [] [] = Unit {0}
 AreLives of [] (p ∷ ps) = ⊥
 AreLives of (xs ∷ lives) [] = ⊥
 AreLives of (xs ∷ lives) (p ∷ ps) = Lived (fresh of p.number) xs p × AllByRecursion (λ q. p.number ≢ q.number) ps × AreLives of lives ps
 
--- how many of the steps are of this shard and at this place, among so many shards
-abbrev pub at_place : ℕ → ℕ → ℕ → List Step → ℕ
-at_place shards s at [] = 0
-at_place shards s at (x ∷ xs) = if nat_eq (shard_of x.key shards) s && nat_eq x.answer.at at then at_place shards s at xs + 1 else at_place shards s at xs
+-- how many of the steps are at this index of shard s, if there are this many shards
+abbrev pub at_index : ℕ → ℕ → ℕ → List Step → ℕ
+at_index shards s at [] = 0
+at_index shards s at (x ∷ xs) = if nat_eq (shard_of x.key shards) s && nat_eq x.answer.at at then at_index shards s at xs + 1 else at_index shards s at xs
 
-abbrev pub at_place_of : ℕ → ℕ → ℕ → List (List Step) → ℕ
-at_place_of shards s at [] = 0
-at_place_of shards s at (xs ∷ lives) = at_place shards s at xs + at_place_of shards s at lives
+abbrev pub at_index_of : ℕ → ℕ → ℕ → List (List Step) → ℕ
+at_index_of shards s at [] = 0
+at_index_of shards s at (xs ∷ lives) = at_index shards s at xs + at_index_of shards s at lives
 
--- Of all steps that the passes reported since they were handed out, exactly one stands at each place of each final history.
-abbrev pub EachPlaceIsReportedOnce : Type 0
-EachPlaceIsReportedOnce = (of : Opening) (ps : List Seer) (shards : List (Vec Entry)) (draws : ℕ) (lives : List (List Step)) (s at : ℕ) (d : Vec Entry) →
+-- Of all steps that the passes reported since they were handed out, exactly one is at each index of each final
+-- history.
+abbrev pub EachStepIsReportedOnce : Type 0
+EachStepIsReportedOnce = (of : Opening) (ps : List PassState) (shards : List (Vec Entry)) (draws : ℕ) (lives : List (List Step)) (s at : ℕ) (d : Vec Entry) →
     IsClosed of ps shards draws → AreLives of lives ps → s < of.shards → at < length (slice_index_or shards s d).items →
-    at_place_of of.shards s at lives ≡ 1
+    at_index_of of.shards s at lives ≡ 1

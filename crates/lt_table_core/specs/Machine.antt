@@ -1,5 +1,5 @@
--- The machine of a request's guard: where it stands in the key list, and what each event makes of it; and the steps that
--- a scan or a leave of a request makes, in order, and how it ends.
+-- The machine of a request's guard: where it is in the key list, what each event makes of that, which steps a scan
+-- or a leave makes, in order, and how it ends.
 use Rattle.std.specs.Prelude.{ℕ, ◌+◌, Bool, true, false, ◌&&◌, nat_eq, nat_lt, if◌then◌else◌, List, length, Option, None, slice_get, Result, Ok, Err, ◌≡◌, Some, [], ◌∷◌, ◌++◌, map, IsSome}
 use Rattle.std.specs.Option.{option_map}
 use Rattle.lt_ids.specs.Ids.{value_of}
@@ -9,21 +9,22 @@ use Rattle.lt_plain.specs.declared.call.Call.{Call}
 use Rattle.lt_plain.specs.declared.call.Call.TheVariants.{Visit, Leave}
 use Rattle.lt_plain.specs.declared.call.Reply.{Reply}
 use Rattle.lt_plain.specs.declared.call.Reply.TheVariants as replies
-use Rattle.lt_table_core.specs.declared.progress.Mode.{Mode}
-use Rattle.lt_table_core.specs.declared.progress.Mode.TheVariants.{Free, Awaiting, Let, Stopped, Leaving}
-use Rattle.lt_table_core.specs.declared.progress.Progress.{Progress}
-use Rattle.lt_table_core.specs.declared.progress.Ended.{Ended}
-use Rattle.lt_table_core.specs.declared.scan.Scan.TheVariants.{Proceed, Rescan, Waiting, TooLong}
-use Rattle.lt_table_core.specs.declared.scan.ScanError.{ScanError}
-use Rattle.lt_table_core.specs.declared.scan.ScanError.TheVariants as refused
-use Rattle.lt_table_core.specs.declared.scan.Poll.{Poll}
-use Rattle.lt_table_core.specs.declared.scan.Poll.TheVariants as polls
+use Rattle.lt_table_core.specs.declared.walk_progress.Mode.{Mode}
+use Rattle.lt_table_core.specs.declared.walk_progress.Mode.TheVariants.{Free, Awaiting, Let, Stopped, Leaving}
+use Rattle.lt_table_core.specs.declared.walk_progress.Progress.{Progress}
+use Rattle.lt_table_core.specs.declared.walk_progress.ScanEnd.{ScanEnd}
+use Rattle.lt_table_core.specs.declared.scan_results.Scan.TheVariants.{Proceed, Rescan, Waiting, TooLong}
+use Rattle.lt_table_core.specs.declared.scan_results.ScanError.{ScanError}
+use Rattle.lt_table_core.specs.declared.scan_results.ScanError.TheVariants as refused
+use Rattle.lt_table_core.specs.declared.scan_results.Poll.{Poll}
+use Rattle.lt_table_core.specs.declared.scan_results.Poll.TheVariants as polls
 use Rattle.lt_shard.specs.declared.answer.Answer.{Answer}
-use Rattle.lt_table_core.specs.declared.scan.Scan.{Scan}
+use Rattle.lt_table_core.specs.declared.scan_results.Scan.{Scan}
 use Rattle.lt_shard.specs.declared.answer.StepError.{StepError}
 use Rattle.lt_shard.specs.declared.answer.StepError.TheVariants as steps
 
--- what a request asked for, which stays: its keys in the order in which they are visited, and who asks
+-- what a request asked for, which never changes: its keys in the order in which they are visited, its number, its
+-- transaction, its timestamp and its bound
 pub record Asked : Type 0 where
   pub keys : List (List ℕ × Access)
   pub number : ℕ
@@ -31,14 +32,14 @@ pub record Asked : Type 0 where
   pub ts : Timestamp
   pub longest : ℕ
 
--- Whoever waits is let through by the word that names its very wait.
-abbrev pub mode_heard : Mode → Bool → Mode
-mode_heard Awaiting true = Let
-mode_heard mode _ = mode
+-- A request that waits is let through by the status word that names its very wait.
+abbrev pub mode_after_status : Mode → Bool → Mode
+mode_after_status Awaiting true = Let
+mode_after_status mode _ = mode
 
--- after the status word was read
-abbrev pub heard : ℕ → Progress → ℕ → Progress
-heard number p word = record p { mode = mode_heard p.mode (nat_eq word (value_of (record { number = number; wait = p.waits }))) }
+-- the progress after the status word was read
+abbrev pub after_status : ℕ → Progress → ℕ → Progress
+after_status number p word = record p { mode = mode_after_status p.mode (nat_eq word (value_of (record { number = number; wait = p.waits }))) }
 
 abbrev pub polled_in : Mode → Poll
 polled_in Let = polls.Through
@@ -49,14 +50,14 @@ polled_in _ = polls.Idle
 abbrev pub polled : Progress → Poll
 polled p = polled_in p.mode
 
--- at the list's start again, with nothing to wait for
+-- the progress back at the list's start, with nothing to wait for
 abbrev pub restarted : Progress → Progress
-restarted p = record p { place = 0; waited = false; mode = Free }
+restarted p = record p { index = 0; waited = false; mode = Free }
 
 abbrev pub scan_start_in : Mode → Progress → Result Progress ScanError
 scan_start_in Leaving p = Err refused.Leaving
 scan_start_in Awaiting p = Err refused.StillWaiting
-scan_start_in Let p = Ok (record p { place = p.place + 1; mode = Free })
+scan_start_in Let p = Ok (record p { index = p.index + 1; mode = Free })
 scan_start_in Stopped p = Ok (restarted p)
 scan_start_in Free p = Ok p
 
@@ -76,15 +77,16 @@ abbrev pub is_stopped : Mode → Bool
 is_stopped Stopped = true
 is_stopped _ = false
 
--- A visit comes next: a key is left, and a wait.
+-- Whether a visit comes next: the request is free, a key is left, and the request may begin another wait.
 abbrev pub may_visit : ℕ → ℕ → Progress → Bool
-may_visit keys max_waits p = is_free p.mode && nat_lt p.place keys && nat_lt p.waits max_waits
+may_visit keys max_waits p = is_free p.mode && nat_lt p.index keys && nat_lt p.waits max_waits
 
--- the next key
+-- the progress at the next key
 abbrev pub passed : Progress → Progress
-passed p = record p { place = p.place + 1 }
+passed p = record p { index = p.index + 1 }
 
--- After a visit: it has to wait, or a queue is too long for it, or it passes on to the next key.
+-- the progress after a visit: the request has to wait, met a queue that is too long for it, or passed to the next
+-- key
 abbrev pub met_as : Progress → Bool → Bool → Progress
 met_as p must_wait too_long =
     if must_wait then record p { waits = p.waits + 1; waited = true; mode = Awaiting }
@@ -99,43 +101,43 @@ abbrev pub is_long : Reply → Bool
 is_long replies.TooLong = true
 is_long _ = false
 
--- after a visit with this reply
+-- the progress after a visit with this reply
 abbrev pub met : Progress → Reply → Progress
 met p reply = met_as p (is_wait reply) (is_long reply)
 
--- How a scan ends where no visit comes next: the request waits, or a queue was too long for it, or its waits are used up,
--- or the list is at its end
-abbrev pub scan_end : ℕ → Progress → Ended
+-- How a scan ends when no visit comes next: the request waits, a queue was too long for it, its waits are used up,
+-- or the list is at its end.
+abbrev pub scan_end : ℕ → Progress → ScanEnd
 scan_end keys p =
-    if is_awaiting p.mode then record { after = p; result = Ok (Waiting p.place) }
-    else if is_stopped p.mode then record { after = restarted p; result = Ok (TooLong p.place) }
-    else if nat_lt p.place keys then record { after = p; result = Err refused.WaitsOut }
+    if is_awaiting p.mode then record { after = p; result = Ok (Waiting p.index) }
+    else if is_stopped p.mode then record { after = restarted p; result = Ok (TooLong p.index) }
+    else if nat_lt p.index keys then record { after = p; result = Err refused.WaitsOut }
     else record { after = restarted p; result = Ok (if p.waited then Rescan else Proceed) }
 
 abbrev pub leave_start_in : Mode → Progress → Progress
 leave_start_in Leaving p = p
-leave_start_in _ p = record p { place = 0; mode = Leaving }
+leave_start_in _ p = record p { index = 0; mode = Leaving }
 
--- where a leave goes on
+-- where a leave begins or continues
 abbrev pub leave_start : Progress → Progress
 leave_start p = leave_start_in p.mode p
 
--- the visit of a key: it carries the number of the wait that it would begin
+-- the visit of a key, with the number of the wait that it would begin
 abbrev pub visit_call : Asked → Progress → Access → Call
 visit_call asked p access = Visit (record { number = asked.number; wait = p.waits + 1 }) asked.txn asked.ts access asked.longest
 
--- the visit that comes next in a scan: at which key, and the call
+-- the visit that comes next in a scan, if any: its key and the call
 abbrev pub next_visit : Asked → ℕ → Progress → Option (List ℕ × Call)
 next_visit asked max_waits p =
     if may_visit (length asked.keys) max_waits p
-    then option_map (λ k. (k.0, visit_call asked p k.1)) (slice_get asked.keys p.place)
+    then option_map (λ k. (k.0, visit_call asked p k.1)) (slice_get asked.keys p.index)
     else None
 
--- the step that comes next in a leave
+-- the leave step that comes next, if any: its key and the call
 abbrev pub next_leave : Asked → Progress → Option (List ℕ × Call)
-next_leave asked p = option_map (λ k. (k.0, Leave asked.number)) (slice_get asked.keys p.place)
+next_leave asked p = option_map (λ k. (k.0, Leave asked.number)) (slice_get asked.keys p.index)
 
--- a request on its way: what was asked, how far it is, and the answers of the latest scan or leave
+-- a request on its way: what it asked for, how far it is, and the answers of its latest scan or leave
 pub record WalkState : Type 0 where
   pub asked : Asked
   pub progress : Progress
@@ -150,27 +152,27 @@ pub record Step : Type 0 where
 abbrev pub answer_of : Step → Answer
 answer_of x = x.answer
 
--- From p these visits are made, each the one that comes next, and lead to q.
+-- These visits lead from p to q, and each is the one that comes next.
 abbrev pub Visits : Asked → ℕ → Progress → List Step → Progress → Type 0
 Visits asked max_waits p [] q = q ≡ p
 Visits asked max_waits p (x ∷ xs) q =
     (next_visit asked max_waits p ≡ Some (x.key, x.call)) × Visits asked max_waits (met p x.answer.reply) xs q
 
--- what a refused step makes a scan answer
+-- the error of a scan that is ended by this refused step
 abbrev pub of_step : StepError → ScanError
 of_step steps.HistoryFull = refused.HistoryFull
 of_step steps.Memory = refused.Memory
 
--- The table refused a step.
+-- The scan was ended by a refused step.
 abbrev pub IsRefusedStep : Result Scan ScanError → Type 0
 IsRefusedStep result = (e : StepError) × (result ≡ Err (of_step e))
 
--- How a scan ends at p: where a visit comes next, by a refused step.
-abbrev pub Ends : Option (List ℕ × Call) → Ended → Progress → Result Scan ScanError → Progress → Type 0
+-- How a scan ends at p: by a refused step if a visit comes next, and otherwise as the machine says.
+abbrev pub Ends : Option (List ℕ × Call) → ScanEnd → Progress → Result Scan ScanError → Progress → Type 0
 Ends None end p result after = (result ≡ end.result) × (after ≡ end.after)
 Ends (Some _) end p result after = IsRefusedStep result × (after ≡ p)
 
--- A scan that begins at p makes these visits and ends so.
+-- A scan that begins at p makes these visits and ends with this result.
 pub record IsScanFrom (asked : Asked) (max_waits : ℕ) (p : Progress) (steps : List Step) (result : Result Scan ScanError) (after : WalkState) : Type 0 where
   pub last : Progress
   pub visits : Visits asked max_waits p steps last
@@ -178,22 +180,22 @@ pub record IsScanFrom (asked : Asked) (max_waits : ℕ) (p : Progress) (steps : 
   pub answers : after.answers ≡ map answer_of steps
   pub stays : after.asked ≡ asked
 
--- A scan that is refused at once changes nothing; else it goes from its beginning.
+-- A scan that is refused at once changes nothing. Any other scan runs from where it begins.
 abbrev pub IsScanBegun : Result Progress ScanError → ℕ → WalkState → List Step → Result Scan ScanError → WalkState → Type 0
 IsScanBegun (Err e) max_waits old steps result after = (steps ≡ []) × (result ≡ Err e) × (after ≡ old)
 IsScanBegun (Ok p) max_waits old steps result after = IsScanFrom old.asked max_waits p steps result after
 
--- A scan: the status word was read, these steps were made, and it ended so.
+-- A scan: the status word was read, these steps were made, and the scan ended with this result.
 abbrev pub IsWalkScan : ℕ → WalkState → ℕ → List Step → Result Scan ScanError → WalkState → Type 0
 IsWalkScan max_waits old word steps result after =
-    IsScanBegun (scan_start (heard old.asked.number old.progress word)) max_waits old steps result after
+    IsScanBegun (scan_start (after_status old.asked.number old.progress word)) max_waits old steps result after
 
--- From p these leave steps are made, each the one that comes next, and lead to q.
+-- These leave steps lead from p to q, and each is the one that comes next.
 abbrev pub Leaves : Asked → Progress → List Step → Progress → Type 0
 Leaves asked p [] q = q ≡ p
 Leaves asked p (x ∷ xs) q = (next_leave asked p ≡ Some (x.key, x.call)) × Leaves asked (passed p) xs q
 
--- the answers that a leave goes on from
+-- the answers that a leave begins or continues with
 abbrev pub leave_answers_in : Mode → List Answer → List Answer
 leave_answers_in Leaving answers = answers
 leave_answers_in _ answers = []
@@ -201,24 +203,24 @@ leave_answers_in _ answers = []
 abbrev pub leave_answers : WalkState → List Answer
 leave_answers s = leave_answers_in s.progress.mode s.answers
 
--- A request that leaves made these steps; it has their answers and stands behind them.
+-- A request that is leaving made these steps: it has their answers and has moved past their keys.
 pub record IsLeaveFrom (begun : WalkState) (steps : List Step) (after : WalkState) : Type 0 where
   pub leaves : Leaves begun.asked begun.progress steps after.progress
   pub answers : after.answers ≡ begun.answers ++ map answer_of steps
   pub stays : after.asked ≡ begun.asked
 
--- a request as its leave begins or goes on
+-- a request as its leave begins or continues
 abbrev pub leaving : WalkState → WalkState
 leaving s = record s { progress = leave_start s.progress; answers = leave_answers s }
 
--- All keys are left, each with its answer.
+-- The request has left each key, and has an answer for each.
 pub record IsLeft (old : WalkState) (steps : List Step) (answers : List Answer) : Type 0 where
   pub last : WalkState
   pub run : IsLeaveFrom (leaving old) steps last
   pub at_end : next_leave last.asked last.progress ≡ None
   pub answered : answers ≡ last.answers
 
--- The request comes back where the refused step would have been the next.
+-- The request comes back at the key whose leave step was refused.
 pub record IsRefusedLeave (old : WalkState) (steps : List Step) (new : WalkState) : Type 0 where
   pub run : IsLeaveFrom (leaving old) steps new
   pub refused : IsSome (next_leave new.asked new.progress)

@@ -5,20 +5,21 @@ use Rattle.lt_ids.specs.Ids.{Wait}
 use Rattle.lt_entry.specs.declared.entry.Entry.{Entry}
 use Rattle.lt_words.specs.History.{shard_of, IsStatus}
 use Rattle.lt_words.specs.Shown.{word_of}
-use Rattle.lt_words.specs.Row.{Seer, SeesMore, Reports}
+use Rattle.lt_words.specs.Row.{PassState, SeesMore, Reports}
 use Rattle.lt_shard.specs.declared.answer.Answer.{Answer}
-use Rattle.lt_table_core.specs.declared.scan.Scan.{Scan}
-use Rattle.lt_table_core.specs.declared.scan.ScanError.{ScanError}
-use Rattle.lt_table_core.specs.declared.scan.Poll.{Poll}
-use Rattle.lt_table_core.specs.Machine.{heard, polled, WalkState, Step, IsWalkScan, IsLeaveFrom, IsLeft, IsRefusedLeave}
+use Rattle.lt_table_core.specs.declared.scan_results.Scan.{Scan}
+use Rattle.lt_table_core.specs.declared.scan_results.ScanError.{ScanError}
+use Rattle.lt_table_core.specs.declared.scan_results.Poll.{Poll}
+use Rattle.lt_table_core.specs.Machine.{after_status, polled, WalkState, Step, IsWalkScan, IsLeaveFrom, IsLeft, IsRefusedLeave}
 
 -- the shard of a step's key
-abbrev pub shard_at : Seer → Step → ℕ
+abbrev pub shard_at : PassState → Step → ℕ
 shard_at p x = shard_of x.key p.of.shards
 
--- The step was made and is reported: an entry with its key, its call and its reply stands at the place of the answer
--- in its key's shard, as the pass's own, after all that the pass had seen, and it counts one more step there.
-pub record Reported (old new : Seer) (x : Step) : Type 0 where
+-- The step was made and is reported: an entry with its key, its call and its reply is at the answer's index in its
+-- key's shard. The entry names the pass, it comes after everything that the pass had seen, and the pass counts one
+-- more step at the shard.
+pub record Reported (old new : PassState) (x : Step) : Type 0 where
   pub entry : Entry
   pub key_is : entry.key ≡ x.key
   pub call_is : entry.call ≡ x.call
@@ -26,40 +27,40 @@ pub record Reported (old new : Seer) (x : Step) : Type 0 where
   pub reports : Reports old new (shard_at old x) x.answer.at entry
 
 -- These steps were reported, one after the other.
-abbrev pub AreReported : Seer → List Step → Seer → Type 0
+abbrev pub AreReported : PassState → List Step → PassState → Type 0
 AreReported p [] q = q ≡ p
-AreReported p (x ∷ xs) q = (m : Seer) × Reported p m x × AreReported m xs q
+AreReported p (x ∷ xs) q = (m : PassState) × Reported p m x × AreReported m xs q
 
--- how many of the steps are of this shard, among so many
+-- how many of the steps are of shard s, if there are this many shards
 abbrev pub steps_at : ℕ → ℕ → List Step → ℕ
 steps_at shards s [] = 0
 steps_at shards s (x ∷ xs) = if nat_eq (shard_of x.key shards) s then steps_at shards s xs + 1 else steps_at shards s xs
 
--- what contracts see of a guard: the pass that makes its calls, and the request on its way
+-- what contracts see of a guard: the pass that makes its calls, and its request on its way
 pub record GuardState : Type 0 where
-  pub pass : Seer
+  pub pass : PassState
   pub walk : WalkState
 
 -- the wait that the request is in, which its ticket names
-abbrev pub wait_of : WalkState → Wait
-wait_of s = record { number = s.asked.number; wait = s.progress.waits }
+abbrev pub current_wait : WalkState → Wait
+current_wait s = record { number = s.asked.number; wait = s.progress.waits }
 
--- The pass is the same, and has seen what it had seen.
-pub record PassStays (old new : Seer) : Type 0 where
+-- The pass is the same, and its seen prefix only grew.
+pub record PassStays (old new : PassState) : Type 0 where
   pub of : new.of ≡ old.of
   pub number : new.number ≡ old.number
   pub seen : IsPrefix old.seen new.seen
   pub shown : IsPrefix old.shown new.shown
 
--- The pass is the same, and the request asks for what it asked for.
+-- The pass is the same, its seen prefix only grew, and the request asks for what it asked for before.
 pub record GuardStays (old new : GuardState) : Type 0 where
   pub pass : PassStays old.pass new.pass
   pub asked : new.walk.asked ≡ old.walk.asked
 
--- A scan: the status word was read, then these steps were made and reported, in order, and the request went on, and
--- the scan ended, as the machine says for that word and those answers.
+-- A scan: the status word was read; then these steps were made and reported, in order; and the request moved on and
+-- the scan ended as the machine says for that word and those answers.
 pub record IsScan (max_waits : ℕ) (old new : GuardState) (result : Result Scan ScanError) : Type 0 where
-  pub read : Seer
+  pub read : PassState
   pub word : ℕ
   pub reads : SeesMore old.pass read
   pub word_is : word ≡ word_of old.pass.number read.shown
@@ -68,13 +69,13 @@ pub record IsScan (max_waits : ℕ) (old new : GuardState) (result : Result Scan
   pub reported : AreReported read steps new.pass
   pub scan : IsWalkScan max_waits old.walk word steps result new.walk
 
--- A poll: the status word was read, and the machine heard it.
+-- A poll: the status word was read, and the request is then as the machine says for that word.
 pub record IsPoll (old new : GuardState) (result : Poll) : Type 0 where
   pub word : ℕ
   pub reads : SeesMore old.pass new.pass
   pub word_is : word ≡ word_of old.pass.number new.pass.shown
   pub status : IsStatus new.pass.seen old.pass.number word
-  pub walk : new.walk ≡ record old.walk { progress = heard old.walk.asked.number old.walk.progress word }
+  pub walk : new.walk ≡ record old.walk { progress = after_status old.walk.asked.number old.walk.progress word }
   pub answer : result ≡ polled new.walk.progress
 
 -- These leave steps were made and reported, in order.
@@ -83,19 +84,20 @@ pub record IsLeavingFrom (begun after : GuardState) : Type 0 where
   pub reported : AreReported begun.pass steps after.pass
   pub run : IsLeaveFrom begun.walk steps after.walk
 
--- A leave that is done: a leave step at each key, or at each that was left, was made and reported, in order.
-pub record AllLeft (old : GuardState) (pass : Seer) (answers : List Answer) : Type 0 where
+-- A leave that is done: a leave step at each key that the request had not yet left was made and reported, in order.
+pub record AllLeft (old : GuardState) (pass : PassState) (answers : List Answer) : Type 0 where
   pub steps : List Step
   pub reported : AreReported old.pass steps pass
   pub left : IsLeft old.walk steps answers
 
--- A leave that was refused: the same up to the refused key, where the guard stands.
+-- A leave that was refused: leave steps were made and reported, in order, up to the refused key, where the guard
+-- stays.
 pub record StoppedLeaving (old guard : GuardState) : Type 0 where
   pub steps : List Step
   pub reported : AreReported old.pass steps guard.pass
   pub stopped : IsRefusedLeave old.walk steps guard.walk
 
--- Of two steps that a pass reports of one shard, the later one has the greater place.
-abbrev pub PlacesRise : Type 0
-PlacesRise = (first second third last : Seer) (x y : Step) → Reported first second x → IsPrefix second.seen third.seen → Reported third last y →
+-- Of two steps that a pass reports of one shard, the later one has the greater index.
+abbrev pub StepIndicesRise : Type 0
+StepIndicesRise = (first second third last : PassState) (x y : Step) → Reported first second x → IsPrefix second.seen third.seen → Reported third last y →
     shard_at first x ≡ shard_at third y → x.answer.at < y.answer.at

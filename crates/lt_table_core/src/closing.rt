@@ -1,4 +1,8 @@
-//! A table is closed.
+//! How is a table closed, what is left of it, and why may a close be refused?
+//!
+//! One pass learns what all the others had seen, and then meets each shard once. So what it has then seen is one
+//! history that extends what every pass had seen, and each shard's steps are a prefix of that history's part. Read
+//! next `IsClosed` in `specs/Closed.antt`, and then `close` and `close_rest` at the end of this file.
 ghost use Rattle.std.specs.Prelude.{◌≡◌, ◌≢◌, ◌≤◌, ◌<◌, ◌+◌, ℕ, [], true, IsTrue, IsFalse, map, length, slice_index_or, vec_len, vec_capacity, IfOk, IfErr, IfSome, IfNone, OnErr, OnOk};
 ghost use Rattle.std.specs.List.{All, AllByRecursion};
 ghost use mathlib.Core.List.{IsPrefix};
@@ -16,34 +20,36 @@ use std::alloc::{AllocError, Global};
 use std::sync::Wait;
 use thiserror::Error;
 
-/// What is left of a table that is closed.
+/// What is left of a table after [`Table::close`].
 #[derive(Drop)]
 pub struct Histories {
-    /// One history for each shard, of all steps that were made there, in order.
+    /// One history for each shard: all steps that were made there, in order.
     pub shards: Vec<Vec<Entry>>,
-    /// How many numbers were drawn.
+    /// How many request numbers were drawn.
     pub draws: u64,
 }
 
-/// What is left of a table of which steps may be gone: taken out, or never stored.
+/// What is left of a table after [`Table::close_rest`]. Steps may be gone: taken out, or never stored.
 #[derive(Drop)]
 pub struct Rests {
-    /// What is left of each shard, from which place on. All its steps are as many as come before and as are left.
+    /// For each shard the steps that are left, and how many steps were made before them. Together these are all
+    /// steps of the shard.
     pub shards: Vec<Rest>,
-    /// How many numbers were drawn.
+    /// How many request numbers were drawn.
     pub draws: u64,
 }
 
-/// Why a table is not closed.
+/// Why a table was not closed.
 #[derive(Clone, Copy, Debug, PartialEq, Eq, Drop, Error)]
 pub enum CloseError {
-    /// So many passes are missing.
+    /// This many passes are missing.
     #[error("passes are missing: {0}")]
     PassesOut(usize),
     #[error("out of memory")]
     Memory,
-    /// The shard at this place is another or may hold another number of steps, or the steps that it has are not the sum of
-    /// the passes' counts there. No whole table makes it, and no other that is closed by `close_rest`.
+    /// The shard at this index is another shard, may hold another number of steps, or has made a number of steps
+    /// that is not the sum of the passes' counts there. `close` also gives this error if steps of the shard are
+    /// gone. It never comes from `close` of a whole table, nor from `close_rest` of any table.
     #[error("the steps of a shard are not those of the passes: {0}")]
     Counts(usize),
 }
@@ -59,7 +65,7 @@ impl From<AllocError> for CloseError {
     }
 }
 
-/// A table is not closed: all comes back as it was.
+/// A table that was not closed: the table, the passes and the guards come back as they were.
 pub struct CloseRefused<N: Name, T: KeyTable, W: Waker = ()> {
     pub table: Table<N, T, W>,
     pub passes: Vec<Pass>,
@@ -68,7 +74,7 @@ pub struct CloseRefused<N: Name, T: KeyTable, W: Waker = ()> {
 }
 
 impl<N: Name, T: KeyTable + Drop, W: Waker + Drop> CloseRefused<N, T, W> {
-    /// Gives the table up, with its passes and guards.
+    /// Gives up the table with its passes and guards.
     pub fn abandon(self) {
         let CloseRefused {
             table: _,
@@ -81,7 +87,7 @@ impl<N: Name, T: KeyTable + Drop, W: Waker + Drop> CloseRefused<N, T, W> {
     }
 }
 
-/// Gives each of the guards up.
+/// Gives up each of the guards.
 pub fn abandon_guards(mut guards: Vec<Guard>) {
     while let Some(guard) = guards.pop() {
         guard.abandon();
@@ -89,42 +95,43 @@ pub fn abandon_guards(mut guards: Vec<Guard>) {
     guards.destroy_empty();
 }
 
-/// What is left of these steps of a shard without those that the passes made; nothing, where they made more.
-fn without_passes(steps: u64, place: usize, passes: &[Pass]) -> Option<u64>
-    requires { All (λ p. place < p.of.shards) passes.now }
-    ensures some { IfSome result (λ left. left + counts_at place passes.now ≡ steps) }
-    ensures none { IfNone result (steps < counts_at place passes.now) }
+/// How many of a shard's steps are left after subtracting those that the passes made. `None` if the passes made
+/// more.
+fn without_passes(steps: u64, index: usize, passes: &[Pass]) -> Option<u64>
+    requires { All (λ p. index < p.of.shards) passes.now }
+    ensures some { IfSome result (λ left. left + counts_at index passes.now ≡ steps) }
+    ensures none { IfNone result (steps < counts_at index passes.now) }
 {
     let mut left = steps;
     for pass in passes {
-        left = left.checked_sub(pass.count(place))?;
+        left = left.checked_sub(pass.count(index))?;
     }
     Some(left)
 }
 
-/// The same for the passes of guards.
-fn without_guards(steps: u64, place: usize, guards: &[Guard]) -> Option<u64>
-    requires { All (λ g. place < g.pass.of.shards) guards.now }
-    ensures some { IfSome result (λ left. left + counts_at place (map (λ g. g.pass) guards.now) ≡ steps) }
-    ensures none { IfNone result (steps < counts_at place (map (λ g. g.pass) guards.now)) }
+/// `without_passes` for the passes of guards.
+fn without_guards(steps: u64, index: usize, guards: &[Guard]) -> Option<u64>
+    requires { All (λ g. index < g.pass.of.shards) guards.now }
+    ensures some { IfSome result (λ left. left + counts_at index (map (λ g. g.pass) guards.now) ≡ steps) }
+    ensures none { IfNone result (steps < counts_at index (map (λ g. g.pass) guards.now)) }
 {
     let mut left = steps;
     for guard in guards {
-        left = left.checked_sub(guard.pass.count(place))?;
+        left = left.checked_sub(guard.pass.count(index))?;
     }
     Some(left)
 }
 
-/// What each shard has to be when its table is closed.
+/// What each shard has to satisfy when its table is closed.
 #[derive(Clone, Copy)]
 struct Wanted {
-    /// It holds all its steps.
+    /// Whether it has to hold all of its steps.
     whole: bool,
-    /// It may hold so many.
+    /// How many steps it may hold.
     max_steps: u64,
 }
 
-/// Whether steps are missing that have to be there.
+/// Whether steps are gone that have to be there.
 fn is_missing(whole: bool, before: u64) -> bool
     ensures no { IsFalse result → whole ≡ true → before ≡ 0 }
     ensures yes { IsTrue result → (whole ≡ true) × (before ≢ 0) }
@@ -132,20 +139,20 @@ fn is_missing(whole: bool, before: u64) -> bool
     whole && before != 0
 }
 
-/// Whether the shard is the one of this place, its steps are those of the passes, and it is what it has to be.
+/// Whether the shard has this index, made as many steps as the passes made there, and is as `wanted` says.
 fn is_counted<N: Name, T: KeyTable>(
     shard: &Shard<N, T>,
-    place: usize,
+    index: usize,
     wanted: Wanted,
     passes: &[Pass],
     guards: &[Guard],
 ) -> bool
-    requires passes { All (λ p. place < p.of.shards) passes.now }
-    requires guards { All (λ g. place < g.pass.of.shards) guards.now }
-    ensures yes { IsTrue result → IsCounted wanted (passes_of passes.now guards.now) place shard.now }
-    ensures no { IsFalse result → IsCounted wanted (passes_of passes.now guards.now) place shard.now → ⊥ }
+    requires passes { All (λ p. index < p.of.shards) passes.now }
+    requires guards { All (λ g. index < g.pass.of.shards) guards.now }
+    ensures yes { IsTrue result → IsCounted wanted (passes_of passes.now guards.now) index shard.now }
+    ensures no { IsFalse result → IsCounted wanted (passes_of passes.now guards.now) index shard.now → ⊥ }
 {
-    if shard.index() != place {
+    if shard.index() != index {
         return false;
     }
     if shard.max_steps() != wanted.max_steps {
@@ -154,16 +161,16 @@ fn is_counted<N: Name, T: KeyTable>(
     if is_missing(wanted.whole, shard.before()) {
         return false;
     }
-    let Some(left) = without_passes(shard.count(), place, passes) else {
+    let Some(left) = without_passes(shard.count(), index, passes) else {
         return false;
     };
-    let Some(rest) = without_guards(left, place, guards) else {
+    let Some(rest) = without_guards(left, index, guards) else {
         return false;
     };
     rest == 0
 }
 
-/// Names the first shard that is another, whose steps are not those of the passes, or that is not what it has to be.
+/// Names the first shard that is not counted in the sense of `is_counted`.
 fn count_fault<N: Name, T: KeyTable>(
     shards: &[Shard<N, T>],
     wanted: Wanted,
@@ -176,15 +183,15 @@ fn count_fault<N: Name, T: KeyTable>(
     ensures none { IfNone result (AreCounted wanted (passes_of passes.now guards.now) shards.now N.of.shards) }
     ensures some { IfSome result (IsMiscount wanted (passes_of passes.now guards.now) shards.now) }
 {
-    for place in 0..shards.len() {
-        if !is_counted(&shards[place], place, wanted, passes, guards) {
-            return Some(CloseError::Counts(place));
+    for index in 0..shards.len() {
+        if !is_counted(&shards[index], index, wanted, passes, guards) {
+            return Some(CloseError::Counts(index));
         }
     }
     None
 }
 
-/// The pass sees what each of these had seen.
+/// Lets the pass see what each of these passes had seen.
 fn learn_all(last: &mut Pass, passes: &[Pass])
     requires { All (λ p. p.of ≡ last.old.of) passes.now }
     ensures more { SeesMore last.old last.new }
@@ -196,7 +203,7 @@ fn learn_all(last: &mut Pass, passes: &[Pass])
     }
 }
 
-/// The pass meets the shard, of which what it holds is left.
+/// Lets the pass meet the shard, and returns what is left of the shard.
 fn end_shard<N: Name, T: KeyTable + Drop, R: Wait>(
     rt: &R,
     book: &Book,
@@ -212,7 +219,7 @@ fn end_shard<N: Name, T: KeyTable + Drop, R: Wait>(
     shard.into_rest()
 }
 
-/// The pass meets each shard, of which what they hold is left.
+/// Lets the pass meet each shard, and returns what is left of each.
 fn end_shards<N: Name, T: KeyTable + Drop, R: Wait>(
     rt: &R,
     book: &Book,
@@ -222,7 +229,7 @@ fn end_shards<N: Name, T: KeyTable + Drop, R: Wait>(
 ) -> Vec<Rest>
     requires book { book.now ≡ N.of }
     requires pass { last.old.of ≡ N.of }
-    requires places { (s : ℕ) (v : View) → s < length shards.items → (slice_index_or shards.items s v).index ≡ s }
+    requires indices { (s : ℕ) (v : View) → s < length shards.items → (slice_index_or shards.items s v).index ≡ s }
     requires empty { rests.items ≡ [] }
     requires room { length shards.items ≤ vec_capacity rests }
     ensures ended { AreEnded N.of last.old last.new shards.items result.items }
@@ -235,7 +242,7 @@ fn end_shards<N: Name, T: KeyTable + Drop, R: Wait>(
     rests
 }
 
-/// The histories of which nothing is gone, for which there is room.
+/// The histories of shards with nothing gone. `histories` is empty and has room for them.
 fn whole_histories(rests: Vec<Rest>, mut histories: Vec<Vec<Entry>>) -> Vec<Vec<Entry>>
     requires empty { histories.items ≡ [] }
     requires room { length rests.items ≤ vec_capacity histories }
@@ -247,7 +254,7 @@ fn whole_histories(rests: Vec<Rest>, mut histories: Vec<Vec<Entry>>) -> Vec<Vec<
     histories
 }
 
-/// The passes and those of the guards, for which there is room.
+/// The passes and then those of the guards. `passes` has room for them.
 fn all_passes(mut passes: Vec<Pass>, guards: Vec<Guard>) -> Vec<Pass>
     requires { length passes.items + length guards.items ≤ vec_capacity passes }
     ensures { result.items ≡ passes_of passes.items guards.items }
@@ -260,7 +267,7 @@ fn all_passes(mut passes: Vec<Pass>, guards: Vec<Guard>) -> Vec<Pass>
     passes
 }
 
-/// What is made of each item, in order, for which there is room.
+/// What `make` gives for each item, in order. `made` is empty and has room for the results.
 fn each_into<A: Drop, B: Drop, F: Fn(A) -> B>(items: Vec<A>, mut made: Vec<B>, make: F) -> Vec<B>
     requires callable { F.IsAlwaysCallable make }
     requires empty { made.items ≡ [] }
@@ -275,20 +282,20 @@ fn each_into<A: Drop, B: Drop, F: Fn(A) -> B>(items: Vec<A>, mut made: Vec<B>, m
 
 /// Room for the shards, for their locks if the table comes back, for what is left of them, and for their histories.
 #[derive(Drop)]
-struct Room<N: Name, T: KeyTable> {
+struct CloseRoom<N: Name, T: KeyTable> {
     shards: Vec<Shard<N, T>>,
     slots: Vec<Slot<N, T>>,
     rests: Vec<Rest>,
     histories: Vec<Vec<Entry>>,
 }
 
-/// Takes the room, and room for the passes of so many guards behind the passes.
+/// Allocates that room, and room in `passes` for the passes of so many guards.
 fn take_room<N: Name, T: KeyTable + Drop>(
     alloc: Global,
     shards: usize,
     passes: &mut Vec<Pass>,
     guards: usize,
-) -> Result<Room<N, T>, CloseError>
+) -> Result<CloseRoom<N, T>, CloseError>
     ensures shards { IfOk result (λ room. (room.shards.items ≡ []) × (shards ≤ vec_capacity room.shards)) }
     ensures slots { IfOk result (λ room. (room.slots.items ≡ []) × (shards ≤ vec_capacity room.slots)) }
     ensures rests { IfOk result (λ room. (room.rests.items ≡ []) × (shards ≤ vec_capacity room.rests)) }
@@ -298,7 +305,7 @@ fn take_room<N: Name, T: KeyTable + Drop>(
     ensures refused { IfErr result (λ e. e ≡ CloseError.Memory) }
 {
     passes.reserve(guards)?;
-    Ok(Room {
+    Ok(CloseRoom {
         shards: Vec::with_capacity(alloc, shards)?,
         slots: Vec::with_capacity(alloc, shards)?,
         rests: Vec::with_capacity(alloc, shards)?,
@@ -306,7 +313,7 @@ fn take_room<N: Name, T: KeyTable + Drop>(
     })
 }
 
-/// One pass sees what all had seen and meets each shard; so it has then seen all.
+/// Ends the table: one pass learns what all passes had seen and meets each shard, so it has then seen everything.
 fn end<N: Name, T: KeyTable + Drop, R: Wait>(
     rt: &R,
     book: &Book,
@@ -341,21 +348,21 @@ fn end<N: Name, T: KeyTable + Drop, R: Wait>(
     }
 }
 
-/// What is left of a table, and room for its histories.
+/// What is left of a closed table, and room for its histories.
 #[derive(Drop)]
-struct Ended {
+struct ClosedTable {
     rests: Rests,
     histories: Vec<Vec<Entry>>,
 }
 
-/// The histories of a table of which nothing is gone.
-fn into_histories(ended: Ended) -> Histories
+/// The histories of a table with nothing gone.
+fn into_histories(ended: ClosedTable) -> Histories
     requires empty { ended.histories.items ≡ [] }
     requires room { length ended.rests.shards.items ≤ vec_capacity ended.histories }
     ensures shards { result.shards.items ≡ map (λ t. t.entries) ended.rests.shards.items }
     ensures draws { result.draws ≡ ended.rests.draws }
 {
-    let Ended { rests, histories } = ended;
+    let ClosedTable { rests, histories } = ended;
     let Rests { shards, draws } = rests;
     Histories {
         shards: whole_histories(shards, histories),
@@ -364,7 +371,7 @@ fn into_histories(ended: Ended) -> Histories
 }
 
 impl<N: Name, T: KeyTable + Drop, W: Waker + Drop> Table<N, T, W> {
-    /// Closes the table, when all passes are back; where `only_whole`, not if steps are gone.
+    /// Closes the table if all passes are back. With `only_whole`, refuses it if steps are gone.
     fn close_as<R: Wait>(
         self,
         rt: &R,
@@ -372,7 +379,7 @@ impl<N: Name, T: KeyTable + Drop, W: Waker + Drop> Table<N, T, W> {
         only_whole: bool,
         mut passes: Vec<Pass>,
         guards: Vec<Guard>,
-    ) -> Result<Ended, CloseRefused<N, T, W>>
+    ) -> Result<ClosedTable, CloseRefused<N, T, W>>
         requires passes { All (λ p. p.of ≡ N.of) passes.items }
         requires guards { All (λ g. g.pass.of ≡ N.of) guards.items }
         ensures closed { IfOk result (λ e. IsClosedRest N.of (passes_of passes.items guards.items) e.rests.shards.items e.rests.draws) }
@@ -432,17 +439,19 @@ impl<N: Name, T: KeyTable + Drop, W: Waker + Drop> Table<N, T, W> {
         }
         let passes = all_passes(passes, guards);
         let rests = end(rt, &book, shards, wanted, passes, room.rests);
-        Ok(Ended {
+        Ok(ClosedTable {
             rests,
             histories: room.histories,
         })
     }
 
-    /// Closes the table, when all passes are back, alone or in a guard: gives one history for each shard and the number
-    /// of draws. A guard may be closed without leaving; its stands are then left in the records, which end here.
+    /// Closes the table if all of its passes are back, alone or in a guard, and gives one history for each shard
+    /// and the number of draws. A guard may be closed without leaving. Its queue entries and reservations then stay
+    /// in the records, which end here.
     ///
-    /// A table of which steps are gone, which is no whole one, has no such histories: it is refused with `Counts`, and
-    /// [`Table::close_rest`] closes it.
+    /// If steps of the table are gone, there are no such histories: the close is refused with `Counts`, and
+    /// [`Table::close_rest`] closes the table. No step of a whole table is ever gone. A refusal gives everything
+    /// back.
     pub fn close<R: Wait>(
         self,
         rt: &R,
@@ -464,8 +473,8 @@ impl<N: Name, T: KeyTable + Drop, W: Waker + Drop> Table<N, T, W> {
         Ok(into_histories(ended))
     }
 
-    /// The same for a table that may have given steps away or stored none: gives of each shard the steps that are left,
-    /// and from which place on they are.
+    /// [`Table::close`] for a table that may have given steps away or stored none. Gives for each shard the steps
+    /// that are left, and how many steps were made before them.
     pub fn close_rest<R: Wait>(
         self,
         rt: &R,

@@ -1,3 +1,5 @@
+//! With which numbers is a table opened, in which ranges, and what is allocated before it opens? Read next
+//! `src/opening.rt`. `docs/LIMITS.md` says what happens at each limit.
 ghost use Rattle.std.specs.Prelude.{◌≡◌, ◌⊎◌, Some, None, IfOk, IfErr, OnOk};
 ghost use Rattle.lt_table_core.specs.Configs.{is_between, fault, IsOpened};
 
@@ -6,14 +8,15 @@ use std::alloc::{AllocError, Global};
 use std::marker::Model;
 use thiserror::Error;
 
-/// The numbers that a table is opened with.
+/// The numbers with which a table is opened.
 #[derive(Clone, Copy, Debug, PartialEq, Eq)]
 pub struct Config {
-    /// How many shards: 1 to 64. Each has a lock of its own.
+    /// The number of shards: 1 to 64. Each has a lock of its own.
     pub shards: usize,
-    /// How many passes: 1 to 1,024. Each serves one caller at a time.
+    /// The number of passes: 1 to 1,024. Each serves one caller at a time.
     pub passes: usize,
-    /// How many steps a shard may hold: 1 to 2^32. Where each step is held until the close, so many it may make.
+    /// How many steps a shard may hold: 1 to 2^32. If each step is held until the close, this is also how many
+    /// steps a shard may make.
     pub max_steps: u64,
     /// How many requests may enter: 1 to 2^40 - 1.
     pub max_requests: u64,
@@ -21,7 +24,7 @@ pub struct Config {
     pub max_waits: u32,
 }
 
-/// Why nothing is prepared: the first number that is out of its range, in this order, or want of memory.
+/// Why nothing was prepared: the first number that is out of its range, in this order, or out of memory.
 #[derive(Clone, Copy, Debug, PartialEq, Eq, Drop, Error)]
 pub enum PrepareError {
     #[error("a table has 1 to 64 shards")]
@@ -82,7 +85,8 @@ fn fault(config: Config) -> Option<PrepareError>
     }
 }
 
-/// A book and its passes, from which a table is opened.
+/// A book and its passes, ready for a table to be opened over them. A `Ready` is not `Drop`: it is opened or given
+/// up by name ([`Ready::abandon`]).
 pub struct Ready {
     pub(crate) config: Config,
     pub(crate) book: Book,
@@ -102,7 +106,7 @@ impl Model for Ready {
 }
 
 impl Ready {
-    /// The numbers that the table will have; its book has as many shards.
+    /// The numbers that the table will have. The book has the same number of shards.
     pub fn config(&self) -> Config
         ensures config { result ≡ self.now.config }
         ensures shards { self.now.of.shards ≡ result.shards }
@@ -110,7 +114,7 @@ impl Ready {
         self.config
     }
 
-    /// Gives the book and its passes up.
+    /// Gives up the book and its passes.
     pub fn abandon(self) {
         let Ready {
             config: _,
@@ -121,11 +125,12 @@ impl Ready {
     }
 }
 
-/// Looks at the numbers, and takes the memory of the words and of the passes.
+/// Checks the numbers, and allocates the table's words and passes. The table will keep each step until it is
+/// closed.
 pub fn prepare(alloc: Global, config: Config) -> Result<Ready, PrepareError>
     ensures ok { OnOk result (fault config ≡ None) }
     ensures config { IfOk result (λ ready. ready.config ≡ config) }
-    // The book has the numbers of shards and passes that were asked for.
+    // The book has the numbers of shards and passes that the configuration asks for.
     ensures opened { IfOk result (λ ready. IsOpened config ready.of) }
     ensures refused { IfErr result (λ e. (fault config ≡ Some e) ⊎ ((fault config ≡ None) × (e ≡ PrepareError.Memory))) }
     // Each step is stored until the table is closed.
@@ -134,8 +139,8 @@ pub fn prepare(alloc: Global, config: Config) -> Result<Ready, PrepareError>
     prepare_with(alloc, config, Keeping::Whole)
 }
 
-/// The same for a table that keeps steps in this way. A table that streams holds at most `max_steps` steps of a shard at a
-/// time; one that records none has no use for that number.
+/// [`prepare`] for a table that keeps its steps in the given way. A table that streams holds at most `max_steps`
+/// steps of a shard at a time. A table that records none ignores `max_steps`, which must still be in its range.
 pub fn prepare_with(alloc: Global, config: Config, keeping: Keeping) -> Result<Ready, PrepareError>
     ensures ok { OnOk result (fault config ≡ None) }
     ensures config { IfOk result (λ ready. ready.config ≡ config) }

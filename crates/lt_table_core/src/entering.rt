@@ -1,4 +1,5 @@
-//! A request enters: its keys are listed, room is taken, and its number is drawn last.
+//! How does a request enter? Its keys are listed, room for answers is allocated, and its number is drawn last. Read
+//! next `src/scan_and_poll.rt`.
 ghost use Rattle.std.specs.Prelude.{◌≡◌, ◌≢◌, ◌<◌, ◌≤◌, ◌↔◌, [], length, IfOk, IfErr, vec_capacity, Err};
 ghost use Rattle.lt_table_core.specs.Keys.{IsKeyList};
 ghost use Rattle.lt_table_core.specs.Entered.{IsEntered, IsRefused};
@@ -14,7 +15,7 @@ use lt_words::{Name, Pass, Waker};
 use std::alloc::Global;
 use std::sync::Wait;
 
-/// A request does not enter: its pass comes back, and no number was drawn.
+/// A request that did not enter: its pass comes back, and no number was drawn.
 pub struct EnterRefused {
     pub pass: Pass,
     pub error: EnterError,
@@ -22,18 +23,18 @@ pub struct EnterRefused {
 
 /// A key list, and room for one answer for each key.
 #[derive(Drop)]
-pub(crate) struct Room {
+pub(crate) struct EnterRoom {
     pub keys: Vec<(Key, Access)>,
     pub answers: Vec<Answer>,
     pub ghost roomy: { length keys.items ≤ vec_capacity answers },
     pub ghost free: { length answers.items ≡ 0 },
 }
 
-impl Room {
+impl EnterRoom {
     ghost use Rattle.std.specs.Prelude.{◌≡◌, ◌≢◌, ◌<◌, ◌↔◌, [], length, IfOk};
     ghost use Rattle.lt_table_core.specs.Keys.{IsKeyList};
 
-    fn new(alloc: Global, accesses: &[(Key, Access)]) -> Result<Room, EnterError>
+    fn new(alloc: Global, accesses: &[(Key, Access)]) -> Result<EnterRoom, EnterError>
         ensures keys { IfOk result (λ room. IsKeyList accesses.now room.keys.items) }
         ensures none { (result ≡ Err EnterError.NoKeys) ↔ (accesses.now ≡ []) }
         ensures many { (result ≡ Err EnterError.TooManyKeys) ↔ (256 < length accesses.now) }
@@ -41,14 +42,16 @@ impl Room {
     {
         let keys = key_list(alloc, accesses)?;
         let answers = Vec::with_capacity(alloc, keys.len())?;
-        Ok(Room { keys, answers })
+        Ok(EnterRoom { keys, answers })
     }
 }
 
 impl<N: Name, T: KeyTable, W: Waker> Table<N, T, W> {
-    /// A request of these accesses enters through the pass, which its guard keeps until it leaves. Its number is drawn
-    /// last, so that a refusal for what was given or for memory draws none. It is of the transaction or of none, and joins
-    /// the writers of a key only where they are fewer than `longest`; 0 is no bound.
+    /// Enters a request with these accesses. Its guard keeps the pass until the request leaves.
+    ///
+    /// The number is drawn last, so none is drawn if the accesses are refused or an allocation fails. `txn` is the
+    /// request's transaction, or `None`. The request joins the writers of a key only if they are fewer than
+    /// `longest`; 0 means no bound.
     pub fn enter<R: Wait>(
         &self,
         rt: &R,
@@ -64,7 +67,7 @@ impl<N: Name, T: KeyTable, W: Waker> Table<N, T, W> {
         ensures refused { IfErr result (λ e. IsRefused e.error pass accesses.now self.now.max_requests e.pass) }
     {
         let max_requests = self.config.max_requests;
-        let room = match Room::new(alloc, accesses) {
+        let room = match EnterRoom::new(alloc, accesses) {
             Ok(room) => room,
             Err(error) => return Err(EnterRefused { pass, error }),
         };
@@ -72,7 +75,7 @@ impl<N: Name, T: KeyTable, W: Waker> Table<N, T, W> {
             let error = EnterError::NumbersOut;
             return Err(EnterRefused { pass, error });
         };
-        let Room { keys, answers } = room;
+        let EnterRoom { keys, answers } = room;
         let walk = Walk::at_start(keys, answers, number, txn, ts, longest);
         Ok(Guard::new(pass, walk))
     }

@@ -1,12 +1,17 @@
+//! What does a caller hold while its request is in the table? A guard: the pass that makes the request's calls, and
+//! how far the request is in its key list.
+//!
+//! Read next `src/scan_and_poll.rt` and `src/leaving.rt`, the calls that a guard makes, and `GuardState` in
+//! `specs/Reported.antt`, what contracts see of it.
 ghost use Rattle.std.specs.Prelude.{◌≡◌};
 ghost use mathlib.Core.List.{IsPrefix};
 ghost use Rattle.lt_ids.specs.Ids.{IsNumber};
 ghost use Rattle.lt_words.specs.History.{IsLegalHistory, LetIn};
 ghost use Rattle.lt_words.specs.Row.{SeesMore};
-ghost use Rattle.lt_table_core.specs.Reported.{wait_of};
+ghost use Rattle.lt_table_core.specs.Reported.{current_wait};
 
-use crate::progress::Mode;
 use crate::walk::Walk;
+use crate::walk_progress::Mode;
 use lt_ids::{Access, Key};
 use lt_shard::Answer;
 use lt_words::{Front, Pass};
@@ -14,8 +19,8 @@ use std::marker::Model;
 
 /// A request on its way through its keys, with the pass that makes its calls.
 ///
-/// A guard cannot be let go by the way: it leaves ([`Table::leave`](crate::Table::leave)), is closed with its table, or is
-/// given up by name ([`Guard::abandon`]).
+/// A guard is not `Drop`. It leaves ([`Table::leave`](crate::Table::leave)), is closed with its table, or is given
+/// up by name ([`Guard::abandon`]).
 pub struct Guard {
     pub(crate) pass: Pass,
     pub(crate) walk: Walk,
@@ -24,18 +29,18 @@ pub struct Guard {
 impl Model for Guard {
     ghost use Rattle.std.specs.Prelude.{◌≡◌};
     ghost use Rattle.lt_words.specs.History.{LetIn};
-    ghost use Rattle.lt_table_core.specs.declared.progress.Mode.TheVariants.{Let};
-    ghost use Rattle.lt_table_core.specs.Reported.{GuardState, wait_of};
+    ghost use Rattle.lt_table_core.specs.declared.walk_progress.Mode.TheVariants.{Let};
+    ghost use Rattle.lt_table_core.specs.Reported.{GuardState, current_wait};
 
     ghost Value = { GuardState };
 
     ghost view = { λ g. record { pass = g.pass; walk = g.walk } };
 
-    ghost invariant = { λ g. g.walk.progress.mode ≡ Let → LetIn g.pass.seen g.pass.number (wait_of g.walk) };
+    ghost invariant = { λ g. g.walk.progress.mode ≡ Let → LetIn g.pass.seen g.pass.number (current_wait g.walk) };
 }
 
 impl Guard {
-    /// A request that does not wait.
+    /// The guard of a request that does not wait.
     pub(crate) fn new(pass: Pass, walk: Walk) -> Guard
         requires { walk.progress.mode ≡ Mode.Free }
         ensures { result ≡ record { pass = pass; walk = walk } }
@@ -43,15 +48,15 @@ impl Guard {
         Guard { pass, walk }
     }
 
-    /// The keys of the request in the order in which they are visited: each once, those to write first, in byte
-    /// order, and then those to read alone, in byte order.
+    /// The keys of the request in the order in which they are visited, each once: first those to write, in byte
+    /// order, and then those only to read, in byte order.
     pub fn keys(&self) -> &[(Key, Access)]
         ensures { result.now ≡ self.now.walk.asked.keys }
     {
         self.walk.keys()
     }
 
-    /// The number of the request: 1 to 2^40 - 1.
+    /// The request's number: 1 to 2^40 - 1.
     pub fn number(&self) -> u64
         ensures number { result ≡ self.now.walk.asked.number }
         ensures range { IsNumber result }
@@ -59,29 +64,29 @@ impl Guard {
         self.walk.number()
     }
 
-    /// The answers of the latest scan, also where it was refused in its middle; on a guard that is leaving those of
-    /// its leave steps so far.
+    /// The answers of the latest scan, also if the scan was refused partway. On a guard that is leaving, the
+    /// answers of its leave steps so far.
     pub fn answers(&self) -> &[Answer]
         ensures { result.now ≡ self.now.walk.answers }
     {
         self.walk.answers()
     }
 
-    /// What its pass has seen is legal.
+    /// Ghost call: tells the prover that what the guard's pass has seen is legal.
     pub fn legal(&self)
         ensures { IsLegalHistory self.now.pass.of.shards self.now.pass.seen }
     {
         self.pass.legal();
     }
 
-    /// A request that waited, and has heard that it was let through, was let through in what its pass has seen.
+    /// Ghost call: tells the prover that a request in mode `Let` was let through in what its pass has seen.
     pub fn let_through(&self)
-        ensures { self.now.walk.progress.mode ≡ Mode.Let → LetIn self.now.pass.seen self.now.pass.number (wait_of self.now.walk) }
+        ensures { self.now.walk.progress.mode ≡ Mode.Let → LetIn self.now.pass.seen self.now.pass.number (current_wait self.now.walk) }
     {
         let _ = &self.pass;
     }
 
-    /// What its pass has seen, for another to learn.
+    /// What the guard's pass has seen, for another pass to learn.
     pub fn seen(&self) -> Front
         ensures of { result.of ≡ self.now.pass.of }
         ensures seen { result.seen ≡ self.now.pass.seen }
@@ -90,7 +95,7 @@ impl Guard {
         self.pass.seen()
     }
 
-    /// Afterwards its pass has seen what the front has, too.
+    /// Extends the seen prefix of the guard's pass: afterwards the pass has also seen what the front has.
     pub fn learn(&mut self, front: &Front)
         requires { front.now.of ≡ self.old.pass.of }
         ensures more { SeesMore self.old.pass self.new.pass }
@@ -108,8 +113,8 @@ impl Guard {
         pass
     }
 
-    /// Gives the request and its pass up. Its stands remain in the records of its keys: who comes behind them waits for
-    /// ever.
+    /// Gives up the request and its pass. The request's queue entries and reservations stay in the records of its
+    /// keys: the requests queued after it wait forever.
     pub fn abandon(self) {
         self.into_pass().abandon();
     }

@@ -1,6 +1,6 @@
-//! What can be asked of a running table.
+//! What can a caller ask a running table? The record of a key, and which keys of a shard have one.
 ghost use Rattle.std.specs.Prelude.{◌≡◌, ◌<◌, IfOk, OnErr};
-ghost use Rattle.lt_words.specs.History.{part, record_of, shard_of};
+ghost use Rattle.lt_words.specs.History.{part, key_record, shard_of};
 ghost use Rattle.lt_words.specs.Row.{SeesMore};
 ghost use Rattle.lt_shard.specs.Shards.{AreLockedKeys};
 
@@ -14,9 +14,10 @@ use std::alloc::AllocError;
 use std::sync::Wait;
 
 impl<N: Name, T: KeyTable, W: Waker> Table<N, T, W> {
-    /// How the key stands: who holds its lock and for whom it is reserved, who waits there, in order, and who is the
-    /// distinguished waiter. It is the key's record after the steps of its shard that the pass has then seen. It waits
-    /// for the lock of the shard, under which it copies the record, and changes nothing. It fails where memory is refused.
+    /// The record of the key: the holder of its lock, the request that holds the reservation, the queued requests
+    /// in order, and the distinguished waiter. It is the record after the steps of the key's shard that the pass
+    /// has then seen. Waits for the shard's lock, copies the record while holding it, and changes nothing. Fails if
+    /// an allocation fails.
     pub fn inspect<R: Wait>(
         &self,
         rt: &R,
@@ -24,23 +25,23 @@ impl<N: Name, T: KeyTable, W: Waker> Table<N, T, W> {
         key: &Key,
     ) -> Result<KeyState, AllocError>
         requires pass { pass.old.of ≡ N.of }
-        ensures state { IfOk result (λ state. state ≡ record_of key.now (part (shard_of key.now N.of.shards) pass.new.seen)) }
+        ensures state { IfOk result (λ state. state ≡ key_record key.now (part (shard_of key.now N.of.shards) pass.new.seen)) }
         ensures more { SeesMore pass.old pass.new }
         ensures err { OnErr result (pass.new ≡ pass.old) }
     {
-        let place = self.shard_of(key);
-        let lock = &self.shards[place].lock;
+        let index = self.shard_of(key);
+        let lock = &self.shards[index].lock;
         for _ in rt.forever() {
-            let mut guard = lock.lock(rt);
-            let inside = &mut *guard;
-            if inside.index() == place {
+            let mut locked = lock.lock(rt);
+            let inside = &mut *locked;
+            if inside.index() == index {
                 return inside.inspect(rt, &self.book, pass, key);
             }
         }
         unreachable!()
     }
 
-    /// [`Table::inspect`] through the pass of a guard; the request stays as it is.
+    /// [`Table::inspect`] through the pass of a guard. The request stays as it is.
     pub fn inspect_in<R: Wait>(
         &self,
         rt: &R,
@@ -48,7 +49,7 @@ impl<N: Name, T: KeyTable, W: Waker> Table<N, T, W> {
         key: &Key,
     ) -> Result<KeyState, AllocError>
         requires pass { guard.old.pass.of ≡ N.of }
-        ensures state { IfOk result (λ state. state ≡ record_of key.now (part (shard_of key.now N.of.shards) guard.new.pass.seen)) }
+        ensures state { IfOk result (λ state. state ≡ key_record key.now (part (shard_of key.now N.of.shards) guard.new.pass.seen)) }
         ensures more { SeesMore guard.old.pass guard.new.pass }
         ensures walk { guard.new.walk ≡ guard.old.walk }
         ensures err { OnErr result (guard.new ≡ guard.old) }
@@ -56,11 +57,11 @@ impl<N: Name, T: KeyTable, W: Waker> Table<N, T, W> {
         self.inspect(rt, &mut guard.pass, key)
     }
 
-    /// The keys of the shard that are locked, reserved or waited for, each once, in byte order, after the steps of the shard
-    /// that the pass has then seen. It waits for the lock of the shard, under which it copies the keys, and changes nothing.
-    /// It fails where memory is refused.
+    /// The keys of the shard that are locked, reserved or waited for: each once, in byte order, after the steps of
+    /// the shard that the pass has then seen. Waits for the shard's lock, copies the keys while holding it, and
+    /// changes nothing. Fails if an allocation fails.
     ///
-    /// Each shard has a lock of its own, so keys of different shards are told as of different moments.
+    /// Each shard has a lock of its own, so the keys of different shards are given as of different moments.
     pub fn locked_keys<R: Wait>(
         &self,
         rt: &R,
@@ -75,8 +76,8 @@ impl<N: Name, T: KeyTable, W: Waker> Table<N, T, W> {
     {
         let lock = &self.shards[shard].lock;
         for _ in rt.forever() {
-            let mut guard = lock.lock(rt);
-            let inside = &mut *guard;
+            let mut locked = lock.lock(rt);
+            let inside = &mut *locked;
             if inside.index() == shard {
                 return inside.locked_keys(rt, &self.book, pass);
             }

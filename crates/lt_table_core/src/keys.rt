@@ -1,4 +1,5 @@
-//! The key list of a request.
+//! Which keys does a request visit, and in which order? `IsKeyList` in `specs/Keys.antt` is the definition, and
+//! `key_list` below computes it. Read next `src/entering.rt`.
 ghost use Rattle.std.specs.Prelude.{◌≡◌, ◌≢◌, ◌≤◌, ◌<◌, ◌↔◌, ◌++◌, [], map, length, IfOk, Contains, IsTrue};
 ghost use Rattle.std.specs.List.Sorted.{IsStrictlySortedBy};
 ghost use Rattle.std.specs.Cmp.Lexicographic.{slice_cmp};
@@ -9,19 +10,19 @@ use lt_ids::{Access, Key};
 use std::alloc::{AllocError, Global};
 use thiserror::Error;
 
-/// Why a request does not enter.
+/// Why a request did not enter.
 #[derive(Clone, Copy, Debug, PartialEq, Eq, Drop, Error)]
 pub enum EnterError {
-    /// It names no key.
+    /// The request names no key.
     #[error("a request names at least one key")]
     NoKeys,
-    /// It names more than 256 accesses; a key that is named twice counts twice.
+    /// The request names more than 256 accesses. A key that is named twice counts twice.
     #[error("a request names at most 256 accesses")]
     TooManyKeys,
-    /// There was no memory for its key list and the answers of its scans.
+    /// An allocation failed, for the key list or for the answers of scans.
     #[error("out of memory")]
     Memory,
-    /// As many requests have entered as the table takes.
+    /// As many requests have entered as the table takes: all numbers are drawn.
     #[error("all numbers are drawn")]
     NumbersOut,
 }
@@ -36,7 +37,7 @@ impl From<AllocError> for EnterError {
     }
 }
 
-/// Each of these keys once, in byte order.
+/// Sorts the keys in byte order and removes repeats.
 fn distinct(mut keys: Vec<Key>) -> Result<Vec<Key>, AllocError>
     ensures { IfOk result (λ sorted. AreTheKeys sorted.items (Among keys.items)) }
 {
@@ -45,7 +46,7 @@ fn distinct(mut keys: Vec<Key>) -> Result<Vec<Key>, AllocError>
     Ok(keys)
 }
 
-/// The keys that are to be written.
+/// The keys that some access writes.
 fn written(alloc: Global, accesses: &[(Key, Access)]) -> Result<Vec<Key>, AllocError>
     ensures { IfOk result (λ keys. AreTheKeys keys.items (λ k. Contains accesses.now (k, Access.Write))) }
 {
@@ -58,7 +59,7 @@ fn written(alloc: Global, accesses: &[(Key, Access)]) -> Result<Vec<Key>, AllocE
     distinct(keys)
 }
 
-/// Whether the key is among these, which are in order.
+/// Whether the key is among these, which are sorted.
 fn is_among(keys: &[Key], key: &Key) -> bool
     requires { IsStrictlySortedBy (slice_cmp nat_cmp) keys.now }
     ensures { IsTrue result ↔ Contains keys.now key.now }
@@ -66,7 +67,7 @@ fn is_among(keys: &[Key], key: &Key) -> bool
     keys.binary_search(key).is_ok()
 }
 
-/// Whether the access is to read, and the key is not among those that are written.
+/// Whether the access reads and the key is not among those to write.
 fn is_only_read(writes: &[Key], key: &Key, access: Access) -> bool
     requires { IsStrictlySortedBy (slice_cmp nat_cmp) writes.now }
     ensures { IsTrue result ↔ IsOnlyRead writes.now key.now access }
@@ -74,7 +75,7 @@ fn is_only_read(writes: &[Key], key: &Key, access: Access) -> bool
     access == Access::Read && !is_among(writes, key)
 }
 
-/// The keys that are to be read alone.
+/// The keys that accesses only read.
 fn only_read(
     alloc: Global,
     accesses: &[(Key, Access)],
@@ -92,7 +93,7 @@ fn only_read(
     distinct(keys)
 }
 
-/// Adds the keys, each with this access.
+/// Appends the keys, each with this access.
 fn add_all(list: &mut Vec<(Key, Access)>, keys: Vec<Key>, access: Access) -> Result<(), AllocError>
     ensures { IfOk result (λ _. list.new.items ≡ list.old.items ++ map (λ k. (k, access)) keys.items) }
 {
@@ -102,8 +103,8 @@ fn add_all(list: &mut Vec<(Key, Access)>, keys: Vec<Key>, access: Access) -> Res
     Ok(())
 }
 
-/// The keys that a request with these accesses visits: each once, to write it if any of its accesses is to write;
-/// those to write first, in byte order, and then the others, in byte order.
+/// The keys that a request with these accesses visits, each once. A key is visited as a write if any of its
+/// accesses writes. Keys to write come first, in byte order, and then the others, in byte order.
 pub fn key_list(alloc: Global, accesses: &[(Key, Access)]) -> Result<Vec<(Key, Access)>, EnterError>
     ensures keys { IfOk result (λ keys. IsKeyList accesses.now keys.items) }
     ensures none { (result ≡ Err EnterError.NoKeys) ↔ (accesses.now ≡ []) }

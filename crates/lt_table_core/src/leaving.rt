@@ -1,31 +1,31 @@
-//! Leaves.
+//! How does a request leave? It makes one leave step at each key of its list.
 ghost use Rattle.std.specs.Prelude.{◌≡◌, ◌≢◌, Err, IfOk, IfErr, OnOk, OnErr, IsSome, None};
 ghost use Rattle.lt_table_core.specs.Machine.{next_leave, leaving};
 ghost use Rattle.lt_table_core.specs.Closed.{IsLeave};
 ghost use Rattle.lt_table_core.specs.Reported.{IsLeavingFrom, PassStays, GuardStays};
 
 use crate::guard::Guard;
-use crate::progress::Mode;
 use crate::table::Table;
+use crate::walk_progress::Mode;
 use lt_plain::KeyTable;
 use lt_shard::{Answer, StepError};
 use lt_words::{Keeping, Name, Pass, Waker};
 use std::sync::Wait;
 
-/// All keys are left: the pass, and an answer for each key, in the guard's order.
+/// A request that has left every key: its pass, and an answer for each key, in the guard's order.
 pub struct Left {
     pub pass: Pass,
     pub answers: Vec<Answer>,
 }
 
-/// A leave was refused: the guard is leaving, and stands at the refused key. A further leave goes on there.
+/// A leave that was refused. The guard is leaving and stays at the refused key; another leave continues there.
 pub struct LeaveStopped {
     pub guard: Guard,
     pub error: StepError,
 }
 
 impl Guard {
-    /// Its request leaves, or goes on to leave.
+    /// Begins the request's leave, or continues it.
     fn begin_leave(&mut self)
         ensures { self.new ≡ record self.old { walk = leaving self.old.walk } }
     {
@@ -61,8 +61,8 @@ impl<N: Name, T: KeyTable, W: Waker> Table<N, T, W> {
         Ok(())
     }
 
-    /// Gives up the request's stands with one leave step for each key, in the guard's order; a guard that is leaving
-    /// goes on where it was refused.
+    /// Gives up the request's queue entries and reservations, with one leave step for each key in the guard's
+    /// order. A guard that is already leaving continues at the key whose leave was refused.
     pub fn leave<R: Wait>(&self, rt: &R, mut guard: Guard) -> Result<Left, LeaveStopped>
         requires pass { guard.pass.of ≡ N.of }
         ensures leave { IsLeave guard result }

@@ -1,12 +1,14 @@
-//! The lock table over any table of one key's rules.
+//! How does the lock table work, over any table of one key's rules?
 //!
-//! `lt_table` is what a store uses: it gives all of this crate, and opens a table over linked queues (`lt_lock`). Its first page
-//! says how requests enter, wait and leave, and what is promised. This crate has the table itself. It asks of its shards'
-//! tables no more than that they are a [`KeyTable`](lt_plain::KeyTable), so a change in the linked queues changes nothing here.
+//! A store uses `lt_table`, which re-exports everything here and opens a table over linked queues (`lt_lock`). Its
+//! first page says how requests enter, wait and leave, and what is promised. This crate has the table itself. It
+//! asks only that the table of each shard is a [`KeyTable`](lt_plain::KeyTable), so a change in the linked queues
+//! changes nothing here.
 //!
-//! Look first at `specs/Machine.antt`, the state of a request and what each call makes of it, `specs/Reported.antt`, what a
-//! call tells of its steps, and `specs/Closed.antt`, what is left at the end. `docs/RULES.md`, "A request", has the rules in
-//! words, and `docs/PROOFS.md` each promise with the contract that carries it.
+//! Read next the definitions: `specs/Machine.antt` (the state of a request, and what each call makes of it),
+//! `specs/Reported.antt` (what a call tells of its steps) and `specs/Closed.antt` (what is left when a table is
+//! closed). `docs/RULES.md`, "A request", has the rules in words. `docs/PROOFS.md` lists each promise with the
+//! contract that carries it.
 #![tactic(auto)]
 
 mod closing;
@@ -19,13 +21,13 @@ pub mod laws;
 mod leaving;
 mod locking;
 mod opening;
-mod progress;
-mod scan;
-mod scanning;
+mod scan_and_poll;
+mod scan_results;
 mod table;
 mod taking;
 mod waiting;
 mod walk;
+mod walk_progress;
 
 pub use closing::{CloseError, CloseRefused, Histories, Rests, abandon_guards};
 pub use config::{Config, PrepareError, Ready, prepare, prepare_with};
@@ -36,7 +38,7 @@ pub use leaving::{LeaveStopped, Left};
 pub use lt_shard::{Answer, KeyState, Rest, StepError};
 pub use lt_words::{Keeping, Waker};
 pub use opening::{empty_tables, open_waking_with, open_with};
-pub use progress::{Mode, Progress};
-pub use scan::{Poll, Scan, ScanError};
+pub use scan_results::{Poll, Scan, ScanError};
 pub use table::Table;
 pub use taking::{Gone, Reader};
+pub use walk_progress::{Mode, Progress};

@@ -1,4 +1,6 @@
-//! The calls on the locks of a transaction, and looks.
+//! How does a transaction take, raise and free its locks, and how does a request look at what it waits for? The
+//! calls of a transaction come in two forms: by a pass, and (named `.._in`) by the pass of a guard. A look is by a
+//! guard.
 ghost use Rattle.std.specs.Prelude.{◌≡◌, ◌≢◌, ◌<◌, ℕ, Err, IfOk, OnErr, List, Some, length, slice_get};
 ghost use Rattle.std.specs.Option.{option_map};
 ghost use Rattle.lt_entry.specs.Ranges.{NamesNumber};
@@ -13,10 +15,11 @@ use lt_shard::{Answer, StepError};
 use lt_words::{Keeping, Name, Pass, Waker};
 use std::sync::Wait;
 
-/// Each call makes one key step under the lock of the key's shard. It is refused where the shard holds as many steps as it
-/// may, which one that records none never does, or for want of memory; then nothing changed.
+/// Each call makes one key step under the lock of the key's shard. It is refused if the shard holds as many steps
+/// as it may (a shard that records none never does), or if an allocation fails. After a refusal nothing has
+/// changed.
 impl<N: Name, T: KeyTable, W: Waker> Table<N, T, W> {
-    /// The transaction takes the lock of the key, or raises the timestamp of its lock.
+    /// The transaction takes the lock of the key, or raises the timestamp of the lock that it holds.
     pub fn acquire<R: Wait>(
         &self,
         rt: &R,
@@ -33,7 +36,7 @@ impl<N: Name, T: KeyTable, W: Waker> Table<N, T, W> {
         self.step(rt, pass, key, &Call::Acquire { txn, ts })
     }
 
-    /// The transaction raises the timestamp of its lock.
+    /// The transaction raises the timestamp of the lock that it holds.
     pub fn update<R: Wait>(
         &self,
         rt: &R,
@@ -50,7 +53,7 @@ impl<N: Name, T: KeyTable, W: Waker> Table<N, T, W> {
         self.step(rt, pass, key, &Call::Update { txn, ts })
     }
 
-    /// The transaction frees its lock.
+    /// The transaction frees the lock that it holds.
     pub fn finish<R: Wait>(
         &self,
         rt: &R,
@@ -66,7 +69,7 @@ impl<N: Name, T: KeyTable, W: Waker> Table<N, T, W> {
         self.step(rt, pass, key, &Call::Finish { txn })
     }
 
-    /// Makes the call at the key through the guard's pass; the request stays as it is.
+    /// Makes the call at the key through the guard's pass. The request stays as it is.
     fn step_in<R: Wait>(
         &self,
         rt: &R,
@@ -137,8 +140,8 @@ impl<N: Name, T: KeyTable, W: Waker> Table<N, T, W> {
         self.step_in(rt, guard, key, &Call::Finish { txn })
     }
 
-    /// How the request stands at the key of this place in its list, from 0. A look is a step as well, and changes no
-    /// record.
+    /// What the request finds at the key with this index in its list, from 0. A look is a key step too; it changes
+    /// no record.
     pub fn look<R: Wait>(
         &self,
         rt: &R,

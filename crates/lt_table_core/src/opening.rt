@@ -1,4 +1,6 @@
-//! A table is opened.
+//! How is a table opened over a prepared book and one empty table for each shard?
+//!
+//! `lt_table` calls `open_with` and `open_waking_with` with linked tables. Read next `src/table.rt`.
 ghost use Rattle.std.specs.Prelude.{◌≡◌, ◌≤◌, ◌^◌, IfOk, length};
 ghost use Rattle.std.specs.List.{All};
 ghost use Rattle.std.specs.FinMap as finmap;
@@ -12,7 +14,7 @@ use lt_shard::Shard;
 use lt_words::{Book, Name, Pass, Waker, abandon_all};
 use std::alloc::{AllocError, Global};
 
-/// The shards over these tables, in order, each of which may hold so many steps.
+/// The shards over these tables, in order. Each may hold `max_steps` steps.
 fn shards_over<N: Name, T: KeyTable + Drop>(
     alloc: Global,
     book: &Book,
@@ -49,7 +51,7 @@ fn slots_of<N: Name, T: KeyTable + Drop>(
     Ok(slots)
 }
 
-/// The shards over these tables, which may hold so many steps, each behind a lock of its own.
+/// The shards over these tables, each behind a lock of its own. Each may hold `max_steps` steps.
 fn slots_over<N: Name, T: KeyTable + Drop>(
     alloc: Global,
     book: &Book,
@@ -66,9 +68,9 @@ fn slots_over<N: Name, T: KeyTable + Drop>(
     slots_of(alloc, shards_over(alloc, book, tables, max_steps)?)
 }
 
-/// Opens the table of a book over these tables, which are empty, one for each shard, in order. Its passes have seen
-/// nothing and made no step. `N` names the book that was prepared. Where memory is refused, the passes are given up with
-/// the book.
+/// Opens the table of a prepared book over these tables: one for each shard, in order, all of them empty. The
+/// passes have seen nothing and made no step. `N` names the book that was prepared. If an allocation fails, the
+/// passes are given up with the book.
 pub fn open_with<N: Name, T: KeyTable + Drop>(
     alloc: Global,
     ready: Ready,
@@ -99,14 +101,14 @@ pub fn open_with<N: Name, T: KeyTable + Drop>(
     Ok((table, passes))
 }
 
-/// The passes note each let, for a waker. Where memory is refused, they are given up.
+/// Lets each pass note every let, for a waker. If an allocation fails, the passes are given up.
 fn noting_each(passes: Vec<Pass>) -> Result<Vec<Pass>, AllocError>
     ensures { IfOk result (λ noting. noting.items ≡ passes.items) }
 {
     let mut noting = passes;
     let room = noting.len();
-    for place in 0..noting.len() {
-        if noting[place].note_each_let(room).is_err() {
+    for index in 0..noting.len() {
+        if noting[index].note_each_let(room).is_err() {
             abandon_all(noting);
             return Err(AllocError);
         }
@@ -114,7 +116,7 @@ fn noting_each(passes: Vec<Pass>) -> Result<Vec<Pass>, AllocError>
     Ok(noting)
 }
 
-/// [`open_with`], with a waker that is told of each let. Each pass takes room for a let of each pass.
+/// [`open_with`], with a waker that is called for each let. Each pass allocates room for one let of each pass.
 pub fn open_waking_with<N: Name, T: KeyTable + Drop, W: Waker + Drop>(
     alloc: Global,
     ready: Ready,
@@ -152,7 +154,7 @@ impl<N: Name, T: KeyTable> Table<N, T> {
     }
 }
 
-/// So many empty tables, each as `make` gives it, to open a table over.
+/// Makes `count` empty tables, each by `make`, over which a table can be opened.
 pub fn empty_tables<T: KeyTable + Drop, F: Fn() -> T>(
     alloc: Global,
     count: usize,

@@ -1,3 +1,4 @@
+//! What is a table, and how does a call make one key step? Read next `src/scan_and_poll.rt`.
 ghost use Rattle.std.specs.Prelude.{◌≡◌, ◌≢◌, ◌<◌, IfOk, OnErr, Err};
 ghost use Rattle.lt_entry.specs.Ranges.{NamesNumber};
 ghost use Rattle.lt_words.specs.History.{shard_of};
@@ -11,7 +12,7 @@ use lt_words::{Book, Keeping, Name, Pass, Waker, shard_of};
 use std::marker::Model;
 use std::sync::{Mutex, Wait};
 
-/// A shard behind its lock. What follows it keeps the lock and the hot fields of the next shard on other cache lines.
+/// A shard behind its lock. The padding keeps the lock and the hot fields of the next shard on other cache lines.
 #[derive(Drop)]
 pub(crate) struct Slot<N: Name, T: KeyTable> {
     pub lock: Mutex<Shard<N, T>>,
@@ -32,8 +33,8 @@ impl<N: Name, T: KeyTable> Slot<N, T> {
     }
 }
 
-/// A lock table that threads share. `N` names the book that its words are of, `T` keeps the keys of a shard, and `W` is told
-/// of each let.
+/// A lock table that threads share. `N` names the book with the table's words, `T` keeps the records of a shard's
+/// keys, and `W` is called for each let.
 #[derive(Drop)]
 pub struct Table<N: Name, T: KeyTable, W: Waker = ()> {
     pub(crate) config: Config,
@@ -63,8 +64,8 @@ impl<N: Name, T: KeyTable, W: Waker> Table<N, T, W> {
         shard_of(key, self.shards.len())
     }
 
-    /// Makes the call at the key under the lock of the key's shard. The type of a lock does not tell which shard is
-    /// behind it; where it is another, which nobody makes, it locks again.
+    /// Makes the call at the key under the lock of the key's shard. The type of a lock does not tell which shard it
+    /// holds. If it is another one, which never happens in a table that was opened, the call locks again.
     pub(crate) fn step<R: Wait>(
         &self,
         rt: &R,
@@ -78,15 +79,15 @@ impl<N: Name, T: KeyTable, W: Waker> Table<N, T, W> {
         ensures err { OnErr result (pass.new ≡ pass.old) }
         ensures never_full { N.of.keeping ≡ Keeping.Unrecorded → result ≢ Err StepError.HistoryFull }
     {
-        let place = self.shard_of(key);
-        let lock = &self.shards[place].lock;
+        let index = self.shard_of(key);
+        let lock = &self.shards[index].lock;
         for _ in rt.forever() {
-            let mut guard = lock.lock(rt);
-            let inside = &mut *guard;
-            if inside.index() == place {
+            let mut locked = lock.lock(rt);
+            let inside = &mut *locked;
+            if inside.index() == index {
                 let answered = inside.step(rt, &self.book, pass, key, call);
-                // Who is woken would else meet the lock.
-                drop(guard);
+                // Release the lock first, so that the threads that are woken do not run into it.
+                drop(locked);
                 self.book.wake(pass, &self.waker);
                 return answered;
             }

@@ -1,4 +1,4 @@
-//! The history of a table is taken out while the table runs.
+//! How are a table's steps taken out while it runs? Read next `specs/Taken.antt`.
 ghost use Rattle.std.specs.Prelude.{◌≡◌, ◌≢◌, ◌+◌, ◌<◌, [], length, OnErr, OnOk};
 ghost use Rattle.lt_words.specs.Row.{SeesMore};
 ghost use Rattle.lt_table_core.specs.Taken.{IsTaken};
@@ -10,25 +10,26 @@ use lt_words::{Keeping, Name, Pass, Waker};
 use std::sync::Wait;
 use thiserror::Error;
 
-/// A reader of one shard's history. `next` is how many of the shard's steps it was given: the first ones.
+/// A reader of one shard's history. `next` is how many of the shard's steps the reader was given: the first ones.
 #[derive(Clone, Copy, Debug, PartialEq, Eq)]
 pub struct Reader {
     pub shard: usize,
     pub next: u64,
 }
 
-/// Steps of the shard that the reader was not given were taken out by another, or not stored: so many are gone.
+/// Steps of the shard that the reader was not given are gone: another call took them out, or they were never
+/// stored. The number is how many of the shard's first steps are gone.
 #[derive(Clone, Copy, Debug, PartialEq, Eq, Drop, Error)]
 #[error("so many steps of the shard are gone: {0}")]
 pub struct Gone(pub u64);
 
 impl<N: Name, T: KeyTable, W: Waker> Table<N, T, W> {
-    /// Takes out the steps that the shard holds, of a table that does not keep them whole, under the shard's lock: they and
-    /// the room of `steps`, which is empty, change places, with no copy and no memory, and the next steps go into that
-    /// room. The answer is how many steps were made of the shard before them; they are all its steps from there on of what
-    /// the pass has then seen.
+    /// Takes out the steps that the shard holds, under the shard's lock, and returns how many steps of the shard
+    /// were made before them. The table must not keep its steps whole. The held steps and the room of `steps`,
+    /// which is empty, change places: nothing is copied, nothing is allocated, and the next steps go into that
+    /// room. The steps taken out are all of the shard's steps from there on in what the pass has then seen.
     ///
-    /// Where there is room for `max_steps` steps in what is handed in, no step until the next take grows it.
+    /// If `steps` has room for `max_steps` steps, no step before the next take has to grow it.
     pub fn take_history<R: Wait>(
         &self,
         rt: &R,
@@ -45,8 +46,8 @@ impl<N: Name, T: KeyTable, W: Waker> Table<N, T, W> {
     {
         let lock = &self.shards[shard].lock;
         for _ in rt.forever() {
-            let mut guard = lock.lock(rt);
-            let inside = &mut *guard;
+            let mut locked = lock.lock(rt);
+            let inside = &mut *locked;
             if inside.index() == shard {
                 return inside.take(rt, &self.book, pass, steps);
             }
@@ -54,10 +55,10 @@ impl<N: Name, T: KeyTable, W: Waker> Table<N, T, W> {
         unreachable!()
     }
 
-    /// Takes out the steps that the reader was not given yet: all from `next` on of what the pass has then seen. So what a
-    /// reader was given, one piece after the other, is the shard's history from its first step on, without a gap, and no
-    /// step twice. `steps` is empty, and its room goes to the shard, as in [`Table::take_history`]. On an `Err` nothing
-    /// changed.
+    /// Takes out the steps that the reader was not given yet: all from `next` on in what the pass has then seen. So
+    /// the pieces that a reader is given, one after the other, are the shard's history from its first step on,
+    /// without a gap and with no step twice. `steps` is empty, and its room goes to the shard, as in
+    /// [`Table::take_history`]. On an `Err` nothing changed.
     pub fn take_next<R: Wait>(
         &self,
         rt: &R,
@@ -74,12 +75,12 @@ impl<N: Name, T: KeyTable, W: Waker> Table<N, T, W> {
         ensures more { SeesMore pass.old pass.new }
         ensures err { OnErr result ((reader.new ≡ reader.old) × (pass.new ≡ pass.old) × (steps.new ≡ steps.old)) }
     {
-        let place = reader.shard;
-        let lock = &self.shards[place].lock;
+        let index = reader.shard;
+        let lock = &self.shards[index].lock;
         for _ in rt.forever() {
-            let mut guard = lock.lock(rt);
-            let inside = &mut *guard;
-            if inside.index() == place {
+            let mut locked = lock.lock(rt);
+            let inside = &mut *locked;
+            if inside.index() == index {
                 if inside.before() != reader.next {
                     return Err(Gone(inside.before()));
                 }

@@ -1,10 +1,11 @@
-//! Waits that sleep.
+//! How does a request's thread sleep until the request is let through? `src/parking.rt` of `lt_words` has the word
+//! on which it sleeps. `docs/ARCHITECTURE.md`, "Waiting", has a picture.
 ghost use Rattle.std.specs.Prelude.{◌≡◌, ◌≢◌};
 ghost use Rattle.lt_words.specs.History.{LetIn};
-ghost use Rattle.lt_table_core.specs.Reported.{IsPoll, GuardStays, wait_of};
+ghost use Rattle.lt_table_core.specs.Reported.{IsPoll, GuardStays, current_wait};
 
 use crate::guard::Guard;
-use crate::scan::Poll;
+use crate::scan_results::Poll;
 use crate::table::Table;
 use lt_plain::KeyTable;
 use lt_words::{Name, Waker};
@@ -12,11 +13,11 @@ use std::hint;
 use std::sync::Wait;
 use std::time::{Clock, Duration, Instant};
 
-/// How often a wait polls before it sleeps for the first time. To sleep and be woken costs some microseconds, and a let
-/// often comes sooner (`docs/PERFORMANCE.md`, "What a wait costs").
+/// How often a wait polls before it first sleeps. Sleeping and waking costs some microseconds, and a let often
+/// comes sooner (`docs/PERFORMANCE.md`, "What a wait costs").
 const POLLS: u32 = 64;
 
-/// How long it is until then; none where the time is up, or the clock cannot be read.
+/// The time left until the deadline. `None` if it has passed or the clock cannot be read.
 fn time_left(clock: &impl Clock, deadline: Instant) -> Option<Duration> {
     let now = Instant::now(clock).ok()?;
     let left = deadline.checked_duration_since(now)?;
@@ -24,11 +25,11 @@ fn time_left(clock: &impl Clock, deadline: Instant) -> Option<Duration> {
 }
 
 impl<N: Name, T: KeyTable, W: Waker> Table<N, T, W> {
-    /// Polls a few times.
+    /// Polls up to `POLLS` more times after the first poll, while the request waits.
     fn poll_some(&self, guard: &mut Guard) -> Poll
         requires pass { guard.old.pass.of ≡ N.of }
         ensures poll { IsPoll guard.old guard.new result }
-        ensures through { result ≡ Poll.Through → LetIn guard.new.pass.seen guard.new.pass.number (wait_of guard.new.walk) }
+        ensures through { result ≡ Poll.Through → LetIn guard.new.pass.seen guard.new.pass.number (current_wait guard.new.walk) }
     {
         let mut found = self.poll(guard);
         for _ in 0..POLLS {
@@ -41,11 +42,11 @@ impl<N: Name, T: KeyTable, W: Waker> Table<N, T, W> {
         found
     }
 
-    /// Polls, and sleeps where the request waits, until it may have been let through.
+    /// Polls once. If the request waits, sleeps until it may have been let through.
     fn poll_or_sleep<R: Wait>(&self, rt: &R, guard: &mut Guard) -> Poll
         requires pass { guard.old.pass.of ≡ N.of }
         ensures poll { IsPoll guard.old guard.new result }
-        ensures through { result ≡ Poll.Through → LetIn guard.new.pass.seen guard.new.pass.number (wait_of guard.new.walk) }
+        ensures through { result ≡ Poll.Through → LetIn guard.new.pass.seen guard.new.pass.number (current_wait guard.new.walk) }
     {
         self.book.prepare(&guard.pass);
         let found = self.poll(guard);
@@ -57,11 +58,11 @@ impl<N: Name, T: KeyTable, W: Waker> Table<N, T, W> {
         found
     }
 
-    /// The same, and sleeps for no longer than this.
+    /// `poll_or_sleep`, sleeping for at most `time`.
     fn poll_or_sleep_for<R: Wait>(&self, rt: &R, guard: &mut Guard, time: Duration) -> Poll
         requires pass { guard.old.pass.of ≡ N.of }
         ensures poll { IsPoll guard.old guard.new result }
-        ensures through { result ≡ Poll.Through → LetIn guard.new.pass.seen guard.new.pass.number (wait_of guard.new.walk) }
+        ensures through { result ≡ Poll.Through → LetIn guard.new.pass.seen guard.new.pass.number (current_wait guard.new.walk) }
     {
         self.book.prepare(&guard.pass);
         let found = self.poll(guard);
@@ -73,18 +74,18 @@ impl<N: Name, T: KeyTable, W: Waker> Table<N, T, W> {
         found
     }
 
-    /// Polls a few times, and then sleeps until the request is let through. It answers `Through`, or `Idle` if the request
-    /// does not wait, and never `Waiting`. To the proofs it is one [`Table::poll`] with that answer. It holds no lock and
-    /// allocates nothing.
+    /// Polls a few times, and then sleeps until the request is let through. Answers `Through`, or `Idle` if the
+    /// request does not wait; never `Waiting`. To the proofs it is one [`Table::poll`] with that answer. It holds
+    /// no lock and allocates nothing.
     ///
-    /// No wake-up is lost: a wait says that it will sleep, polls once more, and then sleeps; a step shows its lets, and then
-    /// looks who has said so. The steps of both are sequentially consistent, so the poll hears the let or the step sees the
-    /// sleeper.
+    /// No wake-up is lost. A wait announces that it will sleep, polls once more, and then sleeps. A step shows its
+    /// lets, and then checks which of their callers have announced that they will sleep. The operations of both are
+    /// sequentially consistent, so the poll sees the let or the step sees the sleeper.
     pub fn wait<R: Wait>(&self, rt: &R, guard: &mut Guard) -> Poll
         requires pass { guard.old.pass.of ≡ N.of }
         ensures poll { IsPoll guard.old guard.new result }
         ensures ends { result ≢ Poll.Waiting }
-        ensures through { result ≡ Poll.Through → LetIn guard.new.pass.seen guard.new.pass.number (wait_of guard.new.walk) }
+        ensures through { result ≡ Poll.Through → LetIn guard.new.pass.seen guard.new.pass.number (current_wait guard.new.walk) }
         ensures stays { GuardStays guard.old guard.new }
     {
         let mut found = self.poll_some(guard);
@@ -97,12 +98,12 @@ impl<N: Name, T: KeyTable, W: Waker> Table<N, T, W> {
         unreachable!()
     }
 
-    /// [`Table::wait`] up to a deadline of the monotonic clock. From then on, and if the clock cannot be read, it answers what
-    /// a last poll finds, which may be `Waiting`.
+    /// [`Table::wait`] up to a deadline of the monotonic clock. After the deadline, or if the clock cannot be read,
+    /// answers what a last poll finds, which may be `Waiting`.
     pub fn wait_until<R: Wait + Clock>(&self, rt: &R, guard: &mut Guard, deadline: Instant) -> Poll
         requires pass { guard.old.pass.of ≡ N.of }
         ensures poll { IsPoll guard.old guard.new result }
-        ensures through { result ≡ Poll.Through → LetIn guard.new.pass.seen guard.new.pass.number (wait_of guard.new.walk) }
+        ensures through { result ≡ Poll.Through → LetIn guard.new.pass.seen guard.new.pass.number (current_wait guard.new.walk) }
         ensures stays { GuardStays guard.old guard.new }
     {
         let mut found = self.poll_some(guard);

@@ -1,20 +1,25 @@
+//! How does a request move through its key list? A `Walk` has what the request asked for, how far it is, and the
+//! answers of its latest scan or leave; each function here is one event.
+//!
+//! Read first `specs/Machine.antt`. The decisions are in `src/walk_progress.rt`; `src/scan_and_poll.rt` and
+//! `src/leaving.rt` make the steps in between.
 ghost use Rattle.std.specs.Prelude.{◌≡◌, ◌≢◌, ◌+◌, ◌<◌, ◌≤◌, ◌^◌, ◌∷◌, ◌++◌, [], true, false, length, Err, IfOk, IfErr, OnErr, Some, slice_get, nat_lt, vec_len, vec_capacity};
 ghost use Rattle.std.specs.Option.{option_map};
 ghost use Rattle.lt_ids.specs.Ids.{IsNumber, IsWaitNumber};
-ghost use Rattle.lt_table_core.specs.Machine.{heard, scan_start, leave_start, may_visit, met, passed, scan_end, polled, visit_call, leave_answers};
+ghost use Rattle.lt_table_core.specs.Machine.{after_status, scan_start, leave_start, may_visit, met, passed, scan_end, polled, visit_call, leave_answers};
 
-use crate::progress::{
-    Mode, Progress, heard, leave_start, may_visit, met_as, passed, polled, scan_end, scan_start,
-    start,
+use crate::scan_results::{Poll, Scan, ScanError};
+use crate::walk_progress::{
+    Mode, Progress, after_status, leave_start, may_visit, met_as, passed, polled, scan_end,
+    scan_start, start,
 };
-use crate::scan::{Poll, Scan, ScanError};
 use lt_ids::{Access, Key, Ticket, Timestamp, TxnId};
 use lt_plain::{Call, Reply};
 use lt_shard::Answer;
 use std::marker::Model;
 
-/// A request on its way through its key list. Contracts see what it asked for, how far it is, and the answers of its
-/// latest scan or leave.
+/// A request on its way through its key list. Contracts see what it asked for, how far it is, and the answers of
+/// its latest scan or leave.
 #[derive(Drop)]
 pub(crate) struct Walk {
     keys: Vec<(Key, Access)>,
@@ -23,7 +28,7 @@ pub(crate) struct Walk {
     ts: Timestamp,
     longest: u32,
     progress: Progress,
-    /// With room for one answer for each key.
+    /// Has room for one answer for each key.
     answers: Vec<Answer>,
 }
 
@@ -31,19 +36,19 @@ impl Model for Walk {
     ghost use Rattle.std.specs.Prelude.{◌≤◌, ◌<◌, ◌^◌, length, vec_capacity};
     ghost use Rattle.lt_ids.specs.Ids.{IsNumber};
     ghost use Rattle.lt_table_core.specs.Machine.{Asked, WalkState};
-    ghost use Rattle.lt_table_core.specs.Sound.{IsSound};
+    ghost use Rattle.lt_table_core.specs.Sound.{IsSoundProgress};
 
     ghost Value = { WalkState };
 
     ghost view = { λ g. record { asked = record { keys = g.keys.items; number = g.number; txn = g.txn; ts = g.ts; longest = g.longest }; progress = g.progress; answers = g.answers.items } };
 
-    ghost invariant = { λ g. IsNumber g.number × (length g.keys.items < 2 ^ 63) × (length g.keys.items ≤ vec_capacity g.answers) × IsSound (length g.keys.items) g.progress (length g.answers.items) };
+    ghost invariant = { λ g. IsNumber g.number × (length g.keys.items < 2 ^ 63) × (length g.keys.items ≤ vec_capacity g.answers) × IsSoundProgress (length g.keys.items) g.progress (length g.answers.items) };
 }
 
 impl Walk {
-    ghost use Rattle.lt_table_core.specs.Sound.{IsSound};
+    ghost use Rattle.lt_table_core.specs.Sound.{IsSoundProgress};
 
-    /// At the list's start, with this room for answers.
+    /// A request at the start of its list. `answers` is empty and has room for one answer for each key.
     pub(crate) fn at_start(
         keys: Vec<(Key, Access)>,
         answers: Vec<Answer>,
@@ -56,7 +61,7 @@ impl Walk {
         requires empty { answers.items ≡ [] }
         requires room { length keys.items ≤ vec_capacity answers }
         ensures asked { result.asked ≡ record { keys = keys.items; number = number; txn = txn; ts = ts; longest = longest } }
-        ensures progress { result.progress ≡ record { place = 0; waits = 0; waited = false; mode = Mode.Free } }
+        ensures progress { result.progress ≡ record { index = 0; waits = 0; waited = false; mode = Mode.Free } }
         ensures answers { result.answers ≡ [] }
     {
         Walk {
@@ -91,25 +96,25 @@ impl Walk {
         self.answers.as_slice()
     }
 
-    /// What is true of each guard.
+    /// Ghost call: tells the prover what holds of every walk.
     pub(crate) fn sound(&self)
         ensures number { IsNumber self.now.asked.number }
-        ensures sound { IsSound (length self.now.asked.keys) self.now.progress (length self.now.answers) }
+        ensures sound { IsSoundProgress (length self.now.asked.keys) self.now.progress (length self.now.answers) }
     {
         let _ = &self.keys;
     }
 
-    /// A scan begins after the status word was read, or is refused.
+    /// Begins a scan, given the status word that was read, or refuses it.
     pub(crate) fn begin_scan(&mut self, word: u64) -> Result<(), ScanError>
-        ensures ok { IfOk result (λ _. scan_start (heard self.old.asked.number self.old.progress word) ≡ Ok self.new.progress) }
+        ensures ok { IfOk result (λ _. scan_start (after_status self.old.asked.number self.old.progress word) ≡ Ok self.new.progress) }
         ensures cleared { IfOk result (λ _. self.new.answers ≡ []) }
         ensures asked { self.new.asked ≡ self.old.asked }
         ensures free { IfOk result (λ _. self.new.progress.mode ≡ Mode.Free) }
-        ensures refused { IfErr result (λ e. scan_start (heard self.old.asked.number self.old.progress word) ≡ Err e) }
+        ensures refused { IfErr result (λ e. scan_start (after_status self.old.asked.number self.old.progress word) ≡ Err e) }
         ensures same { OnErr result (self.new ≡ self.old) }
         ensures never_full { result ≢ Err ScanError.HistoryFull }
     {
-        let progress = scan_start(heard(self.number, self.progress, word))?;
+        let progress = scan_start(after_status(self.number, self.progress, word))?;
         self.progress = progress;
         self.answers.clear();
         Ok(())
@@ -122,7 +127,7 @@ impl Walk {
         may_visit(self.keys.len(), max_waits, self.progress)
     }
 
-    /// The key at a place of the list.
+    /// The key at an index of the list.
     pub(crate) fn key_at(&self, index: usize) -> &Key
         requires { index < length self.now.asked.keys }
         ensures { option_map (λ k. k.0) (slice_get self.now.asked.keys index) ≡ Some result.now }
@@ -132,33 +137,33 @@ impl Walk {
 
     /// The key that comes next.
     pub(crate) fn key(&self) -> &Key
-        requires { self.now.progress.place < length self.now.asked.keys }
-        ensures { option_map (λ k. k.0) (slice_get self.now.asked.keys self.now.progress.place) ≡ Some result.now }
+        requires { self.now.progress.index < length self.now.asked.keys }
+        ensures { option_map (λ k. k.0) (slice_get self.now.asked.keys self.now.progress.index) ≡ Some result.now }
     {
-        self.key_at(self.progress.place)
+        self.key_at(self.progress.index)
     }
 
     /// The visit that comes next.
     pub(crate) fn visit(&self) -> Call
-        requires place { self.now.progress.place < length self.now.asked.keys }
+        requires index { self.now.progress.index < length self.now.asked.keys }
         requires waits { self.now.progress.waits + 1 < 2 ^ 24 }
-        ensures { option_map (λ k. visit_call self.now.asked self.now.progress k.1) (slice_get self.now.asked.keys self.now.progress.place) ≡ Some result }
+        ensures { option_map (λ k. visit_call self.now.asked self.now.progress k.1) (slice_get self.now.asked.keys self.now.progress.index) ≡ Some result }
     {
         Call::Visit {
             ticket: Ticket::new(self.number, self.progress.waits + 1).unwrap(),
             txn: self.txn,
             ts: self.ts,
-            access: self.keys[self.progress.place].1,
+            access: self.keys[self.progress.index].1,
             longest: self.longest,
         }
     }
 
-    /// A visit was answered.
+    /// Records the answer of a visit.
     pub(crate) fn meet(&mut self, answer: Answer)
-        requires place { self.old.progress.place < length self.old.asked.keys }
+        requires index { self.old.progress.index < length self.old.asked.keys }
         requires waits { self.old.progress.waits + 1 < 2 ^ 24 }
         requires free { self.old.progress.mode ≡ Mode.Free }
-        requires room { length self.old.answers ≤ self.old.progress.place }
+        requires room { length self.old.answers ≤ self.old.progress.index }
         ensures { self.new ≡ record self.old { progress = met self.old.progress answer.reply; answers = self.old.answers ++ answer ∷ [] } }
     {
         let must_wait = matches!(&answer.reply, Reply::MustWait);
@@ -167,7 +172,7 @@ impl Walk {
         put(&mut self.answers, answer);
     }
 
-    /// The scan ends, where no visit comes next.
+    /// Ends the scan. Called when no visit comes next.
     pub(crate) fn end_scan(&mut self) -> Result<Scan, ScanError>
         ensures result { result ≡ (scan_end (length self.old.asked.keys) self.old.progress).result }
         ensures after { self.new ≡ record self.old { progress = (scan_end (length self.old.asked.keys) self.old.progress).after } }
@@ -178,16 +183,16 @@ impl Walk {
         ended.result
     }
 
-    /// Whether it was let through, by the status word that was read.
+    /// Whether the request was let through, by the status word that was read.
     pub(crate) fn poll(&mut self, word: u64) -> Poll
         ensures result { result ≡ polled self.new.progress }
-        ensures after { self.new ≡ record self.old { progress = heard self.old.asked.number self.old.progress word } }
+        ensures after { self.new ≡ record self.old { progress = after_status self.old.asked.number self.old.progress word } }
     {
-        self.progress = heard(self.number, self.progress, word);
+        self.progress = after_status(self.number, self.progress, word);
         polled(self.progress)
     }
 
-    /// A leave begins, or goes on.
+    /// Begins a leave, or continues one.
     pub(crate) fn begin_leave(&mut self)
         ensures { self.new ≡ record self.old { progress = leave_start self.old.progress; answers = leave_answers self.old } }
     {
@@ -197,11 +202,11 @@ impl Walk {
         self.progress = leave_start(self.progress);
     }
 
-    /// A key is left to leave.
+    /// Whether a key is left to leave.
     pub(crate) fn has_leave(&self) -> bool
-        ensures { result ≡ nat_lt self.now.progress.place (length self.now.asked.keys) }
+        ensures { result ≡ nat_lt self.now.progress.index (length self.now.asked.keys) }
     {
-        self.progress.place < self.keys.len()
+        self.progress.index < self.keys.len()
     }
 
     /// The leave step of each key.
@@ -214,9 +219,9 @@ impl Walk {
         }
     }
 
-    /// A leave step was answered.
+    /// Records the answer of a leave step.
     pub(crate) fn leave_one(&mut self, answer: Answer)
-        requires place { self.old.progress.place < length self.old.asked.keys }
+        requires index { self.old.progress.index < length self.old.asked.keys }
         requires leaving { self.old.progress.mode ≡ Mode.Leaving }
         ensures { self.new ≡ record self.old { progress = passed self.old.progress; answers = self.old.answers ++ answer ∷ [] } }
     {

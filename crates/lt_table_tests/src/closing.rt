@@ -1,4 +1,4 @@
-//! A table is closed without its last pass, and then with all.
+//! Closes a table without its last pass, which the table refuses, and then with all its passes.
 ghost use Rattle.std.specs.Prelude.{◌≡◌};
 
 use lt_plain::KeyTable;
@@ -12,16 +12,17 @@ use std::alloc::Global;
 use std::marker::Brand;
 use std::sync::Wait;
 
-/// What came of a close without the last pass, and of one with all.
+/// The error of the close without the last pass, and the histories of the close with all passes.
 #[derive(Drop)]
 pub struct Closed {
     pub refused: CloseError,
-    /// How many passes came back.
+    /// How many passes the refused close gave back.
     pub back: usize,
     pub histories: Histories,
 }
 
-/// Closes the table without its last pass, which has to be refused: the table, the passes that came back, and the refusal.
+/// Closes the table without its last pass. Returns the table, the passes that came back and the error. `None` if
+/// the close is not refused, or an allocation fails.
 fn close_early<N: Name, T: KeyTable + Drop, R: Wait>(
     rt: &R,
     alloc: Global,
@@ -45,7 +46,7 @@ fn close_early<N: Name, T: KeyTable + Drop, R: Wait>(
     Some((table, seats, error))
 }
 
-/// Closes the table without its last pass, and then with all.
+/// Closes the table without its last pass, and then with all its passes.
 fn close_both<N: Name, T: KeyTable + Drop, R: Wait>(
     rt: &R,
     alloc: Global,
@@ -72,7 +73,7 @@ fn close_twice_named<N: Name, R: Wait>(rt: &R, alloc: Global, ready: Ready) -> O
     close_both(rt, alloc, table, seats)
 }
 
-/// Closes a new table without its last pass, and then with all.
+/// Closes a new table without its last pass, and then with all its passes.
 pub fn close_twice<R: Wait>(rt: &R, alloc: Global, config: Config) -> Option<Closed> {
     let ready = prepare(alloc, config).ok()?;
     close_twice_named::<Brand, R>(rt, alloc, ready)

@@ -1,7 +1,8 @@
-//! Calls as text on a table that streams its steps, or records none, with takes of a shard between them.
+//! How are lines of text played on a table that streams its steps or records none?
 //!
-//! Two more lines than those of `text`: `take`, by which all that the shard of the key a holds is taken out, and `read`, by which
-//! a reader of that shard is given what it was not given yet. The last pass does both, and nothing else.
+//! Two kinds of line come on top of those of `text`: `take` takes out all that the shard of the key a holds, and
+//! `read` gives a reader of that shard the steps that it has not received yet. The last pass does both, and
+//! nothing else. Read next `kept`, which has the tests.
 ghost use Rattle.std.specs.Prelude.{◌≡◌, ◌≢◌, ◌<◌, []};
 
 use crate::playing::{put_line, put_steps};
@@ -12,9 +13,9 @@ use lt_table::{
     CloseError, CloseRefused, Config, Gone, Keeping, Reader, Ready, Rests, Table, open,
     prepare_with,
 };
-use lt_test_kit::command::Command;
-use lt_test_kit::desk::play;
+use lt_test_kit::command::TableCommand;
 use lt_test_kit::key::key_of;
+use lt_test_kit::play::play;
 use lt_test_kit::run::{gather, seated};
 use lt_test_kit::seat::Seat;
 use lt_words::Name;
@@ -22,11 +23,11 @@ use std::alloc::Global;
 use std::marker::Brand;
 use std::sync::Wait;
 
-/// What a line does.
+/// What a line asks for.
 #[derive(Drop)]
 enum Act {
-    /// The pass at this place, from 0, makes the call.
-    Play(usize, Command),
+    /// The pass at this index, from 0, makes the call.
+    Play(usize, TableCommand),
     Take,
     Read,
 }
@@ -50,26 +51,26 @@ fn acts_of(alloc: Global, lines: &str) -> Option<Vec<Act>> {
     Some(acts)
 }
 
-/// What came of it, as text.
+/// The results of a run, as text.
 #[derive(Drop)]
-pub struct Kept {
+pub struct KeptRun {
     pub texts: Texts,
-    /// From which place on each shard still has steps, and how many, a line each.
+    /// A line for each shard: how many steps it still has, and the index of the first.
     pub rests: String,
     pub draws: u64,
-    /// How a close for whole histories was refused.
+    /// The error of a close for whole histories.
     pub refused: CloseError,
 }
 
-/// What came so far, as text.
+/// The results so far, as text.
 #[derive(Drop)]
 pub struct Texts {
-    /// What each line came to: what a call was told, as in `told`; how many steps a take or a read gave, and from which place
-    /// on; or before which place they are gone.
+    /// What each line came to. For a call: its outcome, as in `told`. For a take or a read: how many steps it gave
+    /// and the index of the first, or the index before which the steps are gone.
     pub came: String,
-    /// What each call was told, as `playing` says it of a whole table.
+    /// The outcome of each call, in the format that `playing` uses for a whole table.
     pub told: String,
-    /// All that was taken out, in order, a line each; at the end with what is left.
+    /// The steps that were taken out, in order, a line each. At the end of a run the steps that were left follow.
     pub steps: String,
 }
 
@@ -83,9 +84,9 @@ impl Texts {
     }
 }
 
-/// Who takes steps out: a seat of its own, the reader, and the room that is handed in.
+/// The caller that takes steps out: its own seat, its reader, and the buffer that it passes in.
 #[derive(Drop)]
-struct Taker<N: Name> {
+struct SingleShardTaker<N: Name> {
     seat: Seat<N>,
     reader: Reader,
     room: Vec<Entry>,
@@ -96,12 +97,12 @@ struct Taker<N: Name> {
 fn take<N: Name, T: KeyTable, R: Wait>(
     rt: &R,
     table: &Table<N, T>,
-    taker: Taker<N>,
+    taker: SingleShardTaker<N>,
     texts: &mut Texts,
-) -> Option<Taker<N>>
+) -> Option<SingleShardTaker<N>>
     requires { N.of.keeping ≢ Keeping.Whole }
 {
-    let Taker {
+    let SingleShardTaker {
         seat,
         reader,
         mut room,
@@ -111,16 +112,16 @@ fn take<N: Name, T: KeyTable, R: Wait>(
     let seat = Seat::free(pass);
     put_taken(texts, from, &room)?;
     room.clear();
-    Some(Taker { seat, reader, room })
+    Some(SingleShardTaker { seat, reader, room })
 }
 
-/// So many steps were taken out, from this place on.
+/// Appends a line for steps that were taken out: how many, and the index of the first. Appends the steps as well.
 fn put_taken(texts: &mut Texts, from: u64, steps: &[Entry]) -> Option<()> {
     writeln!(texts.came, "{} from {from}", steps.len()).ok()?;
     put_steps(&mut texts.steps, steps)
 }
 
-/// What a read gave.
+/// Appends what a read gave.
 fn put_read(texts: &mut Texts, from: u64, given: Result<(), Gone>, steps: &[Entry]) -> Option<()> {
     match given {
         Ok(()) => put_taken(texts, from, steps),
@@ -131,12 +132,12 @@ fn put_read(texts: &mut Texts, from: u64, given: Result<(), Gone>, steps: &[Entr
 fn read<N: Name, T: KeyTable, R: Wait>(
     rt: &R,
     table: &Table<N, T>,
-    taker: Taker<N>,
+    taker: SingleShardTaker<N>,
     texts: &mut Texts,
-) -> Option<Taker<N>>
+) -> Option<SingleShardTaker<N>>
     requires { N.of.keeping ≢ Keeping.Whole }
 {
-    let Taker {
+    let SingleShardTaker {
         seat,
         mut reader,
         mut room,
@@ -147,16 +148,16 @@ fn read<N: Name, T: KeyTable, R: Wait>(
     let seat = Seat::free(pass);
     put_read(texts, from, given, &room)?;
     room.clear();
-    Some(Taker { seat, reader, room })
+    Some(SingleShardTaker { seat, reader, room })
 }
 
-/// The pass at the place makes the call.
+/// Plays a call by the pass at this index, and appends its outcome.
 fn play_at<N: Name, T: KeyTable, R: Wait>(
     rt: &R,
     alloc: Global,
     table: &Table<N, T>,
     seats: &mut Vec<Seat<N>>,
-    call: (usize, &Command),
+    call: (usize, &TableCommand),
     texts: &mut Texts,
 ) -> Option<()> {
     let (place, command) = call;
@@ -170,11 +171,11 @@ fn play_at<N: Name, T: KeyTable, R: Wait>(
     put_line(&mut texts.came, &line)
 }
 
-/// A table at work: the passes that make calls, who takes steps out, and what came so far.
+/// The state of a run: the passes that make calls, the caller that takes steps out, and the results so far.
 #[derive(Drop)]
-struct Work<N: Name> {
+struct KeepingTable<N: Name> {
     seats: Vec<Seat<N>>,
-    taker: Taker<N>,
+    taker: SingleShardTaker<N>,
     texts: Texts,
 }
 
@@ -182,12 +183,12 @@ fn act_on<N: Name, T: KeyTable, R: Wait>(
     rt: &R,
     alloc: Global,
     table: &Table<N, T>,
-    work: Work<N>,
+    work: KeepingTable<N>,
     act: &Act,
-) -> Option<Work<N>>
+) -> Option<KeepingTable<N>>
     requires { N.of.keeping ≢ Keeping.Whole }
 {
-    let Work {
+    let KeepingTable {
         mut seats,
         mut taker,
         mut texts,
@@ -199,14 +200,14 @@ fn act_on<N: Name, T: KeyTable, R: Wait>(
         Act::Take => taker = take(rt, table, taker, &mut texts)?,
         Act::Read => taker = read(rt, table, taker, &mut texts)?,
     }
-    Some(Work {
+    Some(KeepingTable {
         seats,
         taker,
         texts,
     })
 }
 
-/// Closes the table as a whole one, which has to be refused, and then for what is left.
+/// Closes the table for whole histories, which must be refused, and then for what is left.
 fn close_twice<N: Name, T: KeyTable + Drop, R: Wait>(
     rt: &R,
     alloc: Global,
@@ -236,15 +237,15 @@ fn close_twice<N: Name, T: KeyTable + Drop, R: Wait>(
     }
 }
 
-/// The last pass takes steps out of the shard of the key a.
+/// The state before the first line. The last pass takes steps out of the shard of the key a.
 fn work_of<N: Name, T: KeyTable>(
     alloc: Global,
     table: &Table<N, T>,
     mut seats: Vec<Seat<N>>,
-) -> Option<Work<N>> {
+) -> Option<KeepingTable<N>> {
     let key = key_of(alloc, b'a')?;
     let seat = seats.pop()?;
-    let taker = Taker {
+    let taker = SingleShardTaker {
         seat,
         reader: Reader {
             shard: table.shard_of(&key),
@@ -252,14 +253,15 @@ fn work_of<N: Name, T: KeyTable>(
         },
         room: Vec::new(alloc),
     };
-    Some(Work {
+    Some(KeepingTable {
         seats,
         taker,
         texts: Texts::new(alloc),
     })
 }
 
-/// Puts what is left at the end of the steps, and says from where on it is and how much.
+/// Appends the steps that are left to `steps`. Returns a line for each shard: how many are left, and the index of
+/// the first.
 fn rests_of(alloc: Global, steps: &mut String, rests: &Rests) -> Option<String> {
     let mut text = String::new(alloc);
     for rest in &rests.shards {
@@ -273,9 +275,9 @@ fn close<N: Name, T: KeyTable + Drop, R: Wait>(
     rt: &R,
     alloc: Global,
     table: Table<N, T>,
-    work: Work<N>,
-) -> Option<Kept> {
-    let Work {
+    work: KeepingTable<N>,
+) -> Option<KeptRun> {
+    let KeepingTable {
         mut seats,
         taker,
         mut texts,
@@ -283,7 +285,7 @@ fn close<N: Name, T: KeyTable + Drop, R: Wait>(
     seats.push(taker.seat).ok()?;
     let (refused, rests) = close_twice(rt, alloc, table, seats)?;
     let text = rests_of(alloc, &mut texts.steps, &rests)?;
-    Some(Kept {
+    Some(KeptRun {
         texts,
         rests: text,
         draws: rests.draws,
@@ -291,7 +293,12 @@ fn close<N: Name, T: KeyTable + Drop, R: Wait>(
     })
 }
 
-fn keep_named<N: Name, R: Wait>(rt: &R, alloc: Global, ready: Ready, acts: &[Act]) -> Option<Kept>
+fn keep_named<N: Name, R: Wait>(
+    rt: &R,
+    alloc: Global,
+    ready: Ready,
+    acts: &[Act],
+) -> Option<KeptRun>
     requires of { ready.of ≡ N.of }
     requires keeping { N.of.keeping ≢ Keeping.Whole }
 {
@@ -303,14 +310,14 @@ fn keep_named<N: Name, R: Wait>(rt: &R, alloc: Global, ready: Ready, acts: &[Act
     close(rt, alloc, table, work)
 }
 
-/// Plays the lines over linked tables.
+/// Plays the lines on a table over linked queues.
 pub fn keep<R: Wait>(
     rt: &R,
     alloc: Global,
     config: Config,
     keeping: Keeping,
     lines: &str,
-) -> Option<Kept>
+) -> Option<KeptRun>
     requires { keeping ≢ Keeping.Whole }
 {
     let acts = acts_of(alloc, lines)?;

@@ -1,7 +1,9 @@
-//! Tables that stream their steps, or record none.
+//! Do tables that stream their steps, or record none, answer as a whole table does and account for every step?
+//! Each test plays lines of text: calls, and takes and reads between them. It compares what each line came to and
+//! what is left at the close. Read next `keeping`, which plays the lines.
 ghost use Rattle.std.specs.Prelude.{◌≢◌};
 
-use crate::keeping::{Kept, keep};
+use crate::keeping::{KeptRun, keep};
 use crate::playing::{config, plays};
 use lt_table::{CloseError, Config, Keeping};
 use std::alloc::Global;
@@ -9,7 +11,8 @@ use std::process::Abort;
 use std::sync::Wait;
 use std::test::Fail;
 
-/// Numbers for a table of one shard with a pass beside the taker, of which the shard holds so many steps at a time.
+/// Limits for a table of one shard and two passes, one of which takes steps out. The shard holds at most
+/// `max_steps` steps at a time.
 fn small(max_steps: u64) -> Config {
     Config {
         max_steps,
@@ -17,14 +20,15 @@ fn small(max_steps: u64) -> Config {
     }
 }
 
-/// The lines came to this, and this is left.
-fn expect<R: Abort>(rt: &R, kept: &Kept, came: &str, rests: &str) {
+/// Asserts what each line came to and what is left in each shard, and that a close for whole histories was refused
+/// because of shard 0.
+fn expect<R: Abort>(rt: &R, kept: &KeptRun, came: &str, rests: &str) {
     assert_eq!(rt; kept.texts.came.as_str(), came);
     assert_eq!(rt; kept.rests.as_str(), rests);
     assert_eq!(rt; kept.refused, CloseError::Counts(0));
 }
 
-/// The shard is full after two steps without a take, and not after a take; places go on over takes.
+/// The shard is full after two steps, and a take makes room again. The indices of the steps continue across takes.
 #[test]
 fn a_streamed_table_goes_on_after_each_take(rt: HostRuntime) -> Result<(), Fail> {
     let kept = keep(
@@ -45,7 +49,8 @@ fn a_streamed_table_goes_on_after_each_take(rt: HostRuntime) -> Result<(), Fail>
     Ok(())
 }
 
-/// A reader is given what follows what it was given; where another took steps between, it is told so, and again.
+/// A reader receives the steps that follow those it has received. If another caller took some of them, this read
+/// and every further one report that.
 #[test]
 fn a_reader_is_told_of_steps_that_another_took(rt: HostRuntime) -> Result<(), Fail> {
     let kept = keep(
@@ -65,7 +70,7 @@ fn a_reader_is_told_of_steps_that_another_took(rt: HostRuntime) -> Result<(), Fa
     Ok(())
 }
 
-/// A shard that may hold one step makes five, of which none is stored; a reader is told that they are gone.
+/// A shard that may hold one step makes five and stores none of them. A reader is told that they are gone.
 #[test]
 fn an_unrecorded_table_is_never_full(rt: HostRuntime) -> Result<(), Fail> {
     let kept = keep(
@@ -87,15 +92,15 @@ fn an_unrecorded_table_is_never_full(rt: HostRuntime) -> Result<(), Fail> {
     Ok(())
 }
 
-/// Requests wait, with and without a transaction, and are let through, one after the other.
+/// Three requests wait, one with a transaction and two without, and are let through in the order of their numbers.
 const CALLS: &'static str =
     "3 acquire 9 10 a\n0 enter - 1 aw 0\n0 scan\n1 enter 2 1 awbw 0\n1 scan\n2 enter - 1 aw 0\n2 scan\n3 finish 9 a\n0 poll\n1 poll\n2 poll\n1 leave\n2 poll\n3 acquire 9 10 b\n";
 
-/// What a table is told, and the places of its steps.
+/// The outcome of each call, with the index of its step.
 const TOLD: &'static str =
     "0 Stepped(Taken)\n- Entered(1)\n- Scanned(Waiting(0)) [MustWait]\n- Entered(2)\n- Scanned(Waiting(0)) [MustWait]\n- Entered(3)\n- Scanned(Waiting(0)) [MustWait]\n4 Stepped(Freed)\n- Polled(Through)\n- Polled(Through)\n- Polled(Waiting)\n- Left [Left, Absent]\n- Polled(Through)\n7 Stepped(Taken)\n";
 
-/// The calls, with a take after every so many of them.
+/// The calls, with a take after every `every` calls.
 fn with_takes(alloc: Global, every: usize) -> Option<String> {
     let mut text = String::new(alloc);
     let mut since = 0usize;
@@ -110,8 +115,8 @@ fn with_takes(alloc: Global, every: usize) -> Option<String> {
     Some(text)
 }
 
-/// A table that keeps its steps this way is told the same, at the same places, whatever is taken between the calls; what was
-/// taken and what is left, one after the other, are these steps.
+/// Asserts that a table that keeps its steps in this way gives the same answers at the same indices, whatever is
+/// taken between the calls, and that the steps taken, followed by the steps left, are `steps`.
 fn tells_the_same<R: Abort + Wait>(
     rt: &R,
     alloc: Global,
@@ -130,8 +135,8 @@ fn tells_the_same<R: Abort + Wait>(
     Ok(())
 }
 
-/// A table that streams tells what a whole one tells, at the same places, and its pieces and what is left, one after the
-/// other, are the whole one's history, wherever the takes are.
+/// A streamed table gives the answers of a whole table at the same indices, wherever the takes are. Its pieces,
+/// followed by what is left, are the history of the whole table.
 #[test]
 fn a_streamed_table_tells_what_a_whole_one_tells(rt: HostRuntime) -> Result<(), Fail> {
     let alloc = rt.alloc();
@@ -150,16 +155,17 @@ fn a_streamed_table_tells_what_a_whole_one_tells(rt: HostRuntime) -> Result<(), 
     Ok(())
 }
 
-/// A table that records no steps tells the same, and has none.
+/// An unrecorded table gives the same answers and has no steps.
 #[test]
 fn an_unrecorded_table_tells_what_a_whole_one_tells(rt: HostRuntime) -> Result<(), Fail> {
     tells_the_same(&rt, rt.alloc(), config(1, 5), Keeping::Unrecorded, 4, "")
 }
 
-/// Of three shards the second alone made steps, which are gone. A close that is to give whole histories names it and is
-/// refused, and the locks come back at their places: the close for what is left finds each shard at its own.
+/// Only the second of three shards made steps, and they are gone. A close for whole histories is refused and names
+/// that shard. It gives back each shard's lock at its own index, so the close for what is left finds the steps of
+/// each shard at its index.
 #[test]
-fn a_refused_close_gives_each_lock_back_at_its_place(rt: HostRuntime) -> Result<(), Fail> {
+fn a_refused_close_gives_each_lock_back_at_its_index(rt: HostRuntime) -> Result<(), Fail> {
     let lines = "0 acquire 7 10 a\n0 finish 7 a\n";
     let kept = keep(&rt, rt.alloc(), config(3, 2), Keeping::Unrecorded, lines).ok_or("the run")?;
     assert_eq!(rt;

@@ -1,13 +1,13 @@
-//! A request learns what another's pass has seen.
+//! A waiting request learns the prefix that another request has seen, and then finds out that it was let through.
 ghost use Rattle.std.specs.Prelude.{◌≡◌};
 
 use crate::playing::{config, told_of};
 use crate::text::rows_of;
 use lt_plain::KeyTable;
 use lt_table::{Config, Ready, Table, open, prepare};
-use lt_test_kit::command::Row;
-use lt_test_kit::desk::Line;
-use lt_test_kit::run::{Work, close_all, play_rows, seated};
+use lt_test_kit::command::CommandRow;
+use lt_test_kit::play::PlayedCommand;
+use lt_test_kit::run::{TableAtWork, close_all, play_rows, seated};
 use lt_test_kit::seat::Seat;
 use lt_words::Name;
 use std::alloc::Global;
@@ -15,11 +15,11 @@ use std::marker::Brand;
 use std::sync::Wait;
 use std::test::Fail;
 
-/// The second request takes the lock of the key that the first one waits for, and frees it.
+/// The second request takes the lock of the key for which the first one waits, and frees it.
 const BEFORE: &'static str =
     "1 enter 2 10 bw 0\n1 acquire 2 10 a\n0 enter 1 10 aw 0\n0 scan\n0 poll\n1 finish 2 a\n";
 
-/// The guard of the first seat learns what the second's has seen.
+/// The guard of the first seat learns what the guard of the second seat has seen.
 fn learn<N: Name>(one: Seat<N>, two: Seat<N>) -> Option<(Seat<N>, Seat<N>)> {
     let teacher = two.into_guard()?;
     let Some(mut learner) = one.into_guard() else {
@@ -30,7 +30,7 @@ fn learn<N: Name>(one: Seat<N>, two: Seat<N>) -> Option<(Seat<N>, Seat<N>)> {
     Some((Seat::open(learner), Seat::open(teacher)))
 }
 
-/// The seat at place 0 learns what the one at place 1 has seen.
+/// The seat at index 0 learns what the seat at index 1 has seen.
 fn learn_from_the_other<N: Name>(seats: &mut Vec<Seat<N>>) -> Option<()> {
     let two = seats.pop()?;
     let one = seats.pop()?;
@@ -39,14 +39,15 @@ fn learn_from_the_other<N: Name>(seats: &mut Vec<Seat<N>>) -> Option<()> {
     seats.push(two).ok()
 }
 
-/// Plays the rows before, lets the first request learn what the second has seen, and plays the others.
+/// Plays the rows of `before`, has the first request learn what the second has seen, and plays the rows of
+/// `after`.
 fn learn_on<N: Name, T: KeyTable, R: Wait>(
     rt: &R,
     alloc: Global,
     table: &Table<N, T>,
-    work: &mut Work<N>,
-    before: &[Row],
-    after: &[Row],
+    work: &mut TableAtWork<N>,
+    before: &[CommandRow],
+    after: &[CommandRow],
 ) -> Option<()> {
     play_rows(rt, alloc, table, work, before, &[])?;
     learn_from_the_other(&mut work.seats)?;
@@ -57,15 +58,15 @@ fn learn_named<N: Name, R: Wait>(
     rt: &R,
     alloc: Global,
     ready: Ready,
-    before: &[Row],
-    after: &[Row],
-) -> Option<Vec<Line>>
+    before: &[CommandRow],
+    after: &[CommandRow],
+) -> Option<Vec<PlayedCommand>>
     requires { ready.of ≡ N.of }
 {
     let (table, passes) = open::<N>(alloc, ready).ok()?;
-    let mut work = Work::new(alloc, seated::<N>(alloc, passes)?);
+    let mut work = TableAtWork::new(alloc, seated::<N>(alloc, passes)?);
     learn_on(rt, alloc, &table, &mut work, before, after)?;
-    let Work { seats, lines, .. } = work;
+    let TableAtWork { seats, lines, .. } = work;
     close_all(rt, alloc, table, seats)?;
     Some(lines)
 }
@@ -78,7 +79,8 @@ fn learn_in<R: Wait>(rt: &R, alloc: Global, config: Config) -> Option<String> {
     told_of(alloc, &lines)
 }
 
-/// Whoever freed the lock tells what was shown, and the next poll says that the wait is over.
+/// The request that freed the lock has seen the let. The waiting request learns this, and its next poll says that
+/// the wait is over.
 #[test]
 fn a_request_learns_that_it_was_let_through(rt: HostRuntime) -> Result<(), Fail> {
     let told = learn_in(&rt, rt.alloc(), config(1, 2)).ok_or("the run")?;

@@ -1,13 +1,14 @@
-//! The table's public calls: numbers that are out of range or run out, a close that comes too early, tables that stream their
-//! steps or record none, and threads that work at once.
+//! Do the table's public calls keep their promises at the limits, when an allocation fails, when callers sleep and
+//! when threads work at once?
 //!
-//! [`text`] reads calls from lines of text; [`playing`] plays them on a whole table, [`keeping`] on one that streams its steps
-//! or records none, with takes between the calls. In [`work`] four threads make steps at once, of a whole table ([`race`]) or
-//! while a fifth takes them out ([`stream`]); [`streams`] compares what they were told. [`closing`] closes a table without all
-//! its passes. [`refusals`] pass under any single allocation failure.
+//! [`text`] reads calls from lines of text. [`playing`] plays them on a whole table, which stores all its steps,
+//! and [`keeping`] on a table that streams its steps or records none; [`worked`], [`kept`] and [`learning`] have
+//! the tests. [`closing`] closes a table without all its passes. [`refusals`] passes whichever single allocation
+//! fails. In [`streams`] four threads ([`work`]) work at once, on a whole table ([`race`]) and while a fifth
+//! thread takes the steps out ([`stream`]).
 //!
-//! [`schedules`] plays random calls of one thread, and knows each answer; in [`waiting`] callers sleep until they are let
-//! through. Worked schedules are scripts of the tool (`lt_tool_tests`).
+//! Read next [`schedules`], which plays random calls of one thread and knows each answer, or [`waiting`], in which
+//! callers sleep until they are let through. Worked schedules are scripts of the tool (`lt_tool_tests`).
 #![tactic(auto)]
 
 #[cfg(test)]

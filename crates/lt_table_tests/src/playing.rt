@@ -1,11 +1,13 @@
-//! Calls as text are played on a whole table, and what comes of them becomes text.
+//! How are lines of text played on a whole table, and how do the results become text?
+//! [`plays`] reads the calls (`text` has the format), plays them and writes the outcomes, the steps and the counts
+//! as text. Read next `worked`, which has the tests.
 use crate::linked::run;
 use crate::text::rows_of;
 use lt_entry::Entry;
 use lt_table::{Config, Histories};
-use lt_test_kit::command::Told;
-use lt_test_kit::desk::Line;
-use lt_test_kit::run::Ran;
+use lt_test_kit::command::CallOutcome;
+use lt_test_kit::play::PlayedCommand;
+use lt_test_kit::run::TableRun;
 use std::alloc::Global;
 use std::sync::Wait;
 
@@ -19,37 +21,37 @@ pub fn config(shards: usize, passes: usize) -> Config {
     }
 }
 
-/// What came of a run, as text.
+/// The results of a run, as text.
 #[derive(Drop)]
 pub struct Played {
-    /// What each call was told, a line each, behind the place of its step or a hyphen. Behind a scan and a leave stand the
-    /// replies of their steps.
+    /// The outcome of each call, a line each, after the index of its step or a hyphen. The outcomes of a scan and
+    /// a leave are followed by the replies of their steps.
     pub told: String,
     /// All steps, shard by shard, a line each.
     pub steps: String,
-    /// How many steps each shard made, and how many numbers were drawn.
+    /// How many steps each shard made, and how many request numbers were drawn.
     pub counts: String,
 }
 
-/// Whether the replies that the guard keeps are of this call.
-fn has_replies(told: Told) -> bool {
+/// Whether the replies that the guard keeps belong to this call.
+fn has_replies(told: CallOutcome) -> bool {
     match told {
-        Told::Scanned(_) | Told::Left | Told::NotLeft(_) => true,
+        CallOutcome::Scanned(_) | CallOutcome::Left | CallOutcome::NotLeft(_) => true,
         _ => false,
     }
 }
 
-/// Puts the place of a call's step at the end, or a hyphen.
-fn put_place(text: &mut String, at: Option<u64>) -> Option<()> {
+/// Appends the index of a call's step, or a hyphen if it has none.
+fn put_index(text: &mut String, at: Option<u64>) -> Option<()> {
     match at {
         Some(at) => write!(text, "{at} ").ok(),
         None => write!(text, "- ").ok(),
     }
 }
 
-/// Puts a line at the end: the place of a call's step, and what the call was told.
-pub fn put_line(text: &mut String, line: &Line) -> Option<()> {
-    put_place(text, line.at)?;
+/// Appends a line: the index of a call's step, and the call's outcome.
+pub fn put_line(text: &mut String, line: &PlayedCommand) -> Option<()> {
+    put_index(text, line.at)?;
     if has_replies(line.told) {
         writeln!(text, "{:?} {:?}", line.told, line.replies.as_slice()).ok()
     } else {
@@ -57,8 +59,8 @@ pub fn put_line(text: &mut String, line: &Line) -> Option<()> {
     }
 }
 
-/// What each call was told, a line each.
-pub fn told_of(alloc: Global, lines: &[Line]) -> Option<String> {
+/// The outcome of each call, a line each.
+pub fn told_of(alloc: Global, lines: &[PlayedCommand]) -> Option<String> {
     let mut text = String::new(alloc);
     for line in lines {
         put_line(&mut text, line)?;
@@ -66,7 +68,7 @@ pub fn told_of(alloc: Global, lines: &[Line]) -> Option<String> {
     Some(text)
 }
 
-/// Puts each step at the end, a line each.
+/// Appends each step, a line each.
 pub fn put_steps(text: &mut String, steps: &[Entry]) -> Option<()> {
     for step in steps {
         writeln!(text, "{step:?}").ok()?;
@@ -90,7 +92,7 @@ fn counts_of(alloc: Global, histories: &Histories) -> Option<String> {
     format!(in alloc; "{:?} {}", counts.as_slice(), histories.draws).ok()
 }
 
-fn outcome_of(alloc: Global, ran: &Ran) -> Option<Played> {
+fn outcome_of(alloc: Global, ran: &TableRun) -> Option<Played> {
     Some(Played {
         told: told_of(alloc, &ran.lines)?,
         steps: steps_of(alloc, &ran.histories)?,
@@ -98,7 +100,7 @@ fn outcome_of(alloc: Global, ran: &Ran) -> Option<Played> {
     })
 }
 
-/// Plays the calls of the text (`text`) on a whole table.
+/// Plays the calls of the text on a whole table.
 pub fn plays<R: Wait>(rt: &R, alloc: Global, config: Config, text: &str) -> Option<Played> {
     let rows = rows_of(alloc, text)?;
     let ran = run(rt, alloc, config, &rows, &[]).ok()?;

@@ -1,7 +1,7 @@
-//! Four threads make steps of a whole table.
+//! Four threads work at once on a whole table.
 ghost use Rattle.std.specs.Prelude.{◌≡◌};
 
-use crate::work::{Worked, limits, lines_of, work_all, workers_of};
+use crate::work::{ThreadsRun, limits, lines_of, work_all, workers_of};
 use lt_table::{Ready, open, prepare};
 use lt_test_kit::run::{close_all, seated};
 use lt_words::Name;
@@ -14,7 +14,7 @@ fn race_named<N: Name + Send + Sync, R: Threads + Wait + Sync>(
     rt: &R,
     alloc: Global,
     ready: Ready,
-) -> Option<Worked>
+) -> Option<ThreadsRun>
     requires { ready.of ≡ N.of }
 {
     let (table, passes) = open::<N>(alloc, ready).ok()?;
@@ -23,7 +23,7 @@ fn race_named<N: Name + Send + Sync, R: Threads + Wait + Sync>(
     let mut seats = Vec::new(alloc);
     let lines = lines_of(alloc, worked, &mut seats)?;
     let histories = close_all(rt, alloc, table, seats)?;
-    Some(Worked {
+    Some(ThreadsRun {
         lines,
         shards: histories.shards,
         pieces: 0,
@@ -31,8 +31,8 @@ fn race_named<N: Name + Send + Sync, R: Threads + Wait + Sync>(
     })
 }
 
-/// A table of two shards and four passes.
-pub fn race<R: Threads + Wait + Sync>(rt: &R, alloc: Global) -> Option<Worked> {
+/// Has four threads work at once on a whole table of two shards and four passes.
+pub fn race<R: Threads + Wait + Sync>(rt: &R, alloc: Global) -> Option<ThreadsRun> {
     let ready = prepare(alloc, limits()).ok()?;
     race_named::<Brand, R>(rt, alloc, ready)
 }

@@ -1,40 +1,45 @@
-//! A script on a table of each way of keeping, for whoever refuses each of its allocations in turn: what was refused is
-//! called again, and all comes out as without a refusal.
+//! Does a run come out the same whichever single allocation fails?
+//! Each test plays the same script, on a table with one of the three ways of keeping steps. Fault injection runs a
+//! test once for each of its allocations and makes that one fail. The call that ran out of memory is then made
+//! again, and the outcomes, answers and steps must be the same as without a failure. Read next `refusing`, which
+//! plays the script.
 use crate::playing::config;
-use crate::refusing::{Done, Part, Script, play_taken, play_whole};
+use crate::refusing::{Done, Part, TakeScript, play_taken, play_whole};
 use crate::text::rows_of;
 use lt_entry::Entry;
 use lt_plain::Reply;
 use lt_table::{Config, Keeping, Poll, Scan};
-use lt_test_kit::asking::{Question, Sight};
-use lt_test_kit::command::{Row, Told};
+use lt_test_kit::asking::{Question, TableAnswer};
+use lt_test_kit::command::{CallOutcome, CommandRow};
 use std::alloc::Global;
 use std::process::Abort;
 use std::sync::Wait;
 use std::test::Fail;
 
-/// The lock of the key A, which lies on the heap, is taken, and request 1 comes to write the key and waits.
+/// Transaction 9 takes the lock of the key A, which is stored on the heap. Request 1 enters to write the key and
+/// waits.
 const CALLS_BEFORE: &'static str = "1 acquire 9 10 A\n0 enter 1 20 Aw 0\n0 scan\n";
 
-/// The lock comes free, and request 1 goes on, takes it, leaves, and frees it.
+/// The lock comes free, and request 1 proceeds, takes it, leaves and frees it.
 const CALLS_AFTER: &'static str =
     "1 finish 9 A\n0 poll\n0 scan\n0 scan\n0 acquire 1 20 A\n0 leave\n0 finish 1 A\n";
 
-/// What each call is told.
-const TOLD: [Told; 10] = [
-    Told::Stepped(Reply::Taken),
-    Told::Entered(1),
-    Told::Scanned(Scan::Waiting(0)),
-    Told::Stepped(Reply::Freed),
-    Told::Polled(Poll::Through),
-    Told::Scanned(Scan::Rescan),
-    Told::Scanned(Scan::Proceed),
-    Told::Stepped(Reply::Taken),
-    Told::Left,
-    Told::Stepped(Reply::Freed),
+/// The outcome of each call.
+const TOLD: [CallOutcome; 10] = [
+    CallOutcome::Stepped(Reply::Taken),
+    CallOutcome::Entered(1),
+    CallOutcome::Scanned(Scan::Waiting(0)),
+    CallOutcome::Stepped(Reply::Freed),
+    CallOutcome::Polled(Poll::Through),
+    CallOutcome::Scanned(Scan::Rescan),
+    CallOutcome::Scanned(Scan::Proceed),
+    CallOutcome::Stepped(Reply::Taken),
+    CallOutcome::Left,
+    CallOutcome::Stepped(Reply::Freed),
 ];
 
-/// How the key A stands is asked by a pass and by a guard, and which keys have a record by a pass.
+/// The questions after the calls of `CALLS_BEFORE` (`AFTER` has those of `CALLS_AFTER`). A pass and a guard ask
+/// for the state of the key A, and a pass asks which keys have a record.
 const BEFORE: [Option<Question>; 3] = [
     Some(Question::State(b'A')),
     None,
@@ -51,7 +56,7 @@ const AFTER: [Option<Question>; 7] = [
     Some(Question::Keys(b'A')),
 ];
 
-/// The replies of the steps, in their order.
+/// The replies of all steps, in order.
 const REPLIES: [Reply; 7] = [
     Reply::Taken,
     Reply::MustWait,
@@ -62,19 +67,20 @@ const REPLIES: [Reply; 7] = [
     Reply::Freed,
 ];
 
-/// What is seen of a table.
+/// What the tests compare of a table's answer.
 #[derive(Clone, Copy, Debug, PartialEq, Eq)]
 enum Seen {
-    /// The transaction that holds the key, the request for which it is reserved, the first writer, and how many there are.
+    /// The transaction that holds the lock, the request that holds the reservation, the first writer, and how many
+    /// writers there are.
     State(Option<u64>, Option<u64>, Option<u64>, usize),
-    /// How many keys have a record, and how many bytes the first has.
+    /// How many keys have a record, and how many bytes the first of them has.
     Keys(usize, Option<usize>),
     Nothing,
 }
 
-fn seen_of(sight: &Sight) -> Seen {
+fn seen_of(sight: &TableAnswer) -> Seen {
     match sight {
-        Sight::State(state) => Seen::State(
+        TableAnswer::State(state) => Seen::State(
             state.holder.map(|holder| holder.txn.number()),
             state.reservation.map(|request| request.ticket.number()),
             state
@@ -83,12 +89,15 @@ fn seen_of(sight: &Sight) -> Seen {
                 .map(|writer| writer.request.ticket.number()),
             state.writers.len(),
         ),
-        Sight::Keys(keys) => Seen::Keys(keys.len(), keys.first().map(|key| key.as_bytes().len())),
-        Sight::Nothing => Seen::Nothing,
+        TableAnswer::Keys(keys) => Seen::Keys(
+            keys.len(),
+            keys.first().map(|key| key.as_bytes().len()),
+        ),
+        TableAnswer::Nothing => Seen::Nothing,
     }
 }
 
-/// What is seen at each question.
+/// The expected answer to each question.
 const SIGHTS: [Seen; 6] = [
     Seen::State(Some(9), None, None, 0),
     Seen::State(Some(9), None, Some(1), 1),
@@ -98,7 +107,7 @@ const SIGHTS: [Seen; 6] = [
     Seen::Keys(0, None),
 ];
 
-/// The steps have these replies.
+/// Asserts that the steps have these replies.
 fn are_replied<R: Abort>(rt: &R, steps: &[Entry], replies: &[Reply]) -> Result<(), Fail> {
     assert_eq!(rt; steps.len(), replies.len());
     for (step, reply) in steps.iter().zip(replies) {
@@ -107,7 +116,7 @@ fn are_replied<R: Abort>(rt: &R, steps: &[Entry], replies: &[Reply]) -> Result<(
     Ok(())
 }
 
-/// Each call was told what it is to be told.
+/// Asserts that each call had the expected outcome.
 fn are_told<R: Abort>(rt: &R, done: &Done) {
     assert_eq!(rt; done.lines.len(), TOLD.len());
     for (line, told) in done.lines.iter().zip(&TOLD) {
@@ -115,7 +124,7 @@ fn are_told<R: Abort>(rt: &R, done: &Done) {
     }
 }
 
-/// Each question was answered so.
+/// Asserts that each question got the expected answer.
 fn are_seen<R: Abort>(rt: &R, done: &Done) -> Result<(), Fail> {
     assert_eq!(rt; done.sights.len(), SIGHTS.len());
     for (sight, seen) in done.sights.iter().zip(&SIGHTS) {
@@ -124,12 +133,13 @@ fn are_seen<R: Abort>(rt: &R, done: &Done) -> Result<(), Fail> {
     Ok(())
 }
 
-/// What a way of keeping gives: from which place on the take is, how many steps it has, from which place on the rest is,
-/// and how many steps are left.
-type Kept = (u64, usize, u64, usize);
+/// What a way of keeping gives: the index of the first step taken, how many steps were taken, the index of the
+/// first step left, and how many steps are left.
+type KeptCounts = (u64, usize, u64, usize);
 
-/// The steps that were taken and that are left are those of their places.
-fn are_kept<R: Abort>(rt: &R, done: &Done, kept: Kept) -> Result<(), Fail> {
+/// Asserts that the steps taken and the steps left have the expected indices and replies, and that at most one
+/// call ran out of memory.
+fn are_kept<R: Abort>(rt: &R, done: &Done, kept: KeptCounts) -> Result<(), Fail> {
     let (from, taken, rest_from, left) = kept;
     let rest = done.rests.shards.first().ok_or("the shard")?;
     assert_eq!(rt; (done.taken.from, rest.from), (from, rest_from));
@@ -151,15 +161,15 @@ fn limits() -> Config {
     }
 }
 
-/// The script on a table of this way of keeping.
+/// Plays the script on a table with this way of keeping.
 fn play_once<R: Wait>(
     rt: &R,
     alloc: Global,
     keeping: Keeping,
-    before: &[Row],
-    after: &[Row],
+    before: &[CommandRow],
+    after: &[CommandRow],
 ) -> Option<Done> {
-    let script = Script {
+    let script = TakeScript {
         before: Part {
             rows: before,
             questions: &BEFORE,
@@ -176,20 +186,21 @@ fn play_once<R: Wait>(
     }
 }
 
-/// The calls of the text, which is read once more where an allocation fails.
-fn rows_through(alloc: Global, text: &str) -> Option<Vec<Row>> {
+/// The calls of the text. It is read once more if an allocation fails.
+fn rows_through(alloc: Global, text: &str) -> Option<Vec<CommandRow>> {
     match rows_of(alloc, text) {
         Some(rows) => Some(rows),
         None => rows_of(alloc, text),
     }
 }
 
-/// The script on a table of this way of keeping, and once more where memory was refused outside of its rows and questions.
+/// Plays the script on a table with this way of keeping, and once more if an allocation failed outside its rows
+/// and questions. Asserts the expected results.
 fn come_out<R: Abort + Wait>(
     rt: &R,
     alloc: Global,
     keeping: Keeping,
-    kept: Kept,
+    kept: KeptCounts,
 ) -> Result<(), Fail> {
     let before = rows_through(alloc, CALLS_BEFORE).ok_or("the calls")?;
     let after = rows_through(alloc, CALLS_AFTER).ok_or("the calls")?;

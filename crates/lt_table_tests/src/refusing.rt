@@ -1,52 +1,55 @@
-//! Commands on a table of any way of keeping, with questions and one take between them.
+//! How is a script played on a table with any way of keeping its steps?
+//! A script has two parts of commands and questions. A table that streams its steps or records none has a take
+//! between the parts. A call that runs out of memory is noted and made again. Read next `refusals`, which has the
+//! tests.
 ghost use Rattle.std.specs.Prelude.{◌≡◌, ◌≢◌};
 
 use lt_entry::Entry;
 use lt_plain::KeyTable;
 use lt_table::{Config, Keeping, Ready, Rests, Table, open, prepare_with};
-use lt_test_kit::asking::{Question, Sight};
-use lt_test_kit::command::{Row, TableCall};
-use lt_test_kit::desk::Line;
+use lt_test_kit::asking::{Question, TableAnswer};
+use lt_test_kit::command::{CommandRow, TableCall};
 use lt_test_kit::key::key_of;
-use lt_test_kit::run::{Work, play_rows, rests_through, seated};
+use lt_test_kit::play::PlayedCommand;
+use lt_test_kit::run::{TableAtWork, play_rows, rests_through, seated};
 use lt_test_kit::seat::Seat;
 use lt_words::Name;
 use std::alloc::Global;
 use std::marker::Brand;
 use std::sync::Wait;
 
-/// Commands, each with a question that is asked behind it or none.
+/// Commands, each with the question that follows it, if any.
 #[derive(Clone, Copy)]
 pub struct Part<'a> {
-    pub rows: &'a [Row],
+    pub rows: &'a [CommandRow],
     pub questions: &'a [Option<Question>],
 }
 
-/// What is done before the take and behind it.
+/// The part before the take and the part after it.
 #[derive(Clone, Copy)]
-pub struct Script<'a> {
+pub struct TakeScript<'a> {
     pub before: Part<'a>,
     pub after: Part<'a>,
 }
 
-/// What was taken: from which place on, and the steps.
+/// The steps that were taken, and the index of the first.
 #[derive(Drop)]
 pub struct Taken {
     pub from: u64,
     pub steps: Vec<Entry>,
 }
 
-/// What came of it, and the calls that were refused memory and made again.
+/// The results of a run, and the calls that ran out of memory and were made again.
 #[derive(Drop)]
 pub struct Done {
-    pub lines: Vec<Line>,
-    pub sights: Vec<Sight>,
+    pub lines: Vec<PlayedCommand>,
+    pub sights: Vec<TableAnswer>,
     pub taken: Taken,
     pub rests: Rests,
     pub refused: Vec<TableCall>,
 }
 
-/// The last seat takes out what the shard of the key a holds. No memory is taken for it.
+/// Takes out what the shard of the key a holds, by the last seat. This allocates nothing.
 fn take<N: Name, T: KeyTable, R: Wait>(
     rt: &R,
     alloc: Global,
@@ -63,15 +66,15 @@ fn take<N: Name, T: KeyTable, R: Wait>(
     Some(Taken { from, steps })
 }
 
-/// Closes the table, and puts all together.
+/// Closes the table and collects the results.
 fn close<N: Name, T: KeyTable + Drop, R: Wait>(
     rt: &R,
     alloc: Global,
     table: Table<N, T>,
-    work: Work<N>,
+    work: TableAtWork<N>,
     taken: Taken,
 ) -> Option<Done> {
-    let Work {
+    let TableAtWork {
         seats,
         lines,
         sights,
@@ -87,12 +90,12 @@ fn close<N: Name, T: KeyTable + Drop, R: Wait>(
     })
 }
 
-/// Plays a part.
+/// Plays one part.
 fn play<N: Name, T: KeyTable, R: Wait>(
     rt: &R,
     alloc: Global,
     table: &Table<N, T>,
-    work: &mut Work<N>,
+    work: &mut TableAtWork<N>,
     part: Part<'_>,
 ) -> Option<()> {
     play_rows(rt, alloc, table, work, part.rows, part.questions)
@@ -103,8 +106,8 @@ fn play_around_a_take<N: Name, T: KeyTable, R: Wait>(
     rt: &R,
     alloc: Global,
     table: &Table<N, T>,
-    work: &mut Work<N>,
-    script: Script<'_>,
+    work: &mut TableAtWork<N>,
+    script: TakeScript<'_>,
 ) -> Option<Taken>
     requires { N.of.keeping ≢ Keeping.Whole }
 {
@@ -114,13 +117,13 @@ fn play_around_a_take<N: Name, T: KeyTable, R: Wait>(
     Some(taken)
 }
 
-/// Plays both parts, and takes nothing.
+/// Plays both parts without a take.
 fn play_both<N: Name, T: KeyTable, R: Wait>(
     rt: &R,
     alloc: Global,
     table: &Table<N, T>,
-    work: &mut Work<N>,
-    script: Script<'_>,
+    work: &mut TableAtWork<N>,
+    script: TakeScript<'_>,
 ) -> Option<Taken> {
     play(rt, alloc, table, work, script.before)?;
     play(rt, alloc, table, work, script.after)?;
@@ -134,12 +137,12 @@ fn whole_named<N: Name, R: Wait>(
     rt: &R,
     alloc: Global,
     ready: Ready,
-    script: Script<'_>,
+    script: TakeScript<'_>,
 ) -> Option<Done>
     requires { ready.of ≡ N.of }
 {
     let (table, passes) = open::<N>(alloc, ready).ok()?;
-    let mut work = Work::new(alloc, seated::<N>(alloc, passes)?);
+    let mut work = TableAtWork::new(alloc, seated::<N>(alloc, passes)?);
     let taken = play_both(rt, alloc, &table, &mut work, script)?;
     close(rt, alloc, table, work, taken)
 }
@@ -148,35 +151,37 @@ fn taken_named<N: Name, R: Wait>(
     rt: &R,
     alloc: Global,
     ready: Ready,
-    script: Script<'_>,
+    script: TakeScript<'_>,
 ) -> Option<Done>
     requires of { ready.of ≡ N.of }
     requires keeping { N.of.keeping ≢ Keeping.Whole }
 {
     let (table, passes) = open::<N>(alloc, ready).ok()?;
-    let mut work = Work::new(alloc, seated::<N>(alloc, passes)?);
+    let mut work = TableAtWork::new(alloc, seated::<N>(alloc, passes)?);
     let taken = play_around_a_take(rt, alloc, &table, &mut work, script)?;
     close(rt, alloc, table, work, taken)
 }
 
-/// The script on a whole table. None where memory is refused beside a call of a row, a question or the close.
+/// Plays the script on a whole table. `None` if an allocation fails outside the calls of the rows, the questions
+/// and the close.
 pub fn play_whole<R: Wait>(
     rt: &R,
     alloc: Global,
     config: Config,
-    script: Script<'_>,
+    script: TakeScript<'_>,
 ) -> Option<Done> {
     let ready = prepare_with(alloc, config, Keeping::Whole).ok()?;
     whole_named::<Brand, R>(rt, alloc, ready, script)
 }
 
-/// The same on a table that streams its steps or records none, with a take between the parts.
+/// Plays the script on a table that streams its steps or records none, with a take between the parts. `None` as
+/// for a whole table.
 pub fn play_taken<R: Wait>(
     rt: &R,
     alloc: Global,
     config: Config,
     keeping: Keeping,
-    script: Script<'_>,
+    script: TakeScript<'_>,
 ) -> Option<Done>
     requires { keeping ≢ Keeping.Whole }
 {

@@ -1,8 +1,10 @@
-//! Four threads make steps of a streamed table, and a fifth takes them out all the time.
+//! Does a streamed table give away every step while threads work on it?
+//! Four threads make steps at once, and a fifth takes out what both shards hold until they are done. Read next
+//! `work`, which has the calls of the threads, and `streams`, which compares the results.
 ghost use Rattle.std.specs.Prelude.{◌≡◌, ◌≢◌, ◌<◌, [], IfSome};
 ghost use Rattle.lt_words.specs.declared.keeping.Keeping.TheVariants.{Whole};
 
-use crate::work::{TURNS, Worked, Worker, limits, lines_of, work_all, workers_of};
+use crate::work::{TURNS, ThreadWork, ThreadsRun, limits, lines_of, work_all, workers_of};
 use lt_entry::Entry;
 use lt_plain::KeyTable;
 use lt_table::{Config, Keeping, Reader, Ready, Rest, Table, open, prepare_with};
@@ -16,45 +18,46 @@ use std::sync::Wait;
 use std::sync::atomic::{AtomicBool, Ordering};
 use std::thread::{Threads, join};
 
-/// How many steps a shard may hold. So the threads can go on only because they are taken out.
+/// How many steps a shard may hold. The limit is so small that the threads proceed only because steps are taken
+/// out.
 const HELD: u64 = 64;
 
-/// The reader of a shard, and what it was given.
+/// The reader of a shard, the steps that it received, and in how many pieces.
 #[derive(Drop)]
-struct Stream {
+struct ShardStream {
     reader: Reader,
     taken: Vec<Entry>,
     pieces: u64,
 }
 
-/// Who takes steps out of both shards.
+/// The caller that takes steps out of both shards.
 #[derive(Drop)]
-struct Taker<N: Name> {
+struct TwoShardTaker<N: Name> {
     seat: Seat<N>,
     room: Vec<Entry>,
-    first: Stream,
-    second: Stream,
+    first: ShardStream,
+    second: ShardStream,
     ghost keeping: { N.of.keeping ≢ Whole },
     ghost empty: { room.items ≡ [] },
     ghost first_shard: { first.reader.shard < N.of.shards },
     ghost second_shard: { second.reader.shard < N.of.shards },
 }
 
-/// Takes out what the shard of the stream holds. The room is empty before and afterwards.
+/// Takes out what the shard of the stream holds. `room` is empty before and after the call.
 fn take<N: Name, T: KeyTable, R: Wait>(
     rt: &R,
     table: &Table<N, T>,
     seat: Seat<N>,
-    stream: Stream,
+    stream: ShardStream,
     mut room: Vec<Entry>,
-) -> Option<(Seat<N>, Stream, Vec<Entry>)>
+) -> Option<(Seat<N>, ShardStream, Vec<Entry>)>
     requires keeping { N.of.keeping ≢ Keeping.Whole }
     requires shard { stream.reader.shard < N.of.shards }
     requires empty { room.items ≡ [] }
     ensures shard { IfSome result (λ r. r.1.reader.shard ≡ stream.reader.shard) }
     ensures empty { IfSome result (λ r. r.2.items ≡ []) }
 {
-    let Stream {
+    let ShardStream {
         mut reader,
         mut taken,
         pieces,
@@ -71,7 +74,7 @@ fn take<N: Name, T: KeyTable, R: Wait>(
         pieces.wrapping_add(1)
     };
     taken.append(&mut room).ok()?;
-    let stream = Stream {
+    let stream = ShardStream {
         reader,
         taken,
         pieces,
@@ -83,9 +86,9 @@ fn take<N: Name, T: KeyTable, R: Wait>(
 fn take_both<N: Name, T: KeyTable, R: Wait>(
     rt: &R,
     table: &Table<N, T>,
-    taker: Taker<N>,
-) -> Option<Taker<N>> {
-    let Taker {
+    taker: TwoShardTaker<N>,
+) -> Option<TwoShardTaker<N>> {
+    let TwoShardTaker {
         seat,
         room,
         first,
@@ -93,7 +96,7 @@ fn take_both<N: Name, T: KeyTable, R: Wait>(
     } = taker;
     let (seat, first, room) = take(rt, table, seat, first, room)?;
     let (seat, second, room) = take(rt, table, seat, second, room)?;
-    Some(Taker {
+    Some(TwoShardTaker {
         seat,
         room,
         first,
@@ -101,13 +104,13 @@ fn take_both<N: Name, T: KeyTable, R: Wait>(
     })
 }
 
-/// Takes steps out until all work is done.
+/// Takes steps out until the workers are done.
 fn take_until<N: Name, T: KeyTable, R: Wait>(
     rt: &R,
     table: &Table<N, T>,
-    mut taker: Taker<N>,
+    mut taker: TwoShardTaker<N>,
     is_done: &AtomicBool,
-) -> Option<Taker<N>> {
+) -> Option<TwoShardTaker<N>> {
     for _ in 0..TURNS {
         if is_done.load(Ordering::SeqCst) {
             return Some(taker);
@@ -117,14 +120,14 @@ fn take_until<N: Name, T: KeyTable, R: Wait>(
     None
 }
 
-/// All workers at once, and beside them the taker.
+/// Runs all workers at once, and the taker at the same time.
 fn work_beside<N: Name + Send + Sync, T: KeyTable + Send, R: Threads + Wait + Sync>(
     rt: &R,
     alloc: Global,
     table: &Table<N, T>,
-    workers: Vec<Worker<N>>,
-    taker: Taker<N>,
-) -> Option<(Vec<Option<Worker<N>>>, Taker<N>)> {
+    workers: Vec<ThreadWork<N>>,
+    taker: TwoShardTaker<N>,
+) -> Option<(Vec<Option<ThreadWork<N>>>, TwoShardTaker<N>)> {
     let is_done = AtomicBool::new(false);
     let done = &is_done;
     let (worked, taken) = join(
@@ -139,26 +142,30 @@ fn work_beside<N: Name + Send + Sync, T: KeyTable + Send, R: Threads + Wait + Sy
     Some((worked.ok()?, taken?))
 }
 
-fn stream_of<N: Name, T: KeyTable>(alloc: Global, table: &Table<N, T>, byte: u8) -> Option<Stream>
+fn stream_of<N: Name, T: KeyTable>(
+    alloc: Global,
+    table: &Table<N, T>,
+    byte: u8,
+) -> Option<ShardStream>
     ensures { IfSome result (λ s. s.reader.shard < N.of.shards) }
 {
     let shard = table.shard_of(&key_of(alloc, byte)?);
-    Some(Stream {
+    Some(ShardStream {
         reader: Reader { shard, next: 0 },
         taken: Vec::new(alloc),
         pieces: 0,
     })
 }
 
-/// The last seat takes steps out of the shards of the keys b and a, which are 0 and 1 of two.
+/// A taker with this seat, for the shards of the keys b and a, which have the indices 0 and 1 of two shards.
 fn taker_of<N: Name, T: KeyTable>(
     alloc: Global,
     table: &Table<N, T>,
     seat: Seat<N>,
-) -> Option<Taker<N>>
+) -> Option<TwoShardTaker<N>>
     requires { N.of.keeping ≢ Keeping.Whole }
 {
-    Some(Taker {
+    Some(TwoShardTaker {
         seat,
         room: Vec::new(alloc),
         first: stream_of(alloc, table, b'b')?,
@@ -166,7 +173,8 @@ fn taker_of<N: Name, T: KeyTable>(
     })
 }
 
-/// What was taken of a shard and what is left of it, which follows.
+/// The steps taken from a shard, followed by the steps left in it. `None` if the rest begins at another index, or
+/// an allocation fails.
 fn joined(mut taken: Vec<Entry>, rest: Rest) -> Option<Vec<Entry>> {
     if rest.from != taken.len() as u64 {
         return None;
@@ -191,15 +199,15 @@ fn histories_of(
     Some(shards)
 }
 
-/// Closes the table and puts all together.
+/// Closes the table and collects the results.
 fn close<N: Name, T: KeyTable + Drop, R: Wait>(
     rt: &R,
     alloc: Global,
     table: Table<N, T>,
-    worked: Vec<Option<Worker<N>>>,
-    taker: Taker<N>,
-) -> Option<Worked> {
-    let Taker {
+    worked: Vec<Option<ThreadWork<N>>>,
+    taker: TwoShardTaker<N>,
+) -> Option<ThreadsRun> {
+    let TwoShardTaker {
         seat,
         first,
         second,
@@ -210,7 +218,7 @@ fn close<N: Name, T: KeyTable + Drop, R: Wait>(
     let lines = lines_of(alloc, worked, &mut seats)?;
     let rests = rests_through(rt, alloc, table, seats, &mut Vec::new(alloc))?;
     let pieces = first.pieces.wrapping_add(second.pieces);
-    Some(Worked {
+    Some(ThreadsRun {
         lines,
         shards: histories_of(alloc, first.taken, second.taken, rests.shards)?,
         pieces,
@@ -222,7 +230,7 @@ fn stream_named<N: Name + Send + Sync, R: Threads + Wait + Sync>(
     rt: &R,
     alloc: Global,
     ready: Ready,
-) -> Option<Worked>
+) -> Option<ThreadsRun>
     requires of { ready.of ≡ N.of }
     requires keeping { N.of.keeping ≢ Keeping.Whole }
 {
@@ -234,8 +242,8 @@ fn stream_named<N: Name + Send + Sync, R: Threads + Wait + Sync>(
     close(rt, alloc, table, worked, taker)
 }
 
-/// A table of two shards and five passes.
-pub fn stream_work<R: Threads + Wait + Sync>(rt: &R, alloc: Global) -> Option<Worked> {
+/// Has four threads work on a streamed table of two shards and five passes, and a fifth thread take the steps out.
+pub fn stream_work<R: Threads + Wait + Sync>(rt: &R, alloc: Global) -> Option<ThreadsRun> {
     let small = Config {
         max_steps: HELD,
         passes: 5,

@@ -1,20 +1,23 @@
-//! What four threads were told of a whole table, and of a streamed one beside a fifth thread that takes their steps out.
+//! Does each answer agree with the table's history when four threads work at once?
+//! Four threads work on a whole table (`race`), and on a streamed one while a fifth thread takes the steps out
+//! (`stream`). The tests compare each answer with the step at its index, and replay the histories. Read next
+//! `work`, which has the calls of the threads.
 ghost use Rattle.std.specs.Prelude.{◌≡◌, length};
 
 use crate::race::race;
 use crate::stream::stream_work;
-use crate::work::{ROUNDS, Worked};
+use crate::work::{ROUNDS, ThreadsRun};
 use lt_entry::Entry;
 use lt_plain::{Call, Reply};
 use lt_table::Scan;
-use lt_test_kit::command::Told;
-use lt_test_kit::desk::Line;
+use lt_test_kit::command::CallOutcome;
+use lt_test_kit::play::PlayedCommand;
 use lt_test_kit::replay::is_legal;
 use std::alloc::Global;
 use std::process::Abort;
 use std::test::Fail;
 
-/// The call of transaction `number` that takes the lock, or frees it.
+/// Whether the call is the one by which transaction `number` takes the lock or, unless `is_taking`, frees it.
 fn is_call(call: &Call, number: u64, is_taking: bool) -> bool {
     match call {
         Call::Acquire { txn, .. } => is_taking && txn.number() == number,
@@ -23,11 +26,12 @@ fn is_call(call: &Call, number: u64, is_taking: bool) -> bool {
     }
 }
 
-/// The line tells the reply of this call, and its place in the history of the shard of the key a holds that step.
+/// Asserts that the history of the key a's shard has the step of this call at the line's index, by this pass and
+/// with the line's reply.
 fn is_stored<R: Abort>(
     rt: &R,
-    worked: &Worked,
-    line: &Line,
+    worked: &ThreadsRun,
+    line: &PlayedCommand,
     pass: u32,
     is_taking: bool,
 ) -> Result<(), Fail> {
@@ -36,29 +40,36 @@ fn is_stored<R: Abort>(
     let entry = history.get(at as usize).ok_or("the step")?;
     assert_eq!(rt; entry.key().as_bytes(), b"a".as_slice());
     assert_eq!(rt; entry.pass(), pass);
-    assert_eq!(rt; line.told, Told::Stepped(entry.reply()));
+    assert_eq!(rt; line.told, CallOutcome::Stepped(entry.reply()));
     assert!(rt; is_call(&entry.call(), u64::from(pass), is_taking));
     Ok(())
 }
 
-/// The request came, passed, and left its key, where it stood no more.
-fn compare_request<R: Abort>(rt: &R, round: &[Line]) -> Result<(), Fail>
+/// Asserts that the request entered, passed at its key and left it. It is not queued there, so the leave finds no
+/// entry.
+fn compare_request<R: Abort>(rt: &R, round: &[PlayedCommand]) -> Result<(), Fail>
     requires { length round.now ≡ 5 }
 {
-    assert!(rt; matches!(round[0].told, Told::Entered(_)));
-    assert_eq!(rt; round[1].told, Told::Scanned(Scan::Proceed));
+    assert!(rt; matches!(round[0].told, CallOutcome::Entered(_)));
+    assert_eq!(rt; round[1].told, CallOutcome::Scanned(Scan::Proceed));
     assert_eq!(rt; round[1].replies.as_slice(), [Reply::Passed].as_slice());
-    assert_eq!(rt; round[4].told, Told::Left);
+    assert_eq!(rt; round[4].told, CallOutcome::Left);
     assert_eq!(rt; round[4].replies.as_slice(), [Reply::Absent].as_slice());
     Ok(())
 }
 
-/// It took the lock of the key a and freed it, or another transaction had it.
-fn compare_lock<R: Abort>(rt: &R, worked: &Worked, round: &[Line], pass: u32) -> Result<(), Fail>
+/// Asserts that the transaction took the lock of the key a and freed it, or that it did neither because another
+/// transaction held the lock.
+fn compare_lock<R: Abort>(
+    rt: &R,
+    worked: &ThreadsRun,
+    round: &[PlayedCommand],
+    pass: u32,
+) -> Result<(), Fail>
     requires { length round.now ≡ 5 }
 {
     let wanted = match round[2].told {
-        Told::Stepped(Reply::Taken) => Told::Stepped(Reply::Freed),
+        CallOutcome::Stepped(Reply::Taken) => CallOutcome::Stepped(Reply::Freed),
         told => told,
     };
     assert_eq!(rt; round[3].told, wanted);
@@ -66,8 +77,8 @@ fn compare_lock<R: Abort>(rt: &R, worked: &Worked, round: &[Line], pass: u32) ->
     is_stored(rt, worked, &round[3], pass, false)
 }
 
-/// All rounds of each thread.
-fn compare<R: Abort>(rt: &R, worked: &Worked) -> Result<(), Fail> {
+/// Checks all rounds of each thread.
+fn compare<R: Abort>(rt: &R, worked: &ThreadsRun) -> Result<(), Fail> {
     let mut pass = 0u32;
     for lines in &worked.lines {
         pass = pass.wrapping_add(1);
@@ -81,7 +92,7 @@ fn compare<R: Abort>(rt: &R, worked: &Worked) -> Result<(), Fail> {
     Ok(())
 }
 
-/// How many steps both shards have.
+/// How many steps both shards have together.
 fn steps_of(shards: &[Vec<Entry>]) -> usize {
     let mut steps = 0usize;
     for shard in shards {
@@ -90,7 +101,7 @@ fn steps_of(shards: &[Vec<Entry>]) -> usize {
     steps
 }
 
-/// How many keys the steps are of.
+/// How many different keys the steps are of.
 fn count_keys(alloc: Global, shards: &[Vec<Entry>]) -> Option<usize> {
     let mut keys: Vec<&[u8]> = Vec::new(alloc);
     for shard in shards {
@@ -104,9 +115,9 @@ fn count_keys(alloc: Global, shards: &[Vec<Entry>]) -> Option<usize> {
     Some(keys.len())
 }
 
-/// Each round makes four steps: the visit, both calls at the key a, and the leave. The histories are legal ones of all of
-/// them, at five keys.
-fn expect<R: Abort>(rt: &R, alloc: Global, worked: &Worked) -> Result<(), Fail> {
+/// Asserts that the histories agree with the answers. Each round makes four steps: the visit, both calls at the
+/// key a, and the leave. The histories hold all of these steps, are legal, and have five keys.
+fn expect<R: Abort>(rt: &R, alloc: Global, worked: &ThreadsRun) -> Result<(), Fail> {
     compare(rt, worked)?;
     assert_eq!(rt; steps_of(&worked.shards), 4 * 4 * ROUNDS);
     assert_eq!(rt; worked.draws, 4 * ROUNDS as u64);
@@ -118,17 +129,17 @@ fn expect<R: Abort>(rt: &R, alloc: Global, worked: &Worked) -> Result<(), Fail> 
 }
 
 #[test]
-fn the_place_of_each_answer_holds_its_step(rt: HostRuntime) -> Result<(), Fail> {
+fn the_index_of_each_answer_holds_its_step(rt: HostRuntime) -> Result<(), Fail> {
     let worked = race(&rt, rt.alloc()).ok_or("the race")?;
     expect(&rt, rt.alloc(), &worked)
 }
 
-/// Put together, the pieces and what is left are the whole history.
+/// The pieces, followed by what is left, are the whole history.
 #[test]
 fn what_is_taken_while_threads_work_is_their_whole_history(rt: HostRuntime) -> Result<(), Fail> {
     let worked = stream_work(&rt, rt.alloc()).ok_or("the stream")?;
     expect(&rt, rt.alloc(), &worked)?;
-    // A shard holds 64 steps, so what was made of both was taken out in many pieces.
+    // A piece has at most the 64 steps that a shard holds, and at most as many are left in each of two shards.
     let pieces = 4 * 4 * ROUNDS as u64 / 64 - 2;
     assert!(rt; worked.pieces >= pieces, "{}", worked.pieces);
     Ok(())

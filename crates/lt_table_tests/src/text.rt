@@ -1,18 +1,20 @@
-//! Calls of a table as lines of text.
+//! How are calls of a table written as lines of text?
 //!
-//! A line begins with the place of the pass that makes the call, from 0. A key is named by a byte, and times have the logical
-//! part 0.
+//! A line begins with the index of the pass that makes the call, from 0. A key is named by a byte, and the logical
+//! part of every time is 0. `playing` and `keeping` play the lines.
 //!
 //! | line | the call |
 //! |---|---|
-//! | `0 enter 1 20 crawbw 0` | a request of transaction 1, or `-` for none, at time 20, that reads c and writes a and b, or has no accesses where `-` stands, with this bound; 0 is none |
-//! | `0 many 128 2` | a request of transaction 1 that writes 128 keys, of which two are named twice |
-//! | `0 scan`, `0 poll`, `0 leave` | of the request that the pass is in |
-//! | `0 acquire 9 10 a` | of transaction 9 at time 10 at the key a |
-//! | `0 finish 9 a` | of transaction 9 at the key a |
+//! | `0 enter 1 20 crawbw 0` | a request of transaction 1 at time 20 that reads c, writes a and b, and has no bound |
+//! | `0 many 128 2` | a request of transaction 1 that writes 128 keys and names two of them twice |
+//! | `0 scan`, `0 poll`, `0 leave` | a call of the pass's request |
+//! | `0 acquire 9 10 a` | transaction 9 takes the lock of the key a at time 10 |
+//! | `0 finish 9 a` | transaction 9 frees the lock of the key a |
+//!
+//! In `enter`, a hyphen means no transaction or no accesses. The last number is the bound, and 0 means no bound.
 
 use lt_ids::Access;
-use lt_test_kit::command::{Command, Row, Told};
+use lt_test_kit::command::{CallOutcome, CommandRow, TableCommand};
 use std::alloc::Global;
 
 /// The words of a line.
@@ -56,11 +58,11 @@ fn accesses_of(alloc: Global, text: &[u8]) -> Option<Vec<(u8, Access)>> {
     Some(accesses)
 }
 
-fn enter_of(alloc: Global, words: &[&str]) -> Option<Command> {
+fn enter_of(alloc: Global, words: &[&str]) -> Option<TableCommand> {
     let wall = number_at(words, 3)?;
     let text = words.get(4)?.as_bytes();
     let longest = bound_at(words, 5)?;
-    Some(Command::Enter {
+    Some(TableCommand::Enter {
         txn: number_at(words, 2),
         wall,
         accesses: accesses_of(alloc, text)?,
@@ -68,56 +70,56 @@ fn enter_of(alloc: Global, words: &[&str]) -> Option<Command> {
     })
 }
 
-fn acquire_of(words: &[&str]) -> Option<Command> {
-    Some(Command::Acquire {
+fn acquire_of(words: &[&str]) -> Option<TableCommand> {
+    Some(TableCommand::Acquire {
         txn: number_at(words, 2)?,
         wall: number_at(words, 3)?,
         key: key_at(words, 4)?,
     })
 }
 
-fn finish_of(words: &[&str]) -> Option<Command> {
-    Some(Command::Finish {
+fn finish_of(words: &[&str]) -> Option<TableCommand> {
+    Some(TableCommand::Finish {
         txn: number_at(words, 2)?,
         key: key_at(words, 3)?,
     })
 }
 
-fn many_of(words: &[&str]) -> Option<Command> {
-    Some(Command::EnterMany {
+fn many_of(words: &[&str]) -> Option<TableCommand> {
+    Some(TableCommand::EnterMany {
         keys: index_at(words, 2)?,
         twice: index_at(words, 3)?,
     })
 }
 
-/// The call of these words.
-fn command_of(alloc: Global, words: &[&str]) -> Option<Command> {
+/// The call that these words name.
+fn command_of(alloc: Global, words: &[&str]) -> Option<TableCommand> {
     match *words.get(1)? {
         "enter" => enter_of(alloc, words),
         "many" => many_of(words),
-        "scan" => Some(Command::Scan),
-        "poll" => Some(Command::Poll),
+        "scan" => Some(TableCommand::Scan),
+        "poll" => Some(TableCommand::Poll),
         "acquire" => acquire_of(words),
         "finish" => finish_of(words),
-        "leave" => Some(Command::Leave),
+        "leave" => Some(TableCommand::Leave),
         _ => None,
     }
 }
 
-/// The pass and the call of a line. None where it is no call, or an allocation fails.
-pub fn call_of(alloc: Global, line: &str) -> Option<(usize, Command)> {
+/// The index of the pass, and the call of a line. `None` if the line is no call or an allocation fails.
+pub fn call_of(alloc: Global, line: &str) -> Option<(usize, TableCommand)> {
     let words = words_of(alloc, line)?;
     let pass = index_at(&words, 0)?;
     Some((pass, command_of(alloc, &words)?))
 }
 
-fn row_of(alloc: Global, line: &str) -> Option<Row> {
+fn row_of(alloc: Global, line: &str) -> Option<CommandRow> {
     let (pass, command) = call_of(alloc, line)?;
-    Some((pass, command, Told::Nothing))
+    Some((pass, command, CallOutcome::Nothing))
 }
 
-/// The calls of a text, in the order of its lines. None where a line is no call, or an allocation fails.
-pub fn rows_of(alloc: Global, text: &str) -> Option<Vec<Row>> {
+/// The calls of a text, in the order of its lines. `None` if a line is no call or an allocation fails.
+pub fn rows_of(alloc: Global, text: &str) -> Option<Vec<CommandRow>> {
     let mut rows = Vec::new(alloc);
     for line in text.lines() {
         rows.push(row_of(alloc, line)?).ok()?;

@@ -1,10 +1,10 @@
-//! Callers that sleep until they are let through.
+//! Do callers that sleep wake up when they are let through, or when their time is up?
 //!
-//! [`queue`] has so many threads wait at one key that is held, sleep, and take their turns once it comes free; [`timed`]
-//! has a wait that ends at a time; in [`handing`] two threads hand a key to one another; in [`waking`] a waker notes what
-//! it is told.
+//! [`queue`] has threads wait at one key that is held: they sleep, and take their turns once it comes free.
+//! [`timed`] has a wait that ends at a time. In [`handing`] two threads take turns at one lock. In [`waking`] a
+//! waker notes each let. [`tests`] has the tests.
 //!
-//! Passes come to threads in two ways: [`queue`] moves them in seats, and [`lent`] lends them.
+//! Threads get their passes in two ways: [`queue`] moves them in seats, and [`lent`] lends them.
 
 mod handing;
 mod lent;

@@ -1,12 +1,15 @@
-//! Threads that work on one table at once, each in rounds of the same calls.
+//! What do the threads of `race` and `stream` do?
+//! Each thread plays the same five calls in `ROUNDS` rounds. Its request enters, scans a key of its own and
+//! leaves; before it leaves, its transaction takes the lock of the key a, for which all threads compete, and frees
+//! it. Read next `streams`, which compares the results.
 ghost use Rattle.std.specs.Prelude.{◌≡◌};
 
 use lt_entry::Entry;
 use lt_ids::Access;
 use lt_plain::KeyTable;
 use lt_table::{Config, ScanError, StepError, Table};
-use lt_test_kit::command::{Command, Told};
-use lt_test_kit::desk::{Line, play};
+use lt_test_kit::command::{CallOutcome, TableCommand};
+use lt_test_kit::play::{PlayedCommand, play};
 use lt_test_kit::seat::Seat;
 use lt_words::Name;
 use std::alloc::{AllocError, Global};
@@ -14,13 +17,13 @@ use std::hint::spin_loop;
 use std::sync::Wait;
 use std::thread::{Threads, map_vec};
 
-/// How many rounds each thread makes.
+/// How many rounds each thread plays.
 pub const ROUNDS: usize = 5_000;
 
-/// How often a thread tries again at most, where the shard is full.
+/// How often a thread tries a call at most while the shard is full.
 pub const TURNS: u32 = 100_000_000;
 
-/// Numbers for a table of two shards and four passes, which make all rounds.
+/// Limits for a table of two shards and four passes, with room for all rounds.
 pub fn limits() -> Config {
     Config {
         shards: 2,
@@ -31,41 +34,42 @@ pub fn limits() -> Config {
     }
 }
 
-/// A thread's seat, its round of commands, and what they were told so far.
+/// A thread's seat, the commands of a round, and their outcomes so far.
 #[derive(Drop)]
-pub struct Worker<N: Name> {
+pub struct ThreadWork<N: Name> {
     seat: Seat<N>,
-    round: Vec<Command>,
-    lines: Vec<Line>,
+    round: Vec<TableCommand>,
+    lines: Vec<PlayedCommand>,
 }
 
-/// What came of it: what each thread was told, the history of each shard, how many pieces were taken (none of a whole
-/// table), and the draws.
+/// The results of a run: the outcomes of each thread, the history of each shard, how many pieces were taken out (0
+/// for a whole table), and how many request numbers were drawn.
 #[derive(Drop)]
-pub struct Worked {
-    pub lines: Vec<Vec<Line>>,
+pub struct ThreadsRun {
+    pub lines: Vec<Vec<PlayedCommand>>,
     pub shards: Vec<Vec<Entry>>,
     pub pieces: u64,
     pub draws: u64,
 }
 
-/// Whether a shard was full.
-fn is_full(told: Told) -> bool {
+/// Whether the call was refused because a shard was full.
+fn is_full(told: CallOutcome) -> bool {
     match told {
-        Told::NotScanned(error) => error == ScanError::HistoryFull,
-        Told::NotStepped(error) | Told::NotLeft(error) => error == StepError::HistoryFull,
+        CallOutcome::NotScanned(error) => error == ScanError::HistoryFull,
+        CallOutcome::NotStepped(error) | CallOutcome::NotLeft(error) => error
+            == StepError::HistoryFull,
         _ => false,
     }
 }
 
-/// Plays the command, again and again where a shard is full.
+/// Plays the command, and tries again while a shard is full.
 fn play_through<N: Name, T: KeyTable, R: Wait>(
     rt: &R,
     alloc: Global,
     table: &Table<N, T>,
     seat: Seat<N>,
-    command: &Command,
-) -> Option<(Seat<N>, Line)> {
+    command: &TableCommand,
+) -> Option<(Seat<N>, PlayedCommand)> {
     let mut seat = seat;
     for _ in 0..TURNS {
         let (next, line) = play(rt, alloc, table, seat, command)?;
@@ -83,9 +87,9 @@ fn play_round<N: Name, T: KeyTable, R: Wait>(
     rt: &R,
     alloc: Global,
     table: &Table<N, T>,
-    worker: Worker<N>,
-) -> Option<Worker<N>> {
-    let Worker {
+    worker: ThreadWork<N>,
+) -> Option<ThreadWork<N>> {
+    let ThreadWork {
         mut seat,
         round,
         mut lines,
@@ -95,80 +99,80 @@ fn play_round<N: Name, T: KeyTable, R: Wait>(
         seat = next;
         lines.push(line).ok()?;
     }
-    Some(Worker { seat, round, lines })
+    Some(ThreadWork { seat, round, lines })
 }
 
-/// A thread's work.
+/// Plays all rounds of a thread.
 fn work<N: Name, T: KeyTable, R: Wait>(
     rt: &R,
     alloc: Global,
     table: &Table<N, T>,
-    mut worker: Worker<N>,
-) -> Option<Worker<N>> {
+    mut worker: ThreadWork<N>,
+) -> Option<ThreadWork<N>> {
     for _ in 0..ROUNDS {
         worker = play_round(rt, alloc, table, worker)?;
     }
     Some(worker)
 }
 
-/// A request comes to write a key of its own and passes; then it takes the lock of the key a, which all want, frees it, and
-/// leaves.
-fn round_of(alloc: Global, number: u8) -> Result<Vec<Command>, AllocError> {
+/// A request enters to write a key of its own and passes. Its transaction then takes the lock of the key a, for
+/// which all threads compete, and frees it. Finally the request leaves.
+fn round_of(alloc: Global, number: u8) -> Result<Vec<TableCommand>, AllocError> {
     let txn = u64::from(number);
     let mut accesses = Vec::new(alloc);
     accesses.push((b'a'.wrapping_add(number), Access::Write))?;
-    let enter = Command::Enter {
+    let enter = TableCommand::Enter {
         txn: Some(txn),
         wall: 1,
         accesses,
         longest: 0,
     };
-    let take = Command::Acquire {
+    let take = TableCommand::Acquire {
         txn,
         wall: 1,
         key: b'a',
     };
-    let free = Command::Finish { txn, key: b'a' };
-    let round = vec![in alloc; enter, Command::Scan, take, free, Command::Leave]?;
+    let free = TableCommand::Finish { txn, key: b'a' };
+    let round = vec![in alloc; enter, TableCommand::Scan, take, free, TableCommand::Leave]?;
     Ok(round)
 }
 
-/// A worker for each seat: transactions 1, 2 and so on.
-pub fn workers_of<N: Name>(alloc: Global, seats: Vec<Seat<N>>) -> Option<Vec<Worker<N>>> {
+/// A worker for each seat, with transactions 1, 2 and so on.
+pub fn workers_of<N: Name>(alloc: Global, seats: Vec<Seat<N>>) -> Option<Vec<ThreadWork<N>>> {
     let mut workers = Vec::new(alloc);
     let mut number = 0u8;
     for seat in seats {
         number = number.wrapping_add(1);
         let round = round_of(alloc, number).ok()?;
         let lines = Vec::new(alloc);
-        workers.push(Worker { seat, round, lines }).ok()?;
+        workers.push(ThreadWork { seat, round, lines }).ok()?;
     }
     Some(workers)
 }
 
-/// All workers at once.
+/// Runs all workers at once, each on a thread.
 pub fn work_all<N: Name + Send + Sync, T: KeyTable + Send, R: Threads + Wait + Sync>(
     rt: &R,
     alloc: Global,
     table: &Table<N, T>,
-    workers: Vec<Worker<N>>,
-) -> Result<Vec<Option<Worker<N>>>, AllocError> {
+    workers: Vec<ThreadWork<N>>,
+) -> Result<Vec<Option<ThreadWork<N>>>, AllocError> {
     map_vec(
         rt,
         workers,
-        &|worker: Worker<N>| -> Option<Worker<N>> { work(rt, alloc, table, worker) },
+        &|worker: ThreadWork<N>| -> Option<ThreadWork<N>> { work(rt, alloc, table, worker) },
     )
 }
 
-/// What the threads were told; their seats go to the others.
+/// The outcomes of each thread. Appends the threads' seats to `seats`.
 pub fn lines_of<N: Name>(
     alloc: Global,
-    worked: Vec<Option<Worker<N>>>,
+    worked: Vec<Option<ThreadWork<N>>>,
     seats: &mut Vec<Seat<N>>,
-) -> Option<Vec<Vec<Line>>> {
+) -> Option<Vec<Vec<PlayedCommand>>> {
     let mut lines = Vec::new(alloc);
     for worker in worked {
-        let Worker {
+        let ThreadWork {
             seat,
             lines: told,
             ..

@@ -1,9 +1,13 @@
+//! What do the table's calls answer at their limits, and what does a close or a configuration refuse?
+//! The first two tests play lines of text (`playing`) and compare what each call is answered. Each row of the last
+//! test is a configuration and the error that `prepare` gives for it, or none. Read next `text`, which has the
+//! format of the lines.
 use crate::closing::close_twice;
 use crate::playing::{config, plays};
 use lt_table::{CloseError, Config, PrepareError, prepare};
 use std::test::Fail;
 
-/// Numbers and waits run out: no number is drawn past the limit, and a request that used up its waits makes no visit.
+/// No request number is drawn past the limit, and a request that has used up its waits makes no visit.
 #[test]
 fn numbers_and_waits_run_out(rt: HostRuntime) -> Result<(), Fail> {
     let limits = Config {
@@ -26,7 +30,7 @@ fn numbers_and_waits_run_out(rt: HostRuntime) -> Result<(), Fail> {
     Ok(())
 }
 
-/// A key that is given to read and to write is visited once, as a write: the read alone would pass a later lock.
+/// A key that is named to read and to write is visited once, as a write. The read alone would pass a later lock.
 #[test]
 fn a_request_names_1_to_256_accesses(rt: HostRuntime) -> Result<(), Fail> {
     let played = plays(
@@ -42,7 +46,8 @@ fn a_request_names_1_to_256_accesses(rt: HostRuntime) -> Result<(), Fail> {
     let last =
         "768 Stepped(Taken)\n- Entered(3)\n- Scanned(Proceed) [Passed]\n- Left [Absent]\n- Entered(4)\n- Scanned(Waiting(0)) [MustWait]\n";
     assert!(rt; played.told.ends_with(last), "{}", played.told);
-    // Two steps for each key of a request that scans and leaves, the acquire, and the last scan.
+    // Each request that scans and leaves makes two steps for each of its keys. The acquire and the last scan make
+    // one each.
     assert_eq!(rt; played.counts.as_str(), "[772] 4");
     Ok(())
 }

@@ -1,4 +1,8 @@
-//! A running table is asked how a key stands, or which keys of a shard have a record.
+//! How does a test inspect a running table? It asks for the state of a key, or for the keys of a shard that have a
+//! record.
+//!
+//! [`ask_through`] asks on a seat, by the call that fits what the seat holds. A call that runs out of memory is
+//! made again. [`crate::run`] asks such questions between commands.
 ghost use Rattle.std.specs.Prelude.{◌≡◌};
 
 use crate::command::TableCall;
@@ -12,42 +16,42 @@ use lt_words::{Name, Pass};
 use std::alloc::{AllocError, Global};
 use std::sync::Wait;
 
-/// What a table is asked. A key is named by a byte (`key`).
+/// A question to a table. A byte names the key (see [`crate::key`]).
 #[derive(Clone, Copy, Debug, PartialEq, Eq)]
 pub enum Question {
-    /// How does the key stand?
+    /// What is the state of this key?
     State(u8),
-    /// Which keys of the shard of this key have a record? It is asked by a pass that is in no guard.
+    /// Which keys of this key's shard have a record? Only a pass outside a guard can ask it.
     Keys(u8),
 }
 
-/// What a table answers.
+/// The answer to a [`Question`].
 #[derive(Drop)]
-pub enum Sight {
+pub enum TableAnswer {
     State(KeyState),
     Keys(Vec<Key>),
-    /// It is no question that a pass can ask as it stands, alone or in a guard.
+    /// No call was made: a pass inside a guard cannot ask this question.
     Nothing,
 }
 
-/// How a key stands.
-fn of_state(state: Result<KeyState, AllocError>) -> Result<Sight, AllocError> {
-    Ok(Sight::State(state?))
+/// The state of a key, as an answer.
+fn of_state(state: Result<KeyState, AllocError>) -> Result<TableAnswer, AllocError> {
+    Ok(TableAnswer::State(state?))
 }
 
-/// The keys that have a record.
-fn of_keys(keys: Result<Vec<Key>, AllocError>) -> Result<Sight, AllocError> {
-    Ok(Sight::Keys(keys?))
+/// The keys that have a record, as an answer.
+fn of_keys(keys: Result<Vec<Key>, AllocError>) -> Result<TableAnswer, AllocError> {
+    Ok(TableAnswer::Keys(keys?))
 }
 
-/// A pass asks. None where memory is refused beside the call.
+/// Asks by a pass outside a guard. None if an allocation outside the call fails.
 fn ask_by_pass<N: Name, T: KeyTable, R: Wait>(
     rt: &R,
     alloc: Global,
     table: &Table<N, T>,
     pass: &mut Pass,
     question: Question,
-) -> Option<Result<Sight, AllocError>>
+) -> Option<Result<TableAnswer, AllocError>>
     requires { pass.old.of ≡ N.of }
     ensures { pass.new.of ≡ N.of }
 {
@@ -63,14 +67,14 @@ fn ask_by_pass<N: Name, T: KeyTable, R: Wait>(
     }
 }
 
-/// A pass asks through its guard.
+/// Asks through the guard that holds the pass. None if an allocation outside the call fails.
 fn ask_by_guard<N: Name, T: KeyTable, R: Wait>(
     rt: &R,
     alloc: Global,
     table: &Table<N, T>,
     guard: &mut Guard,
     question: Question,
-) -> Option<Result<Sight, AllocError>>
+) -> Option<Result<TableAnswer, AllocError>>
     requires { guard.old.pass.of ≡ N.of }
     ensures { guard.new.pass.of ≡ N.of }
 {
@@ -79,18 +83,18 @@ fn ask_by_guard<N: Name, T: KeyTable, R: Wait>(
             let key = key_of(alloc, byte)?;
             Some(of_state(table.inspect_in(rt, guard, &key)))
         }
-        Question::Keys(_) => Some(Ok(Sight::Nothing)),
+        Question::Keys(_) => Some(Ok(TableAnswer::Nothing)),
     }
 }
 
-/// Asks by what the seat holds. None where memory is refused beside the call.
+/// Asks by the pass or the guard in the seat. None if an allocation outside the call fails.
 fn ask<N: Name, T: KeyTable, R: Wait>(
     rt: &R,
     alloc: Global,
     table: &Table<N, T>,
     seat: Seat<N>,
     question: Question,
-) -> Option<(Seat<N>, Result<Sight, AllocError>)> {
+) -> Option<(Seat<N>, Result<TableAnswer, AllocError>)> {
     match seat.into_holds() {
         Holds::Free(mut pass) => {
             let sight = ask_by_pass(rt, alloc, table, &mut pass, question);
@@ -105,7 +109,7 @@ fn ask<N: Name, T: KeyTable, R: Wait>(
     }
 }
 
-/// The call that asks this on the seat.
+/// The call of the table that asks this question on this seat.
 fn call_of<N: Name>(seat: &Seat<N>, question: Question) -> TableCall {
     match question {
         Question::State(_) if seat.is_open() => TableCall::InspectIn,
@@ -114,7 +118,8 @@ fn call_of<N: Name>(seat: &Seat<N>, question: Question) -> TableCall {
     }
 }
 
-/// Asks by what the seat holds, and once more where the call is refused memory; the refusal is noted.
+/// Asks by the pass or the guard in the seat. A call that runs out of memory is noted in `refusals` and made a
+/// second time. None if the second call fails too, or an allocation outside the calls fails.
 pub fn ask_through<N: Name, T: KeyTable, R: Wait>(
     rt: &R,
     alloc: Global,
@@ -122,7 +127,7 @@ pub fn ask_through<N: Name, T: KeyTable, R: Wait>(
     seat: Seat<N>,
     question: Question,
     refusals: &mut Vec<TableCall>,
-) -> Option<(Seat<N>, Sight)> {
+) -> Option<(Seat<N>, TableAnswer)> {
     let (seat, answered) = ask(rt, alloc, table, seat, question)?;
     if let Ok(sight) = answered {
         return Some((seat, sight));

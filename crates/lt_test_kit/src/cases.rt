@@ -1,10 +1,15 @@
-//! What came about in a test, counted, so that the test can tell that it met each case of the rules.
+//! Which cases of the rules did a test meet? [`RuleCaseCounts`] counts them, so that a test can fail if one never
+//! occurred.
+//!
+//! [`case_of`] classifies a visit by the lock and the visitor alone; the `add_` methods classify looks, lets and
+//! releases. The cases follow the tables of `docs/RULES.md`. The visits and lets are counted from plain numbers,
+//! as in [`crate::second`], so this file also uses nothing of the rules in `lt_plain`.
 use crate::second::{Time, is_below, is_one};
 use lt_plain::Reply;
 
 /// A case of the rules of one key (`docs/RULES.md`).
 #[derive(Clone, Copy, Debug, PartialEq, Eq)]
-pub enum Case {
+pub enum RuleCase {
     VisitOfAFreeKey,
     VisitOfTheOwnLock,
     ReadBelowTheLock,
@@ -39,61 +44,61 @@ pub enum Case {
     IdleWriterIsNext,
 }
 
-/// All of them.
-pub const CASES: [Case; 32] = [
-    Case::VisitOfAFreeKey,
-    Case::VisitOfTheOwnLock,
-    Case::ReadBelowTheLock,
-    Case::ReadThatWaits,
-    Case::ReadThatWaitsAnew,
-    Case::WriteThatWaits,
-    Case::WriteThatWaitsAnew,
-    Case::WriteThatStandsPastItsBound,
-    Case::WriteTooLongAtAHeldLock,
-    Case::ReadOfAReservedKey,
-    Case::WriteOfTheOwnReservation,
-    Case::WriteBeforeTheReservation,
-    Case::WriteWithoutTransactionBeforeTheReservation,
-    Case::WriteBehindTheReservation,
-    Case::WriteThatStandsPastItsBoundBehindTheReservation,
-    Case::WriteTooLongBehindTheReservation,
-    Case::LookOfNobody,
-    Case::LookOfTheReservation,
-    Case::LookOfAnInactiveWriter,
-    Case::LookForAHolder,
-    Case::LookForAReservation,
-    Case::FirstLookForAHolder,
-    Case::FirstLookForAReservation,
-    Case::LookForTheOwnTransaction,
-    Case::LetAtAFinish,
-    Case::LetAtALeave,
-    Case::LetAtARaise,
-    Case::LetAtAnAcquire,
-    Case::RaiseThatLetsSomeReadersWait,
-    Case::WritersLetThroughBeforeTheNext,
-    Case::WritersLetThroughAndNoneIsNext,
-    Case::IdleWriterIsNext,
+/// All cases, in the order of their declaration.
+pub const CASES: [RuleCase; 32] = [
+    RuleCase::VisitOfAFreeKey,
+    RuleCase::VisitOfTheOwnLock,
+    RuleCase::ReadBelowTheLock,
+    RuleCase::ReadThatWaits,
+    RuleCase::ReadThatWaitsAnew,
+    RuleCase::WriteThatWaits,
+    RuleCase::WriteThatWaitsAnew,
+    RuleCase::WriteThatStandsPastItsBound,
+    RuleCase::WriteTooLongAtAHeldLock,
+    RuleCase::ReadOfAReservedKey,
+    RuleCase::WriteOfTheOwnReservation,
+    RuleCase::WriteBeforeTheReservation,
+    RuleCase::WriteWithoutTransactionBeforeTheReservation,
+    RuleCase::WriteBehindTheReservation,
+    RuleCase::WriteThatStandsPastItsBoundBehindTheReservation,
+    RuleCase::WriteTooLongBehindTheReservation,
+    RuleCase::LookOfNobody,
+    RuleCase::LookOfTheReservation,
+    RuleCase::LookOfAnInactiveWriter,
+    RuleCase::LookForAHolder,
+    RuleCase::LookForAReservation,
+    RuleCase::FirstLookForAHolder,
+    RuleCase::FirstLookForAReservation,
+    RuleCase::LookForTheOwnTransaction,
+    RuleCase::LetAtAFinish,
+    RuleCase::LetAtALeave,
+    RuleCase::LetAtARaise,
+    RuleCase::LetAtAnAcquire,
+    RuleCase::RaiseThatLetsSomeReadersWait,
+    RuleCase::WritersLetThroughBeforeTheNext,
+    RuleCase::WritersLetThroughAndNoneIsNext,
+    RuleCase::IdleWriterIsNext,
 ];
 
-/// How often each case came about.
+/// How often each case occurred.
 #[derive(Drop)]
-pub struct Counts {
+pub struct RuleCaseCounts {
     counts: [u64; 32],
 }
 
-impl Counts {
+impl RuleCaseCounts {
     pub fn new() -> Self {
-        Counts { counts: [0; 32] }
+        RuleCaseCounts { counts: [0; 32] }
     }
 
-    pub fn add(&mut self, case: Case) {
+    pub fn add(&mut self, case: RuleCase) {
         if let Some(count) = self.counts.get_mut(case as usize) {
             *count = count.wrapping_add(1);
         }
     }
 
-    /// A case that never came about.
-    pub fn missing(&self) -> Option<Case> {
+    /// The first case that never occurred, if there is one.
+    pub fn missing(&self) -> Option<RuleCase> {
         for case in &CASES {
             if self.counts.get(*case as usize) == Some(&0) {
                 return Some(*case);
@@ -102,52 +107,53 @@ impl Counts {
         None
     }
 
-    /// What this look was.
+    /// Counts the case of a look with this reply.
     pub fn add_look(&mut self, found: Reply) {
         match found {
-            Reply::Nothing => self.add(Case::LookOfNobody),
-            Reply::Reserved => self.add(Case::LookOfTheReservation),
-            Reply::Idle => self.add(Case::LookOfAnInactiveWriter),
-            Reply::WaitFor(_, true) => self.add(Case::LookForAHolder),
-            Reply::WaitFor(_, false) => self.add(Case::LookForAReservation),
-            Reply::WaitFirst(_, true) => self.add(Case::FirstLookForAHolder),
-            Reply::WaitFirst(_, false) => self.add(Case::FirstLookForAReservation),
-            Reply::WaitOwn(_) => self.add(Case::LookForTheOwnTransaction),
+            Reply::Nothing => self.add(RuleCase::LookOfNobody),
+            Reply::Reserved => self.add(RuleCase::LookOfTheReservation),
+            Reply::Idle => self.add(RuleCase::LookOfAnInactiveWriter),
+            Reply::WaitFor(_, true) => self.add(RuleCase::LookForAHolder),
+            Reply::WaitFor(_, false) => self.add(RuleCase::LookForAReservation),
+            Reply::WaitFirst(_, true) => self.add(RuleCase::FirstLookForAHolder),
+            Reply::WaitFirst(_, false) => self.add(RuleCase::FirstLookForAReservation),
+            Reply::WaitOwn(_) => self.add(RuleCase::LookForTheOwnTransaction),
             _ => {}
         }
     }
 
-    /// What a step with this reply and some lets was; after it, some request may still wait to read.
+    /// Counts the case of a step that made lets, by its reply. `some_reader_waits`: a request still waits to read
+    /// after the step.
     pub fn add_lets(&mut self, reply: Reply, some_reader_waits: bool) {
         match reply {
-            Reply::Freed => self.add(Case::LetAtAFinish),
-            Reply::Left => self.add(Case::LetAtALeave),
-            Reply::Taken => self.add(Case::LetAtAnAcquire),
-            Reply::Raised => self.add(Case::LetAtARaise),
+            Reply::Freed => self.add(RuleCase::LetAtAFinish),
+            Reply::Left => self.add(RuleCase::LetAtALeave),
+            Reply::Taken => self.add(RuleCase::LetAtAnAcquire),
+            Reply::Raised => self.add(RuleCase::LetAtARaise),
             _ => {}
         }
         if reply == Reply::Raised && some_reader_waits {
-            self.add(Case::RaiseThatLetsSomeReadersWait);
+            self.add(RuleCase::RaiseThatLetsSomeReadersWait);
         }
     }
 
-    /// What came after a lock came free.
+    /// Counts the cases of a lock that came free.
     pub fn add_release(&mut self, release: &Release) {
         if release.is_next {
             if release.writers_let != 0 {
-                self.add(Case::WritersLetThroughBeforeTheNext);
+                self.add(RuleCase::WritersLetThroughBeforeTheNext);
             }
             if !release.next_is_let {
-                self.add(Case::IdleWriterIsNext);
+                self.add(RuleCase::IdleWriterIsNext);
             }
         } else if release.writers_let != 0 {
-            self.add(Case::WritersLetThroughAndNoneIsNext);
+            self.add(RuleCase::WritersLetThroughAndNoneIsNext);
         }
     }
 }
 
-/// A lock that came free: how many writers without a transaction were let through, whether the lock is now reserved,
-/// and whether the request that has it was let through.
+/// What happened when a lock came free: how many writers without a transaction were let through, whether the lock
+/// is now reserved, and whether the request with that reservation was let through.
 #[derive(Clone, Copy, Debug)]
 pub struct Release {
     pub writers_let: u64,
@@ -155,15 +161,16 @@ pub struct Release {
     pub next_is_let: bool,
 }
 
-/// Who has the lock of a key: the transaction that holds it and the lock's time, or the number of the request for
-/// which it is reserved.
+/// The state of a lock: its holder and the lock's time, or the number of the request for which it is reserved, or
+/// neither.
 #[derive(Clone, Copy, Debug)]
 pub struct Lock {
     pub holder: Option<(u64, Time)>,
     pub reserved: Option<u64>,
 }
 
-/// A visit, by plain numbers. The visitor may wait at the key already, and may stand among the writers there.
+/// A visit, in plain numbers. `waits`: the visitor is already queued at the key. `is_queued`: it is queued among the
+/// writers. `writers`: how many writers are queued, active or not.
 #[derive(Clone, Copy, Debug)]
 pub struct Visit {
     pub number: u64,
@@ -176,58 +183,59 @@ pub struct Visit {
     pub writers: u64,
 }
 
-/// Whether so many write already as the visit's bound says, or more.
+/// Whether this is a write with a bound, and at least as many writers as the bound are queued.
 fn is_past_the_bound(visit: &Visit) -> bool {
     visit.is_write && visit.longest != 0 && visit.writers >= visit.longest as u64
 }
 
-fn wait_of(visit: &Visit) -> Case {
+/// The case of a visit to a lock that keeps the visitor out.
+fn wait_of(visit: &Visit) -> RuleCase {
     if is_past_the_bound(visit) {
         return if visit.is_queued {
-            Case::WriteThatStandsPastItsBound
+            RuleCase::WriteThatStandsPastItsBound
         } else {
-            Case::WriteTooLongAtAHeldLock
+            RuleCase::WriteTooLongAtAHeldLock
         };
     }
     match (visit.is_write, visit.waits) {
-        (false, false) => Case::ReadThatWaits,
-        (false, true) => Case::ReadThatWaitsAnew,
-        (true, false) => Case::WriteThatWaits,
-        (true, true) => Case::WriteThatWaitsAnew,
+        (false, false) => RuleCase::ReadThatWaits,
+        (false, true) => RuleCase::ReadThatWaitsAnew,
+        (true, false) => RuleCase::WriteThatWaits,
+        (true, true) => RuleCase::WriteThatWaitsAnew,
     }
 }
 
-/// Which case of a visit this is.
-pub fn case_of(lock: &Lock, visit: &Visit) -> Case {
+/// The case of the rules to which this visit belongs.
+pub fn case_of(lock: &Lock, visit: &Visit) -> RuleCase {
     if let Some((txn, time)) = lock.holder {
         if is_one(visit.txn, txn) {
-            return Case::VisitOfTheOwnLock;
+            return RuleCase::VisitOfTheOwnLock;
         }
         if !visit.is_write && is_below(visit.time, time) {
-            return Case::ReadBelowTheLock;
+            return RuleCase::ReadBelowTheLock;
         }
         return wait_of(visit);
     }
     let Some(number) = lock.reserved else {
-        return Case::VisitOfAFreeKey;
+        return RuleCase::VisitOfAFreeKey;
     };
     if !visit.is_write {
-        return Case::ReadOfAReservedKey;
+        return RuleCase::ReadOfAReservedKey;
     }
     if number == visit.number {
-        return Case::WriteOfTheOwnReservation;
+        return RuleCase::WriteOfTheOwnReservation;
     }
     if visit.number < number {
         return match visit.txn {
-            Some(_) => Case::WriteBeforeTheReservation,
-            None => Case::WriteWithoutTransactionBeforeTheReservation,
+            Some(_) => RuleCase::WriteBeforeTheReservation,
+            None => RuleCase::WriteWithoutTransactionBeforeTheReservation,
         };
     }
     if !is_past_the_bound(visit) {
-        Case::WriteBehindTheReservation
+        RuleCase::WriteBehindTheReservation
     } else if visit.is_queued {
-        Case::WriteThatStandsPastItsBoundBehindTheReservation
+        RuleCase::WriteThatStandsPastItsBoundBehindTheReservation
     } else {
-        Case::WriteTooLongBehindTheReservation
+        RuleCase::WriteTooLongBehindTheReservation
     }
 }

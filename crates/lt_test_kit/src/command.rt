@@ -1,18 +1,19 @@
+//! Which commands can a test play, and which outcomes can they have? A [`CommandRow`] is one row of a test's table.
 use lt_ids::Access;
 use lt_plain::Reply;
 use lt_table_core::{EnterError, Poll, Scan, ScanError, StepError};
 
-/// A call of the table by one pass. A key is named by a byte (`key`); times have the logical part 0.
+/// A call of the table by one pass. A byte names a key (see [`crate::key`]); timestamps have the logical part 0.
 #[derive(Drop)]
-pub enum Command {
-    /// A request of this transaction or of none enters, with this bound; 0 is none.
+pub enum TableCommand {
+    /// A request enters, with this transaction or without one. `longest` is its bound; 0 is no bound.
     Enter {
         txn: Option<u64>,
         wall: u64,
         accesses: Vec<(u8, Access)>,
         longest: u32,
     },
-    /// Transaction 1 enters at time 0 to write so many keys, of which the first ones are named twice.
+    /// A request of transaction 1 enters at time 0 to write `keys` keys, and names the first `twice` of them again.
     EnterMany {
         keys: usize,
         twice: usize,
@@ -39,10 +40,10 @@ pub enum Command {
     Leave,
 }
 
-/// A command of the pass at this place, from 0, and what it is to be told.
-pub type Row = (usize, Command, Told);
+/// The index of a pass, from 0, the command that it plays, and the expected outcome.
+pub type CommandRow = (usize, TableCommand, CallOutcome);
 
-/// A call of the table, as one of those that can be refused memory.
+/// A call of the table, as a test notes it when it runs out of memory.
 #[derive(Clone, Copy, Debug, PartialEq, Eq)]
 pub enum TableCall {
     Prepare,
@@ -64,13 +65,13 @@ pub enum TableCall {
     LockedKeys,
     Close,
     CloseRest,
-    /// No call: memory beside the calls, or a call that was made again and answered otherwise.
+    /// Not a call: an allocation outside the calls failed, or a call was made again and answered differently.
     Beside,
 }
 
-/// What a command was answered.
+/// The outcome of a command.
 #[derive(Clone, Copy, Debug, PartialEq, Eq)]
-pub enum Told {
+pub enum CallOutcome {
     /// The request entered with this number.
     Entered(u64),
     NotEntered(EnterError),
@@ -81,17 +82,18 @@ pub enum Told {
     NotStepped(StepError),
     Left,
     NotLeft(StepError),
-    /// It is no call that a pass can make as it stands, alone or in a guard.
+    /// No call was made: the command does not fit what the seat holds, a free pass or a guard.
     Nothing,
 }
 
-impl Told {
-    /// Whether the call was refused for want of memory.
+impl CallOutcome {
+    /// Whether the call ran out of memory.
     pub fn is_out_of_memory(&self) -> bool {
         match self {
-            Told::NotEntered(error) => *error == EnterError::Memory,
-            Told::NotScanned(error) => *error == ScanError::Memory,
-            Told::NotStepped(error) | Told::NotLeft(error) => *error == StepError::Memory,
+            CallOutcome::NotEntered(error) => *error == EnterError::Memory,
+            CallOutcome::NotScanned(error) => *error == ScanError::Memory,
+            CallOutcome::NotStepped(error) | CallOutcome::NotLeft(error) => *error
+                == StepError::Memory,
             _ => false,
         }
     }

@@ -1,14 +1,14 @@
-//! The key that a byte names.
+//! Which key does a byte name in a test?
 use lt_ids::Key;
 use std::alloc::Global;
 
-/// How many bytes the key of this byte has: a capital letter names the key of it 61 times, which is too long to be kept
-/// without an allocation, and any other byte the key of it alone.
+/// The length in bytes of the key that this byte names. A capital letter names a key of 61 copies of it, which is
+/// too long to be stored without an allocation. Any other byte names the key of that single byte.
 pub fn key_length(byte: u8) -> usize {
     if byte.is_ascii_uppercase() { 61 } else { 1 }
 }
 
-/// The key of this byte. None where it is no byte of a key, or memory is refused.
+/// The key that this byte names. None if a key cannot contain the byte, or an allocation fails.
 pub fn key_of(alloc: Global, byte: u8) -> Option<Key> {
     let bytes = [byte; 61];
     if byte.is_ascii_uppercase() {

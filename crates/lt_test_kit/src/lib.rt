@@ -1,22 +1,24 @@
-//! What the tests of several crates share.
+//! What tools do the tests of several crates share? Read [`run`] first: it plays a table of rows on an open table.
 //!
-//! - Commands are played on a table through its public calls and nothing else: a [`seat::Seat`] keeps a pass or its guard;
-//!   [`desk`] plays a command on a seat and tells what it was answered; [`asking`] asks a running table; [`key`] says which key
-//!   a byte names; [`run`] opens a table, plays a list of commands and closes it.
-//! - The rules of one key are evaluated a second time: [`second::Second`] is written from the tables of `docs/RULES.md`, with
-//!   none of the code or the definitions of `lt_plain`. So a slip in the definitions themselves, which no proof can show, shows
-//!   where the two are compared. [`cases`] counts what came about, so that no case of the rules is left out.
-//! - [`replay`] makes the steps of a history once more, [`plain`] makes the plain tables of a table's shards, and [`random`] is a
-//!   stream of numbers that is the same in each run.
+//! - **Playing commands.** Everything here uses the table's public calls and nothing else. A [`seat::Seat`] holds
+//!   a pass or its guard. [`play`] plays one command on a seat and reports the outcome of the call. [`asking`]
+//!   asks a running table for the state of a key or the keys of a shard. [`key`] maps a byte to a key. [`run`]
+//!   plays a list of commands and then closes the table.
+//! - **A second evaluation of the rules.** [`second::Second`] evaluates the rules of one key. It is written from
+//!   the tables of `docs/RULES.md` and shares no code and no definition with `lt_plain`. A mistake in the
+//!   definitions themselves, which no proof can find, shows up when a test compares the two. [`cases`] counts
+//!   which cases of the rules occurred, so that a test can require all of them.
+//! - **Small parts.** [`replay`] repeats the steps of a history, [`plain`] makes the plain tables of a table's
+//!   shards, and [`random`] is a pseudorandom stream that is the same in each run.
 #![tactic(auto)]
 
 pub mod asking;
 pub mod cases;
 pub mod command;
-pub mod desk;
 pub mod holds;
 pub mod key;
 pub mod plain;
+pub mod play;
 pub mod random;
 pub mod replay;
 pub mod run;

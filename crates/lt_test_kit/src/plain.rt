@@ -1,4 +1,4 @@
-//! Plain tables, to open a table over.
+//! The plain tables over which a test opens a table.
 ghost use Rattle.std.specs.Prelude.{◌≡◌, IfOk, length};
 ghost use Rattle.std.specs.List.{All};
 ghost use Rattle.std.specs.FinMap as finmap;
@@ -7,7 +7,7 @@ use lt_plain::PlainTable;
 use lt_table_core::empty_tables;
 use std::alloc::{AllocError, Global};
 
-/// So many empty plain tables.
+/// `count` empty plain tables.
 pub fn plain_tables(alloc: Global, count: usize) -> Result<Vec<PlainTable>, AllocError>
     ensures many { IfOk result (λ tables. length tables.items ≡ count) }
     ensures empty { IfOk result (λ tables. All (λ t. t ≡ finmap.empty) tables.items) }

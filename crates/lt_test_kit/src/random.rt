@@ -1,6 +1,7 @@
+//! A pseudorandom stream that is the same in each run.
 ghost use Rattle.std.specs.Prelude.{◌<◌};
 
-/// A stream of numbers that look random and are the same in each run (xorshift, 64 bits).
+/// A pseudorandom stream of 64-bit numbers (xorshift). The seed determines it.
 #[derive(Clone, Copy, Debug)]
 pub struct Random {
     state: u64,

@@ -1,10 +1,10 @@
-//! The steps of a history are made once more.
+//! Is a history legal? Its steps are repeated on a fresh plain table and compared.
 use lt_entry::Entry;
 use lt_ids::Through;
 use lt_plain::{KeyTable, PlainTable, step};
 use std::alloc::Global;
 
-/// Whether the table gives the entry's reply and lets, where its step is made of it once more. None where an allocation fails.
+/// Repeats the entry's step on the table, and compares the reply and the lets. None if an allocation fails.
 fn is_made_again<T: KeyTable>(alloc: Global, table: &mut T, entry: &Entry) -> Option<bool> {
     let pass = entry.pass();
     if pass < 1 || 1024 < pass {
@@ -15,8 +15,8 @@ fn is_made_again<T: KeyTable>(alloc: Global, table: &mut T, entry: &Entry) -> Op
     Some(reply == entry.reply() && lets.as_slice() == entry.lets())
 }
 
-/// Whether the entries are a legal history of each of their keys: whether a plain table that begins empty gives their replies
-/// and lets. None where an allocation fails.
+/// Whether the entries are a legal history of each of their keys: an initially empty plain table gives the same
+/// replies and lets. None if an allocation fails.
 pub fn is_legal(alloc: Global, entries: &[Entry]) -> Option<bool> {
     let mut table = PlainTable::new(alloc);
     for entry in entries {

@@ -1,11 +1,16 @@
-//! Commands are played on a table that was opened, and the table is closed.
+//! How is a table of rows played? [`play_all`] plays them on an open table, asks questions in between, and closes
+//! the table.
+//!
+//! A row names a pass by its index, a command, and the expected outcome. The commands run in order, one after the
+//! other. A call that runs out of memory is noted and made a second time. The caller compares the outcomes with
+//! the rows. Read [`crate::play`] next for how one command becomes a call.
 ghost use Rattle.std.specs.Prelude.{◌≡◌, ◌++◌, ◌∷◌, [], IfOk, IsTrue};
 ghost use Rattle.std.specs.List.{All};
 
-use crate::asking::{Question, Sight, ask_through};
-use crate::command::{Command, Row, TableCall};
-use crate::desk::{Line, play};
+use crate::asking::{Question, TableAnswer, ask_through};
+use crate::command::{CommandRow, TableCall, TableCommand};
 use crate::holds::Holds;
+use crate::play::{PlayedCommand, play};
 use crate::seat::Seat;
 use lt_plain::{KeyTable, Reply};
 use lt_table_core::{CloseError, CloseRefused, Guard, Histories, Rests, Table, abandon_guards};
@@ -13,17 +18,17 @@ use lt_words::{Name, Pass, abandon_all};
 use std::alloc::{AllocError, Global};
 use std::sync::Wait;
 
-/// What came of a run: a line for each command, what was asked, the histories, and the calls that were refused memory and
-/// made again.
+/// The result of a run: one line for each command, the answers to the questions, the histories, and the calls that
+/// ran out of memory and were made again.
 #[derive(Drop)]
-pub struct Ran {
-    pub lines: Vec<Line>,
-    pub sights: Vec<Sight>,
+pub struct TableRun {
+    pub lines: Vec<PlayedCommand>,
+    pub sights: Vec<TableAnswer>,
     pub histories: Histories,
     pub refused: Vec<TableCall>,
 }
 
-/// A seat for each pass. Where memory is refused, the passes are given up.
+/// One seat for each pass, in order. If an allocation fails, the passes are given up.
 pub fn seated<N: Name>(alloc: Global, passes: Vec<Pass>) -> Option<Vec<Seat<N>>>
     requires { All (λ p. p.of ≡ N.of) passes.items }
 {
@@ -39,7 +44,7 @@ pub fn seated<N: Name>(alloc: Global, passes: Vec<Pass>) -> Option<Vec<Seat<N>>>
     Some(seats)
 }
 
-/// Puts the pass at the end. Where memory is refused, it is given up.
+/// Appends the pass. If an allocation fails, the pass is given up and the result is false.
 fn put_pass(passes: &mut Vec<Pass>, pass: Pass) -> bool
     ensures { IsTrue result → passes.new.items ≡ passes.old.items ++ pass ∷ [] }
 {
@@ -52,7 +57,7 @@ fn put_pass(passes: &mut Vec<Pass>, pass: Pass) -> bool
     }
 }
 
-/// Puts the guard at the end. Where memory is refused, it is given up.
+/// Appends the guard. If an allocation fails, the guard is given up and the result is false.
 fn put_guard(guards: &mut Vec<Guard>, guard: Guard) -> bool
     ensures { IsTrue result → guards.new.items ≡ guards.old.items ++ guard ∷ [] }
 {
@@ -65,7 +70,7 @@ fn put_guard(guards: &mut Vec<Guard>, guard: Guard) -> bool
     }
 }
 
-/// Puts what the seat holds at the end of the passes, or of the guards.
+/// Appends the content of the seat to the passes or to the guards. False if an allocation fails.
 fn put<N: Name>(seat: Seat<N>, passes: &mut Vec<Pass>, guards: &mut Vec<Guard>) -> bool
     requires passes { All (λ p. p.of ≡ N.of) passes.old.items }
     requires guards { All (λ g. g.pass.of ≡ N.of) guards.old.items }
@@ -78,7 +83,7 @@ fn put<N: Name>(seat: Seat<N>, passes: &mut Vec<Pass>, guards: &mut Vec<Guard>) 
     }
 }
 
-/// The passes that stand alone, and the guards. Where memory is refused, all are given up.
+/// Splits the seats into free passes and guards. If an allocation fails, all of them are given up.
 pub fn gather<N: Name>(
     alloc: Global,
     seats: Vec<Seat<N>>,
@@ -98,8 +103,9 @@ pub fn gather<N: Name>(
     Ok((passes, guards))
 }
 
-/// Closes the table with all that the seats hold. Where memory is refused, all came back, and is closed once more; the refusal
-/// is noted.
+/// Closes the table with the passes and guards of all seats. A close that runs out of memory returns everything:
+/// it is noted in `refusals` and made a second time. None if the second close fails too, or an allocation outside
+/// the closes fails.
 fn close_through<N: Name, T: KeyTable + Drop, R: Wait>(
     rt: &R,
     alloc: Global,
@@ -134,7 +140,7 @@ fn close_through<N: Name, T: KeyTable + Drop, R: Wait>(
     }
 }
 
-/// Closes the table with all that the seats hold.
+/// Closes the table with the passes and guards of all seats. A close that runs out of memory is made a second time.
 pub fn close_all<N: Name, T: KeyTable + Drop, R: Wait>(
     rt: &R,
     alloc: Global,
@@ -144,7 +150,7 @@ pub fn close_all<N: Name, T: KeyTable + Drop, R: Wait>(
     close_through(rt, alloc, table, seats, &mut Vec::new(alloc))
 }
 
-/// Closes the table for what is left, with all that the seats hold, as [`close_through`] does.
+/// As [`close_through`], but calls `close_rest`, which returns the steps that were not taken while the table ran.
 pub fn rests_through<N: Name, T: KeyTable + Drop, R: Wait>(
     rt: &R,
     alloc: Global,
@@ -179,72 +185,74 @@ pub fn rests_through<N: Name, T: KeyTable + Drop, R: Wait>(
     }
 }
 
-/// The call that the command makes on the seat.
-fn call_of<N: Name>(seat: &Seat<N>, command: &Command) -> TableCall {
+/// The call of the table that the command makes on this seat.
+fn call_of<N: Name>(seat: &Seat<N>, command: &TableCommand) -> TableCall {
     let is_open = seat.is_open();
     match command {
-        Command::Enter { .. } | Command::EnterMany { .. } => TableCall::Enter,
-        Command::Scan => TableCall::Scan,
-        Command::Poll => TableCall::Poll,
-        Command::Look { .. } => TableCall::Look,
-        Command::Leave => TableCall::Leave,
-        Command::Acquire { .. } if is_open => TableCall::AcquireIn,
-        Command::Acquire { .. } => TableCall::Acquire,
-        Command::Update { .. } if is_open => TableCall::UpdateIn,
-        Command::Update { .. } => TableCall::Update,
-        Command::Finish { .. } if is_open => TableCall::FinishIn,
-        Command::Finish { .. } => TableCall::Finish,
+        TableCommand::Enter { .. } | TableCommand::EnterMany { .. } => TableCall::Enter,
+        TableCommand::Scan => TableCall::Scan,
+        TableCommand::Poll => TableCall::Poll,
+        TableCommand::Look { .. } => TableCall::Look,
+        TableCommand::Leave => TableCall::Leave,
+        TableCommand::Acquire { .. } if is_open => TableCall::AcquireIn,
+        TableCommand::Acquire { .. } => TableCall::Acquire,
+        TableCommand::Update { .. } if is_open => TableCall::UpdateIn,
+        TableCommand::Update { .. } => TableCall::Update,
+        TableCommand::Finish { .. } if is_open => TableCall::FinishIn,
+        TableCommand::Finish { .. } => TableCall::Finish,
     }
 }
 
-/// The replies of a call that was refused memory and of the same call made again. The steps that a scan made before it was
-/// refused stand, and the further one makes the others; a guard that is leaving tells all answers of its leave; any other
-/// call leaves the guard with the answers of its latest scan. None where it is otherwise.
-fn joined(command: &Command, mut first: Vec<Reply>, again: Vec<Reply>) -> Option<Vec<Reply>> {
+/// Joins the replies of a call that ran out of memory with those of the same call made again. The first scan's
+/// steps are kept, and the second scan makes the remaining ones. A guard that is leaving reports all answers of
+/// its leave, so the second list extends the first. Any other call leaves the guard with the answers of its latest
+/// scan, so the lists are equal. None if the replies break these rules.
+fn joined(command: &TableCommand, mut first: Vec<Reply>, again: Vec<Reply>) -> Option<Vec<Reply>> {
     let is_right = match command {
-        Command::Scan => {
+        TableCommand::Scan => {
             first.extend_from_slice(&again).ok()?;
             return Some(first);
         }
-        Command::Leave => again.starts_with(&first),
+        TableCommand::Leave => again.starts_with(&first),
         _ => first == again,
     };
     if is_right { Some(again) } else { None }
 }
 
-/// Plays the command on the seat, and once more where it is refused memory; the refusal is noted.
+/// Plays the command on the seat. A call that runs out of memory is noted in `refusals` and made a second time.
 fn play_through<N: Name, T: KeyTable, R: Wait>(
     rt: &R,
     alloc: Global,
     table: &Table<N, T>,
     seat: Seat<N>,
-    command: &Command,
+    command: &TableCommand,
     refusals: &mut Vec<TableCall>,
-) -> Option<(Seat<N>, Line)> {
+) -> Option<(Seat<N>, PlayedCommand)> {
     let (seat, line) = play(rt, alloc, table, seat, command)?;
     if !line.told.is_out_of_memory() {
         return Some((seat, line));
     }
     refusals.push(call_of(&seat, command)).ok()?;
     let (seat, again) = play(rt, alloc, table, seat, command)?;
-    let Line { told, replies, at } = again;
+    let PlayedCommand { told, replies, at } = again;
     let replies = joined(command, line.replies, replies)?;
-    Some((seat, Line { told, replies, at }))
+    Some((seat, PlayedCommand { told, replies, at }))
 }
 
-/// A table at work: the seats, a line for each command, what was asked, and the calls that were refused memory and made again.
+/// A run in progress: the seats, one line for each command so far, the answers to the questions, and the calls
+/// that ran out of memory and were made again.
 #[derive(Drop)]
-pub struct Work<N: Name> {
+pub struct TableAtWork<N: Name> {
     pub seats: Vec<Seat<N>>,
-    pub lines: Vec<Line>,
-    pub sights: Vec<Sight>,
+    pub lines: Vec<PlayedCommand>,
+    pub sights: Vec<TableAnswer>,
     pub refused: Vec<TableCall>,
 }
 
-impl<N: Name> Work<N> {
-    /// With these seats, before the first command.
+impl<N: Name> TableAtWork<N> {
+    /// A run with these seats, before its first command.
     pub fn new(alloc: Global, seats: Vec<Seat<N>>) -> Self {
-        Work {
+        TableAtWork {
             seats,
             lines: Vec::new(alloc),
             sights: Vec::new(alloc),
@@ -252,14 +260,14 @@ impl<N: Name> Work<N> {
         }
     }
 
-    /// Plays the command on the seat at this place.
+    /// Plays the command on the seat with this index. None if there is no such seat, or the command cannot be played.
     fn play<T: KeyTable, R: Wait>(
         &mut self,
         rt: &R,
         alloc: Global,
         table: &Table<N, T>,
         place: usize,
-        command: &Command,
+        command: &TableCommand,
     ) -> Option<()> {
         if place >= self.seats.len() {
             return None;
@@ -271,7 +279,7 @@ impl<N: Name> Work<N> {
         Some(())
     }
 
-    /// Asks by the seat at this place.
+    /// Asks on the seat with this index. None if there is no such seat, or the question cannot be asked.
     fn ask<T: KeyTable, R: Wait>(
         &mut self,
         rt: &R,
@@ -291,14 +299,14 @@ impl<N: Name> Work<N> {
     }
 }
 
-/// Plays the commands of the rows, each on the seat of the pass at its place, from 0. Behind the row at the place of a
-/// question the same pass asks it.
+/// Plays the rows in order, each on the seat that its index names, from 0. If `questions` has a question at the
+/// row's index, the same seat asks it after the row. The expected outcomes of the rows are not compared here.
 pub fn play_rows<N: Name, T: KeyTable, R: Wait>(
     rt: &R,
     alloc: Global,
     table: &Table<N, T>,
-    work: &mut Work<N>,
-    rows: &[Row],
+    work: &mut TableAtWork<N>,
+    rows: &[CommandRow],
     questions: &[Option<Question>],
 ) -> Option<()> {
     let mut asked = questions.iter();
@@ -311,27 +319,27 @@ pub fn play_rows<N: Name, T: KeyTable, R: Wait>(
     Some(())
 }
 
-/// Plays the rows with the questions, and closes the table.
+/// Plays the rows with their questions (see [`play_rows`]), and closes the table.
 pub fn play_all<N: Name, T: KeyTable + Drop, R: Wait>(
     rt: &R,
     alloc: Global,
     table: Table<N, T>,
     passes: Vec<Pass>,
-    rows: &[Row],
+    rows: &[CommandRow],
     questions: &[Option<Question>],
-) -> Option<Ran>
+) -> Option<TableRun>
     requires { All (λ p. p.of ≡ N.of) passes.items }
 {
-    let mut work = Work::new(alloc, seated::<N>(alloc, passes)?);
+    let mut work = TableAtWork::new(alloc, seated::<N>(alloc, passes)?);
     play_rows(rt, alloc, &table, &mut work, rows, questions)?;
-    let Work {
+    let TableAtWork {
         seats,
         lines,
         sights,
         mut refused,
     } = work;
     let histories = close_through(rt, alloc, table, seats, &mut refused)?;
-    Some(Ran {
+    Some(TableRun {
         lines,
         sights,
         histories,

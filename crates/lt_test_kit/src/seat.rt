@@ -1,3 +1,4 @@
+//! What holds a pass between two commands of a test?
 ghost use Rattle.std.specs.Prelude.{◌≡◌, IfSome};
 ghost use Rattle.lt_test_kit.specs.Seats.{of_holds};
 
@@ -6,7 +7,8 @@ use lt_table_core::Guard;
 use lt_words::{Name, Pass};
 use std::marker::PhantomData;
 
-/// A pass, alone or in a guard, of the book that `N` names. A seat may be let go: what it holds is then given up.
+/// A pass of the book that `N` names, either free or inside a guard. Unlike a pass, a seat can be dropped: it then
+/// gives up the pass or the guard.
 pub struct Seat<N: Name> {
     pub holds: Holds,
     name: PhantomData<N>,
@@ -21,7 +23,7 @@ impl<N: Name> Drop for Seat<N> {
 }
 
 impl<N: Name> Seat<N> {
-    /// With a pass alone.
+    /// A seat with a free pass.
     pub fn free(pass: Pass) -> Self
         requires { pass.of ≡ N.of }
     {
@@ -31,7 +33,7 @@ impl<N: Name> Seat<N> {
         }
     }
 
-    /// With a guard.
+    /// A seat with a guard.
     pub fn open(guard: Guard) -> Self
         requires { guard.pass.of ≡ N.of }
     {
@@ -41,7 +43,7 @@ impl<N: Name> Seat<N> {
         }
     }
 
-    /// Whether its pass is in a guard.
+    /// Whether the pass is inside a guard.
     pub fn is_open(&self) -> bool {
         match &self.holds {
             Holds::Open(_) => true,
@@ -49,7 +51,7 @@ impl<N: Name> Seat<N> {
         }
     }
 
-    /// What it holds.
+    /// The pass or the guard in the seat.
     pub fn into_holds(self) -> Holds
         ensures { of_holds result ≡ N.of }
     {
@@ -57,7 +59,7 @@ impl<N: Name> Seat<N> {
         holds
     }
 
-    /// Its pass, where that is alone.
+    /// The pass, if it is free. Otherwise the guard is given up.
     pub fn into_pass(self) -> Option<Pass>
         ensures { IfSome result (λ pass. pass.of ≡ N.of) }
     {
@@ -70,7 +72,7 @@ impl<N: Name> Seat<N> {
         }
     }
 
-    /// Its guard, where the pass is in one.
+    /// The guard, if the pass is inside one. Otherwise the pass is given up.
     pub fn into_guard(self) -> Option<Guard>
         ensures { IfSome result (λ guard. guard.pass.of ≡ N.of) }
     {

@@ -1,24 +1,31 @@
+//! What do the rules of one key say, evaluated a second time? [`Second`] is written from the tables of
+//! `docs/RULES.md`.
+//!
+//! It shares no code and no definition with `lt_plain`; only the type of a reply is the same. It works on plain
+//! numbers, and simple lists instead of linked queues. A mistake in the definitions that the proofs use shows up
+//! when a test compares the two, as `lt_rules_tests` does. Read it alongside the tables of `docs/RULES.md`, and
+//! [`crate::cases`] next.
 use crate::cases::{Lock, Release};
 use lt_ids::TxnId;
 use lt_plain::Reply;
 use std::alloc::{AllocError, Global};
 
-/// A time, by its wall part and its logical part.
+/// A timestamp: its wall part and its logical part.
 pub type Time = (u64, u32);
 
-/// The wall part decides, and where it is the same the logical one.
+/// Whether `a` is earlier than `b`: the wall parts decide, and the logical parts if the wall parts are equal.
 pub fn is_below(a: Time, b: Time) -> bool {
     a.0 < b.0 || a.0 == b.0 && a.1 < b.1
 }
 
-/// Whether it is the same transaction; a request without one is of no transaction.
+/// Whether a request belongs to this transaction. A request without a transaction belongs to none.
 pub fn is_one(own: Option<u64>, txn: u64) -> bool {
     own == Some(txn)
 }
 
-/// A request that stands at the key, by plain numbers. It may have no transaction.
+/// A queue entry or a reservation, in plain numbers. Its request may have no transaction.
 #[derive(Clone, Copy, Debug, PartialEq, Eq)]
-pub struct Stand {
+pub struct PlainStand {
     pub number: u64,
     pub txn: Option<u64>,
     pub time: Time,
@@ -27,23 +34,23 @@ pub struct Stand {
     pub active: bool,
 }
 
-/// A let: the pass, the number and the wait.
+/// A let: the pass, the request number and the wait number.
 pub type Let = (u32, u64, u32);
 
-/// One key, by plain numbers.
+/// The record of one key, in plain numbers, and the lets of its calls.
 #[derive(Drop)]
 pub struct Second {
     holder: Option<(u64, Time)>,
-    reserved: Option<Stand>,
-    writers: Vec<Stand>,
-    readers: Vec<Stand>,
+    reserved: Option<PlainStand>,
+    writers: Vec<PlainStand>,
+    readers: Vec<PlainStand>,
     distinguished: Option<u64>,
     pub lets: Vec<Let>,
-    /// How the lock last came free.
+    /// What happened when the lock last came free.
     pub release: Option<Release>,
 }
 
-/// What an active waiter finds; the `bool` says that the lock is held.
+/// What a look of an active waiter finds. The `bool` is true if the lock is held, false if it is reserved.
 #[derive(Clone, Copy)]
 enum Finds {
     For(bool),
@@ -51,7 +58,7 @@ enum Finds {
     Own,
 }
 
-/// The reply that names this transaction.
+/// The reply of a look that names this transaction. `Nothing` if the number is not that of a transaction.
 fn reply_of(txn: u64, what: Finds) -> Reply {
     match TxnId::new(txn) {
         None => Reply::Nothing,
@@ -76,7 +83,7 @@ impl Second {
         }
     }
 
-    /// Who has the lock.
+    /// The holder or the reservation of the lock.
     pub fn lock(&self) -> Lock {
         Lock {
             holder: self.holder,
@@ -84,13 +91,14 @@ impl Second {
         }
     }
 
-    /// Whether some request waits to read.
+    /// Whether a request waits to read.
     pub fn has_readers(&self) -> bool {
         !self.readers.is_empty()
     }
 
-    /// A writer that may be the distinguished waiter.
-    fn may_push(&self, writer: &Stand) -> bool {
+    /// Whether this writer is eligible as the distinguished waiter: it is active, and the lock is not reserved for
+    /// its own transaction.
+    fn may_push(&self, writer: &PlainStand) -> bool {
         if !writer.active {
             return false;
         }
@@ -126,6 +134,7 @@ impl Second {
         false
     }
 
+    /// Keeps the distinguished waiter while it is eligible, and otherwise elects the first eligible waiter.
     fn settle(&mut self) {
         let stays = match self.distinguished {
             Some(number) => self.is_eligible(number),
@@ -136,11 +145,13 @@ impl Second {
         }
     }
 
-    fn let_through(&mut self, stand: &Stand) -> Result<(), AllocError> {
+    fn let_through(&mut self, stand: &PlainStand) -> Result<(), AllocError> {
         self.lets.push((stand.pass, stand.number, stand.wait))?;
         Ok(())
     }
 
+    /// Releases the lock, which has just lost its holder or its reservation: lets the readers and the leading
+    /// writers without a transaction through, and reserves the lock for the next writer.
     fn free(&mut self, alloc: Global) -> Result<(), AllocError> {
         let gone = self.readers.clone()?;
         for reader in &gone {
@@ -173,12 +184,12 @@ impl Second {
         Ok(())
     }
 
-    /// How many wait to write, or did and lost the reservation.
+    /// How many writers are queued, active or not.
     pub fn writers(&self) -> u64 {
         self.writers.len() as u64
     }
 
-    /// Whether the request stands among them.
+    /// Whether the request is queued among the writers.
     pub fn is_writer(&self, number: u64) -> bool {
         let mut found = false;
         for writer in &self.writers {
@@ -191,7 +202,8 @@ impl Second {
         self.readers.retain(|r| r.number != number);
     }
 
-    fn queue_writer(&mut self, alloc: Global, stand: &Stand) -> Result<(), AllocError> {
+    /// Replaces the writer with this number, or inserts it before the first greater number.
+    fn queue_writer(&mut self, alloc: Global, stand: &PlainStand) -> Result<(), AllocError> {
         let mut queue = Vec::new(alloc);
         let mut is_in = false;
         for writer in &self.writers {
@@ -213,7 +225,8 @@ impl Second {
         Ok(())
     }
 
-    fn put_back(&mut self, alloc: Global, reserved: &Stand) -> Result<(), AllocError> {
+    /// Puts a lost reservation at the head of the writers, inactive.
+    fn put_back(&mut self, alloc: Global, reserved: &PlainStand) -> Result<(), AllocError> {
         let mut queue = Vec::new(alloc);
         let mut back = *reserved;
         back.active = false;
@@ -225,11 +238,12 @@ impl Second {
         Ok(())
     }
 
-    /// Who writes joins the others, unless he has a bound, stands not among them, and they are so many already.
+    /// Queues a writer, or replies `TooLong`. The refusal needs all of: the request has a bound, it is not queued
+    /// among the writers yet, and they are at least as many as the bound.
     fn write_or_refuse(
         &mut self,
         alloc: Global,
-        stand: &Stand,
+        stand: &PlainStand,
         longest: u32,
     ) -> Result<Reply, AllocError> {
         if longest != 0 && !self.is_writer(stand.number) && self.writers() >= longest as u64 {
@@ -242,7 +256,7 @@ impl Second {
     fn wait_or_pass(
         &mut self,
         alloc: Global,
-        stand: &Stand,
+        stand: &PlainStand,
         longest: u32,
         is_write: bool,
     ) -> Result<Reply, AllocError> {
@@ -283,11 +297,11 @@ impl Second {
         Ok(Reply::Passed)
     }
 
-    /// The request visits the key. It joins the writers only where they are fewer than `longest`, if that is not 0.
+    /// A visit of the request. It newly joins the writers only if they are fewer than `longest`; 0 is no bound.
     pub fn visit(
         &mut self,
         alloc: Global,
-        stand: &Stand,
+        stand: &PlainStand,
         longest: u32,
         is_write: bool,
     ) -> Result<Reply, AllocError> {
@@ -394,7 +408,7 @@ impl Second {
         found
     }
 
-    fn writer_of(&self, number: u64) -> Option<Stand> {
+    fn writer_of(&self, number: u64) -> Option<PlainStand> {
         let mut found = None;
         for writer in &self.writers {
             if writer.number == number {

@@ -1,4 +1,4 @@
--- A call that is read was written so, and each call is read again.
+-- A call that is read was written that way, and each call that is written reads back as itself.
 use Rattle.std.proofs.Common.{◌≡◌, ℕ, zero, suc, ◌^◌, ◌<◌, ◌≤◌, ◌⊎◌, Bool, true, false, cond, List, [], ◌∷◌, ◌++◌, Option, Some, None, refl, sym, ap, subst, ◌∙◌, inl, inr, arith}
 use Rattle.std.specs.Prelude.{codes}
 use Rattle.std.specs.Str.{bytes_eq}
@@ -10,7 +10,7 @@ use Rattle.lt_plain.specs.declared.call.Call.{Call}
 use Rattle.lt_plain.specs.declared.call.Call.TheVariants.{Visit, Acquire, Update, Finish, Leave, Look}
 use Rattle.lt_text.specs.Maybe.{◌>>=◌}
 use Rattle.lt_text.specs.Fields.{ticket_word, time_word, access_word, owner_word, bound_word, bound_words, number_within, ticket_of, time_of, access_of, owner_of, is_bound, bound_of}
-use Rattle.lt_text.specs.Calls.{call_words, AreBoundless, field_at, bound_at, visit_at, acquire_at, update_at, finish_at, leave_at, look_at, call_of, call_at}
+use Rattle.lt_text.specs.Calls.{call_words, AreBoundless, field_at, bound_at, visit_at, acquire_at, update_at, finish_at, leave_at, look_at, call_in_words, call_at}
 use Rattle.lt_entry.specs.Ranges.{IsCall}
 use Rattle.lt_text.proofs.Plain.{ArePlain}
 use Rattle.lt_text.proofs.FieldLaws.{bind_some, IsField, IsWithin, number_field, txn_field, owner_field, bound_field, ticket_field, time_field, access_field, field_takes, field_again}
@@ -25,7 +25,7 @@ pub chosen : {A : Type 0} (b : Bool) (x y z : A) → cond b x y ≡ z → ((b �
 chosen true x y z e = inl (refl, e)
 chosen false x y z e = inr (refl, e)
 
--- ---- a bound, where one stands
+-- ---- a bound, if there is one
 
 none_or_some : (n : ℕ) → (n ≡ 0) ⊎ (1 ≤ n)
 none_or_some zero = inl refl
@@ -90,12 +90,12 @@ visit_takes words c rest e =
     let v = field_takes time_field b.0.1 d.0.0 d.0.1 d.1 in
     let w = field_takes access_field d.0.1 f.0.0 f.0.1 f.1 in
     let x = bound_takes f.0.1 g.0.0 g.0.1 g.1 in
-    let front : List (List ℕ) → List (List ℕ) = λ ws. ticket_word a.0.0 ∷ owner_word b.0.0 ∷ time_word d.0.0 ∷ access_word f.0.0 ∷ ws in
-    let all : words ≡ front (bound_words g.0.0 ++ rest) =
+    let prefix : List (List ℕ) → List (List ℕ) = λ ws. ticket_word a.0.0 ∷ owner_word b.0.0 ∷ time_word d.0.0 ∷ access_word f.0.0 ∷ ws in
+    let all : words ≡ prefix (bound_words g.0.0 ++ rest) =
     t.0 ∙ (ap (λ (ws : List (List ℕ)). ticket_word a.0.0 ∷ ws) u.0
     ∙ (ap (λ (ws : List (List ℕ)). ticket_word a.0.0 ∷ owner_word b.0.0 ∷ ws) v.0
     ∙ (ap (λ (ws : List (List ℕ)). ticket_word a.0.0 ∷ owner_word b.0.0 ∷ time_word d.0.0 ∷ ws) w.0
-    ∙ (ap front x.0 ∙ ap (λ (ws : List (List ℕ)). front (bound_words g.0.0 ++ ws)) p.1)))) in
+    ∙ (ap prefix x.0 ∙ ap (λ (ws : List (List ℕ)). prefix (bound_words g.0.0 ++ ws)) p.1)))) in
     subst (λ (y : Call). Takes (codes "visit") words y rest) p.0 (ap (λ (ws : List (List ℕ)). codes "visit" ∷ ws) all, (t.1, u.1, v.1, x.1))
 
 acquire_takes : (words : List (List ℕ)) (c : Call) (rest : List (List ℕ)) → acquire_at words ≡ Some (c, rest) → Takes (codes "acquire") words c rest
@@ -158,8 +158,8 @@ named name word words c rest e t = (ap (λ (w : List ℕ). w ∷ words) ((bytes_
 no_none : {A : Type 0} (x : A) → ◌≡◌ {A = Option A} None (Some x) → ⊥
 no_none x e = absurd cc
 
-call_of_takes : (name : List ℕ) (words : List (List ℕ)) (c : Call) (rest : List (List ℕ)) → call_of name words ≡ Some (c, rest) → Takes name words c rest
-unfolding call_of
+call_of_takes : (name : List ℕ) (words : List (List ℕ)) (c : Call) (rest : List (List ℕ)) → call_in_words name words ≡ Some (c, rest) → Takes name words c rest
+unfolding call_in_words
 call_of_takes name words c rest e =
     elim (chosen (bytes_eq name (codes "visit")) (visit_at words) _ (Some (c, rest)) e) [
       | inl p ↦ named name (codes "visit") words c rest p.0 (visit_takes words c rest p.1)
@@ -186,7 +186,7 @@ call_takes [] c rest e = absurd (no_none (c, rest) e)
 call_takes (name ∷ words) c rest e = call_of_takes name words c rest e
 
 pub call_again : (c : Call) (rest : List (List ℕ)) → IsCall c → AreBoundless rest → call_at (call_words c ++ rest) ≡ Some (c, rest)
-unfolding call_of visit_at acquire_at update_at finish_at leave_at look_at
+unfolding call_in_words visit_at acquire_at update_at finish_at leave_at look_at
 call_again (Visit ticket txn ts access longest) rest h b =
     let more : List (List ℕ) = bound_words longest ++ rest in
     rw (field_again ticket_field ticket (owner_word txn ∷ time_word ts ∷ access_word access ∷ more) h.0, field_again owner_field txn (time_word ts ∷ access_word access ∷ more) h.1, field_again time_field ts (access_word access ∷ more) h.2, field_again access_field access more tt, bound_again longest rest h.3 b) refl

@@ -1,4 +1,5 @@
--- Each word inside a line: what is read was written so, what is written is read again, and it is plain.
+-- Each word inside a line: what is read was written that way, what is written reads back as itself, and it is
+-- plain.
 use Rattle.std.proofs.Common.{◌≡◌, ℕ, ◌^◌, ◌<◌, ◌≤◌, ◌⊎◌, ◌&&◌, Bool, true, false, cond, ltb, leb, eqb, List, [], ◌∷◌, ◌++◌, take, drop, Option, Some, None, refl, sym, ap, subst, ◌∙◌, inl, inr, arith}
 use Rattle.std.specs.Prelude.{codes}
 use Rattle.std.specs.Str.{bytes_eq}
@@ -14,15 +15,15 @@ use Rattle.lt_ids.specs.declared.request.Access.{Access}
 use Rattle.lt_ids.specs.declared.request.Access.TheVariants.{Read, Write}
 use Rattle.lt_text.specs.Maybe.{◌>>=◌}
 use Rattle.lt_text.specs.Words.{cut_of}
-use Rattle.lt_text.specs.Number.{number_of}
+use Rattle.lt_text.specs.Number.{decimal_of}
 use Rattle.lt_text.specs.Fields.{pair_word, ticket_word, time_word, access_word, owner_word, bound_word, number_within, pair_of, ticket_of, time_of, access_of, owner_of, is_bound, bound_of}
 use Rattle.lt_entry.specs.Ranges.{IsTicket, IsTime, IsOwner}
 use Rattle.lt_text.specs.Calls.{field_at}
 use Rattle.lt_text.specs.Replies.{held_word, held_of}
-use Rattle.lt_text.proofs.Numbers.{number_of_is, number_of-decimal}
+use Rattle.lt_text.proofs.Numbers.{number_of_is, decimal_of-decimal}
 use Rattle.lt_text.proofs.Plain.{above, above_append, above_without, plain_decimal, digits_above, cut_takes, cut_again}
 
--- the value of a step that did not fail
+-- the value of a part that did not fail
 pub bind_some : {A B : Type 0} (o : Option A) (f : A → Option B) (y : B) → (o >>= f) ≡ Some y → (x : A) × (o ≡ Some x) × (f x ≡ Some y)
 bind_some (Some x) f y e = (x, refl, e)
 bind_some None f y e = absurd cc
@@ -39,19 +40,19 @@ IsWithin low limit n = (low ≤ n) × (n < limit)
 pub number_field : (low limit : ℕ) → limit ≤ 2 ^ 64 → IsField ℕ (number_within low limit) (λ n. decimal n) (IsWithin low limit)
 number_field low limit le = record {
   takes = λ word n e.
-      let b = bind_some (number_of word) (λ m. cond (leb low m && ltb m limit) (Some m) None) n e in
+      let b = bind_some (decimal_of word) (λ m. cond (leb low m && ltb m limit) (Some m) None) n e in
       let c = cond_some (leb low b.0 && ltb b.0 limit) b.0 n b.2 in
       let p = and_parts (leb low b.0) (ltb b.0 limit) c.0 in
       subst (λ (m : ℕ). (word ≡ decimal m) × IsWithin low limit m) c.1 ((number_of_is word b.0 b.1).1, (leb-true low b.0 p.0, ltb-true b.0 limit p.1));
-  again = λ n h. rw (number_of-decimal n (omega arith), and_from _ _ (le-leb low n h.0) (lt-ltb n limit h.1)) refl;
+  again = λ n h. rw (decimal_of-decimal n (omega arith), and_from _ _ (le-leb low n h.0) (lt-ltb n limit h.1)) refl;
   plain = λ n h. plain_decimal n (omega arith);
 }
 
 pub pair_takes : (word : List ℕ) (m n : ℕ) → pair_of word ≡ Some (m, n) → (word ≡ pair_word m n) × (m < 2 ^ 64) × (n < 2 ^ 64)
 pair_takes word m n e =
-    let a = bind_some (cut_of 46 word) (λ parts. number_of parts.0 >>= λ m. number_of parts.1 >>= λ n. Some (m, n)) (m, n) e in
-    let b = bind_some (number_of a.0.0) (λ m. number_of a.0.1 >>= λ n. Some (m, n)) (m, n) a.2 in
-    let c = bind_some (number_of a.0.1) (λ n. Some (b.0, n)) (m, n) b.2 in
+    let a = bind_some (cut_of 46 word) (λ parts. decimal_of parts.0 >>= λ m. decimal_of parts.1 >>= λ n. Some (m, n)) (m, n) e in
+    let b = bind_some (decimal_of a.0.0) (λ m. decimal_of a.0.1 >>= λ n. Some (m, n)) (m, n) a.2 in
+    let c = bind_some (decimal_of a.0.1) (λ n. Some (b.0, n)) (m, n) b.2 in
     let p = some_pair_parts b.0 m c.0 n c.2 in
     let first = number_of_is a.0.0 b.0 b.1 in
     let second = number_of_is a.0.1 c.0 c.1 in
@@ -65,7 +66,7 @@ no_dot : (n : ℕ) → n < 2 ^ 64 → All (λ b. eqb b 46 ≡ false) (decimal n)
 no_dot n lt = above_without 47 46 (decimal n) (omega arith) (digits_above n lt)
 
 pub pair_again : (m n : ℕ) → m < 2 ^ 64 → n < 2 ^ 64 → pair_of (pair_word m n) ≡ Some (m, n)
-pair_again m n lm ln = rw (cut_again 46 (decimal m) (decimal n) (no_dot m lm), number_of-decimal m lm, number_of-decimal n ln) refl
+pair_again m n lm ln = rw (cut_again 46 (decimal m) (decimal n) (no_dot m lm), decimal_of-decimal m lm, decimal_of-decimal n ln) refl
 
 pub time_field : IsField Timestamp time_of time_word IsTime
 unfolding time_of
@@ -96,7 +97,7 @@ ticket_field = record {
   plain = λ t h. pair_plain t.number t.wait (omega arith) (omega arith);
 }
 
--- ---- a word of two
+-- ---- a word of two possible ones
 
 choose : {A : Type 0} (b c : Bool) (x y z : A) → cond b (Some x) (cond c (Some y) None) ≡ Some z → ((b ≡ true) × (x ≡ z)) ⊎ ((c ≡ true) × (y ≡ z))
 choose true c x y z e = inl (refl, same_Some x z e)
@@ -141,7 +142,7 @@ held_plain false u = refl
 pub held_field : IsField Bool held_of held_word (λ h. Unit {0})
 held_field = record { takes = held_takes; again = held_again; plain = held_plain }
 
--- ---- a transaction or none, and a bound
+-- ---- an optional transaction, and a bound
 
 pub txn_field : IsField ℕ (number_within 1 (2 ^ 64)) (λ n. decimal n) (IsWithin 1 (2 ^ 64))
 txn_field = number_field 1 (2 ^ 64) (omega arith)
@@ -160,7 +161,7 @@ owner_takes word x e =
           subst (λ (y : Option ℕ). (word ≡ owner_word y) × IsOwner y) (same_Some (Some a.0) x a.2) (txn_field.takes word a.0 a.1)
     ]
 
--- The word of a transaction is not that of none.
+-- The word of a transaction is not `-`.
 no_hyphen : (ds : List ℕ) → above 47 ds ≡ true → bytes_eq ds (codes "-") ≡ false
 no_hyphen [] p = refl
 no_hyphen (d ∷ ds) p =
@@ -191,8 +192,8 @@ unfolding bound_of
 bound_takes word n e =
     let p = only (is_bound word) (number_within 1 (2 ^ 32) (drop 4 word)) n e in
     let t = bound_number.takes (drop 4 word) n p.1 in
-    let front : take 4 word ≡ codes "max=" = (bytes_eq-Decides (take 4 word) (codes "max=")).0 p.0 in
-    (sym (take-append-drop 4 word) ∙ (ap (λ (xs : List ℕ). xs ++ drop 4 word) front ∙ ap (λ (xs : List ℕ). codes "max=" ++ xs) t.0), t.1)
+    let prefix : take 4 word ≡ codes "max=" = (bytes_eq-Decides (take 4 word) (codes "max=")).0 p.0 in
+    (sym (take-append-drop 4 word) ∙ (ap (λ (xs : List ℕ). xs ++ drop 4 word) prefix ∙ ap (λ (xs : List ℕ). codes "max=" ++ xs) t.0), t.1)
 
 bound_again : (n : ℕ) → IsWithin 1 (2 ^ 32) n → bound_of (bound_word n) ≡ Some n
 unfolding bound_of

@@ -1,4 +1,4 @@
--- A word spells at most one number, and each number has its one word.
+-- A word spells at most one number, and each number has exactly one word.
 use Rattle.std.proofs.Common.{◌≡◌, ℕ, zero, suc, ◌+◌, ◌-◌, ◌*◌, ◌^◌, ◌<◌, ◌≤◌, Bool, true, false, cond, List, length, get_or, take, Some, None, refl, sym, ap, subst, ◌∙◌, arith}
 use Rattle.std.specs.Char.{is_ascii_digit, digit_value}
 use Rattle.std.specs.Fmt.{decimal}
@@ -11,7 +11,7 @@ use Rattle.std.proofs.lemmas.Slice.Eq.{bytes_eq-Decides}
 use Rattle.std.proofs.lemmas.Fmt.{decimal_is_IsNumeral, decimal_digit, decimal_nonempty, decimal-digits_value, digits_decimal, first_decimal}
 use Rattle.std.proofs.lemmas.Int.Digits.{digits_value_more, digits_more as std_digits_more}
 use Rattle.std.proofs.lemmas.Str.Parse.{IsNumeralModel, numerals_by_value, tells_digits, digit_at, digits_value-take-le}
-use Rattle.lt_text.specs.Number.{number_of, IsNoNumber}
+use Rattle.lt_text.specs.Number.{decimal_of, IsNoNumber}
 
 numerals : IsNumeralModel (AllDigits 10) (digits_value 10)
 numerals = numerals_by_value (AllDigits 10) tells_digits
@@ -20,21 +20,21 @@ when_never : (b : Bool) (n : ℕ) → (b ≡ true → ⊥) → None ≡ cond b (
 when_never true n never = absurd (never refl)
 when_never false n never = refl
 
-pub number_of_none : (word : List ℕ) → IsNoNumber word → None ≡ number_of word
+pub number_of_none : (word : List ℕ) → IsNoNumber word → None ≡ decimal_of word
 number_of_none word never =
     when_never _ _ (λ t. let p = and_parts _ _ t in never (digits_value 10 word) (ltb-true _ _ p.0) ((bytes_eq-Decides _ _).0 p.1))
 
-pub number_of-decimal : (n : ℕ) → n < 2 ^ 64 → number_of (decimal n) ≡ Some n
-number_of-decimal n lt =
+pub decimal_of-decimal : (n : ℕ) → n < 2 ^ 64 → decimal_of (decimal n) ≡ Some n
+decimal_of-decimal n lt =
     rw ((decimal_is_IsNumeral n lt).1, and_from _ _ (lt-ltb n (2 ^ 64) lt) ((bytes_eq-Decides (decimal n) (decimal n)).1 refl)) refl
 
-pub number_of_is : (word : List ℕ) (n : ℕ) → number_of word ≡ Some n → (n < 2 ^ 64) × (word ≡ decimal n)
+pub number_of_is : (word : List ℕ) (n : ℕ) → decimal_of word ≡ Some n → (n < 2 ^ 64) × (word ≡ decimal n)
 number_of_is word n e =
     let c = cond_some _ (digits_value 10 word) n e in
     let p = and_parts _ _ c.0 in
     (rw c.1 at (ltb-true (digits_value 10 word) (2 ^ 64) p.0), (bytes_eq-Decides word (decimal (digits_value 10 word))).0 p.1 ∙ ap decimal c.1)
 
--- ---- what is no number
+-- ---- words that spell no number
 
 pub no_word : (word : List ℕ) → length word ≡ 0 → IsNoNumber word
 no_word word none n lt e = omega (arith, decimal_nonempty n lt, ap length e)
@@ -52,7 +52,7 @@ not_a_digit word i inside other n lt e =
 pub too_large : (word : List ℕ) (i : ℕ) → 2 ^ 64 ≤ digits_value 10 (take i word) → IsNoNumber word
 too_large word i large n lt e = omega (arith, digits_value-take-le 10 word i (omega arith), (decimal_is_IsNumeral n lt).1, ap (digits_value 10) e)
 
--- ---- what is one
+-- ---- words that spell a number
 
 digit_is_worth : (b : ℕ) → is_ascii_digit b ≡ true → digit_value b ≡ b - 48
 digit_is_worth b digit = grind (arith, nat_tests)
@@ -66,7 +66,7 @@ digits_more word i inside digit before =
     let small : digit_value (get_or word i 0) < 10 = grind (arith, nat_tests) in
     std_digits_more 10 word i inside before small
 
-pub number_of_digits : (word : List ℕ) (n : ℕ) → AllDigits 10 word → n ≡ digits_value 10 word → n < 2 ^ 64 → 0 < length word → (get_or word 0 0 ≡ 48 → length word ≡ 1) → Some n ≡ number_of word
+pub number_of_digits : (word : List ℕ) (n : ℕ) → AllDigits 10 word → n ≡ digits_value 10 word → n < 2 ^ 64 → 0 < length word → (get_or word 0 0 ≡ 48 → length word ≡ 1) → Some n ≡ decimal_of word
 number_of_digits word n digits value lt some lead =
     let e : decimal n ≡ word = ap decimal value ∙ decimal-digits_value numerals word digits some lead (rw (sym value) lt) in
-    sym (ap number_of (sym e) ∙ number_of-decimal n lt)
+    sym (ap decimal_of (sym e) ∙ decimal_of-decimal n lt)

@@ -50,10 +50,10 @@ above_without m c [] le p k d lt = absurd (omega arith)
 above_without m c (b ∷ bs) le p zero d lt = not_eq m b c le (and_parts _ _ p).0
 above_without m c (b ∷ bs) le p (suc k) d lt = above_without m c bs le (and_parts _ _ p).1 k d (omega arith)
 
--- ---- a cut, from both sides
+-- ---- a cut, seen from both sides
 
-cut_place : (c : ℕ) (x y : List ℕ) → All (λ b. eqb b c ≡ false) x → position_or_len (λ b. eqb b c) (x ++ c ∷ y) ≡ length x
-cut_place c x y none =
+cut_position : (c : ℕ) (x y : List ℕ) → All (λ b. eqb b c ≡ false) x → position_or_len (λ b. eqb b c) (x ++ c ∷ y) ≡ length x
+cut_position c x y none =
     position_or_len_is (λ b. eqb b c) (x ++ c ∷ y) (length x) 0 (omega (arith, length-append x (c ∷ y)))
     (λ k lt. rw (get_or_append_left x (c ∷ y) 0 k lt) (none k 0 lt))
     (λ lt. rw (get_or_at x c y 0 (length x) refl) (eq-eqb c c refl))
@@ -64,7 +64,7 @@ after_cut c x y =
 
 pub cut_again : (c : ℕ) (x y : List ℕ) → All (λ b. eqb b c ≡ false) x → cut_of c (x ++ c ∷ y) ≡ Some (x, y)
 cut_again c x y none =
-    rw (cut_place c x y none, lt-ltb (length x) (length (x ++ c ∷ y)) (omega (arith, length-append x (c ∷ y))), take_at x (c ∷ y) (length x) refl, after_cut c x y) refl
+    rw (cut_position c x y none, lt-ltb (length x) (length (x ++ c ∷ y)) (omega (arith, length-append x (c ∷ y))), take_at x (c ∷ y) (length x) refl, after_cut c x y) refl
 
 join_cons : (c : ℕ) (x : List ℕ) (ws : List (List ℕ)) → 0 < length ws → join_with_byte c (x ∷ ws) ≡ x ++ c ∷ join_with_byte c ws
 join_cons c x [] lt = absurd (omega arith)

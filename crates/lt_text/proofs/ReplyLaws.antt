@@ -1,4 +1,4 @@
--- A reply that is read was written so, and each reply is read again.
+-- A reply that is read was written that way, and each reply that is written reads back as itself.
 use Rattle.std.proofs.Common.{◌≡◌, ℕ, ◌^◌, Bool, true, List, [], ◌∷◌, ◌++◌, Option, Some, refl, sym, ap, subst, ◌∙◌, inl, inr}
 use Rattle.std.specs.Prelude.{codes, find}
 use Rattle.std.specs.List.{AllByRecursion}
@@ -11,7 +11,7 @@ use Rattle.lt_plain.specs.declared.call.Reply.TheVariants.{Passed, MustWait, Too
 use Rattle.lt_text.specs.Maybe.{◌>>=◌}
 use Rattle.lt_text.specs.Fields.{number_within}
 use Rattle.lt_text.specs.Calls.{field_at}
-use Rattle.lt_text.specs.Replies.{reply_name, reply_numbers, reply_words, held_word, held_of, fixed_replies, fixed_reply, waits_at, own_at, reply_of, reply_at}
+use Rattle.lt_text.specs.Replies.{reply_name, reply_numbers, reply_words, held_word, held_of, fixed_replies, fixed_reply, waits_at, own_at, reply_in_words, reply_at}
 use Rattle.lt_entry.specs.Ranges.{IsReply}
 use Rattle.lt_text.proofs.Plain.{ArePlain}
 use Rattle.lt_text.proofs.FieldLaws.{bind_some, IsWithin, txn_field, held_field, field_takes, field_again}
@@ -81,8 +81,8 @@ first_takes words r rest e =
     let w = waits_takes (λ txn held. WaitFirst txn held) words r rest e in
     subst (λ (x : Reply). Takes (codes "first") words x rest) w.4 (ap (λ (ws : List (List ℕ)). codes "first" ∷ ws) w.2, w.3)
 
-reply_of_takes : (name : List ℕ) (words : List (List ℕ)) (r : Reply) (rest : List (List ℕ)) → reply_of name words ≡ Some (r, rest) → Takes name words r rest
-unfolding reply_of
+reply_of_takes : (name : List ℕ) (words : List (List ℕ)) (r : Reply) (rest : List (List ℕ)) → reply_in_words name words ≡ Some (r, rest) → Takes name words r rest
+unfolding reply_in_words
 reply_of_takes name words r rest e =
     elim (chosen (bytes_eq name (codes "for")) (waits_at (λ txn held. WaitFor txn held) words) _ (Some (r, rest)) e) [
       | inl p ↦ named name (codes "for") words r rest p.0 (for_takes words r rest p.1)
@@ -100,7 +100,7 @@ reply_takes [] r rest e = absurd cc
 reply_takes (name ∷ words) r rest e = reply_of_takes name words r rest e
 
 pub reply_again : (r : Reply) (rest : List (List ℕ)) → IsReply r → reply_at (reply_words r ++ rest) ≡ Some (r, rest)
-unfolding reply_of fixed_reply
+unfolding reply_in_words fixed_reply
 reply_again (WaitFor txn held) rest h = rw (field_again txn_field txn (held_word held ∷ rest) h, field_again held_field held rest tt) refl
 reply_again (WaitFirst txn held) rest h = rw (field_again txn_field txn (held_word held ∷ rest) h, field_again held_field held rest tt) refl
 reply_again (WaitOwn txn) rest h = rw (field_again txn_field txn rest h) refl

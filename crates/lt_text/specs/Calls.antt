@@ -1,4 +1,4 @@
--- The calls as words, and read from words.
+-- The words of a call, and the call that words spell.
 use Rattle.std.specs.Prelude.{ℕ, ◌≡◌, ◌^◌, ◌<◌, false, if◌then◌else◌, List, [], ◌∷◌, Option, Some, None, decimal, codes}
 use Rattle.std.specs.Str.{bytes_eq}
 use Rattle.lt_ids.specs.Ids.{IsNumber}
@@ -18,22 +18,23 @@ call_words (Look number) = codes "look" ∷ decimal number ∷ []
 
 -- ---- reading
 
--- What was read of the words, and left of them, is what reading gives.
+-- The result, and the words that remain, are what this reading gives.
 abbrev pub Gives : {A : Type 0} → Option A → List (List ℕ) → Option (A × List (List ℕ)) → Type 0
 Gives None rest read = read ≡ None
 Gives (Some x) rest read = read ≡ Some (x, rest)
 
--- the first word, read so, and the words after it
+-- the value of the first word, read by this function, and the words after it
 abbrev pub field_at : {A : Type 0} → (List ℕ → Option A) → List (List ℕ) → Option (A × List (List ℕ))
 field_at read [] = None
 field_at read (word ∷ words) = read word >>= λ x. Some (x, words)
 
--- the bound of the first word, and the words after it; 0, and all of them, where none begins as a bound does
+-- the bound in the first word, and the words after it; 0 and all the words, if the first one does not begin as a
+-- bound does
 unfoldable pub bound_at : List (List ℕ) → Option (ℕ × List (List ℕ))
 bound_at [] = Some (0, [])
 bound_at (word ∷ words) = if is_bound word then (bound_of word >>= λ longest. Some (longest, words)) else Some (0, word ∷ words)
 
--- Their first word does not begin as a bound does, so that they can stand after a call.
+-- The first of these words does not begin as a bound does, so they can follow a call.
 abbrev pub AreBoundless : List (List ℕ) → Type 0
 AreBoundless [] = Unit {0}
 AreBoundless (word ∷ words) = is_bound word ≡ false
@@ -74,8 +75,8 @@ look_at words = do
   number ← field_at (number_within 1 (2 ^ 40)) words
   Some (Look number.0, number.1)
 
-unfoldable pub call_of : List ℕ → List (List ℕ) → Option (Call × List (List ℕ))
-call_of name words =
+unfoldable pub call_in_words : List ℕ → List (List ℕ) → Option (Call × List (List ℕ))
+call_in_words name words =
     if bytes_eq name (codes "visit") then visit_at words
     else if bytes_eq name (codes "acquire") then acquire_at words
     else if bytes_eq name (codes "update") then update_at words
@@ -86,4 +87,4 @@ call_of name words =
 
 abbrev pub call_at : List (List ℕ) → Option (Call × List (List ℕ))
 call_at [] = None
-call_at (name ∷ words) = call_of name words
+call_at (name ∷ words) = call_in_words name words

@@ -1,4 +1,4 @@
--- What the words inside a line spell, and how each is written.
+-- The words inside a line: how each is written, and the value that each spells.
 use Rattle.std.specs.Prelude.{ℕ, ◌^◌, ◌==◌, Bool, ◌&&◌, nat_lt, nat_le, if◌then◌else◌, List, [], ◌∷◌, ◌++◌, take, drop, Option, Some, None, decimal, codes}
 use Rattle.std.specs.Str.{bytes_eq}
 use Rattle.lt_ids.specs.Ids.{Wait, IsNumber, IsWaitNumber}
@@ -7,9 +7,9 @@ use Rattle.lt_ids.specs.declared.request.Access.{Access}
 use Rattle.lt_ids.specs.declared.request.Access.TheVariants.{Read, Write}
 use Rattle.lt_text.specs.Maybe.{◌>>=◌}
 use Rattle.lt_text.specs.Words.{cut_of}
-use Rattle.lt_text.specs.Number.{number_of}
+use Rattle.lt_text.specs.Number.{decimal_of}
 
--- ---- as it is written
+-- ---- writing
 
 -- two numbers with a dot between them
 abbrev pub pair_word : ℕ → ℕ → List ℕ
@@ -25,33 +25,33 @@ abbrev pub access_word : Access → List ℕ
 access_word Read = codes "r"
 access_word Write = codes "w"
 
--- a transaction, or none
+-- the transaction, or `-` for none
 abbrev pub owner_word : Option ℕ → List ℕ
 owner_word None = codes "-"
 owner_word (Some txn) = decimal txn
 
--- a bound on how many may wait to write before it
+-- the word of a bound on the number of writers that the request joins
 abbrev pub bound_word : ℕ → List ℕ
 bound_word longest = codes "max=" ++ decimal longest
 
--- no bound has no word
+-- the word of a bound, or no word for 0, which means no bound
 abbrev pub bound_words : ℕ → List (List ℕ)
 bound_words longest = if longest == 0 then [] else (bound_word longest ∷ [])
 
--- ---- as it is read
+-- ---- reading
 
--- the number of the word, if it is low or more and below limit
+-- the number that the word spells, if it is at least low and below limit
 abbrev pub number_within : ℕ → ℕ → List ℕ → Option ℕ
 number_within low limit word = do
-  n ← number_of word
+  n ← decimal_of word
   if nat_le low n && nat_lt n limit then Some n else None
 
--- the numbers before and after the first dot, below these limits
+-- the numbers before and after the first dot
 abbrev pub pair_of : List ℕ → Option (ℕ × ℕ)
 pair_of word = do
   parts ← cut_of 46 word
-  m ← number_of parts.0
-  n ← number_of parts.1
+  m ← decimal_of parts.0
+  n ← decimal_of parts.1
   Some (m, n)
 
 unfoldable pub ticket_of : List ℕ → Option Wait
@@ -67,7 +67,7 @@ time_of word = do
 unfoldable pub access_of : List ℕ → Option Access
 access_of word = if bytes_eq word (codes "r") then Some Read else (if bytes_eq word (codes "w") then Some Write else None)
 
--- `-`, or the number of a transaction
+-- no transaction for `-`, or the transaction with the number that the word spells
 unfoldable pub owner_of : List ℕ → Option (Option ℕ)
 owner_of word =
     if bytes_eq word (codes "-") then Some None
@@ -77,6 +77,6 @@ owner_of word =
 abbrev pub is_bound : List ℕ → Bool
 is_bound word = bytes_eq (take 4 word) (codes "max=")
 
--- the bound of the word: at least 1, since no bound has no word
+-- the bound that the word spells, which is at least 1, since no bound is written as no word
 unfoldable pub bound_of : List ℕ → Option ℕ
 bound_of word = if is_bound word then number_within 1 (2 ^ 32) (drop 4 word) else None

@@ -1,4 +1,4 @@
--- The replies as words, and read from words.
+-- The words of a reply, the reply that words spell, and the replies that each call can have.
 use Rattle.std.specs.Prelude.{ℕ, Bool, true, false, ◌^◌, if◌then◌else◌, List, [], ◌∷◌, Option, Some, None, decimal, codes, find}
 use Rattle.std.specs.Str.{bytes_eq}
 use Rattle.lt_plain.specs.declared.call.Call.{Call}
@@ -43,7 +43,7 @@ reply_numbers _ = []
 abbrev pub reply_words : Reply → List (List ℕ)
 reply_words r = reply_name r ∷ reply_numbers r
 
--- ---- which call has which
+-- ---- the replies of each call
 
 abbrev pub is_visit_reply : Reply → Bool
 is_visit_reply Passed = true
@@ -83,7 +83,7 @@ is_look_reply (WaitFirst txn held) = true
 is_look_reply (WaitOwn txn) = true
 is_look_reply _ = false
 
--- The reply is one of those that the call can have.
+-- The call can have this reply.
 abbrev pub is_reply_of : Call → Reply → Bool
 is_reply_of (Visit ticket txn ts access longest) r = is_visit_reply r
 is_reply_of (Acquire txn ts) r = is_acquire_reply r
@@ -94,7 +94,7 @@ is_reply_of (Look number) r = is_look_reply r
 
 -- ---- reading
 
--- the replies of one word
+-- the replies that consist of one word
 abbrev pub fixed_replies : List Reply
 fixed_replies = Passed ∷ MustWait ∷ TooLong ∷ Taken ∷ Kept ∷ Raised ∷ Other ∷ Freed ∷ Left ∷ Absent ∷ Nothing ∷ Reserved ∷ Idle ∷ []
 
@@ -115,8 +115,8 @@ own_at words = do
   txn ← field_at (number_within 1 (2 ^ 64)) words
   Some (WaitOwn txn.0, txn.1)
 
-unfoldable pub reply_of : List ℕ → List (List ℕ) → Option (Reply × List (List ℕ))
-reply_of name words =
+unfoldable pub reply_in_words : List ℕ → List (List ℕ) → Option (Reply × List (List ℕ))
+reply_in_words name words =
     if bytes_eq name (codes "for") then waits_at (λ txn held. WaitFor txn held) words
     else if bytes_eq name (codes "first") then waits_at (λ txn held. WaitFirst txn held) words
     else if bytes_eq name (codes "own") then own_at words
@@ -124,4 +124,4 @@ reply_of name words =
 
 abbrev pub reply_at : List (List ℕ) → Option (Reply × List (List ℕ))
 reply_at [] = None
-reply_at (name ∷ words) = reply_of name words
+reply_at (name ∷ words) = reply_in_words name words

@@ -1,13 +1,15 @@
+//! How is a call read from the words of a line? [`call`] reads the name of the call and then its arguments, each
+//! with a function of `field.rt`. `specs/Calls.antt` defines what is read; `put.rt` writes calls.
 ghost use Rattle.std.specs.Prelude.{◌≡◌, ◌^◌};
 ghost use Rattle.lt_text.specs.Fields.{number_within};
-ghost use Rattle.lt_text.specs.Calls.{Gives, bound_at, visit_at, acquire_at, update_at, finish_at, leave_at, look_at, call_of, call_at};
+ghost use Rattle.lt_text.specs.Calls.{Gives, bound_at, visit_at, acquire_at, update_at, finish_at, leave_at, look_at, call_in_words, call_at};
 
 use crate::field::{access, bound, is_bound, owner, ticket, timestamp, txn};
 use crate::number::number;
 use crate::words::Words;
 use lt_plain::Call;
 
-/// The bound at the front, or 0 where no word there begins as a bound does.
+/// The bound at the start of the remaining words, or 0 if the next word does not begin as a bound does.
 #[tactic(auto, unfolding(crate::specs::Calls::bound_at))]
 fn longest(words: &mut Words) -> Option<u32>
     ensures { Gives result words.new (bound_at words.old) }
@@ -58,7 +60,7 @@ fn update(words: &mut Words) -> Option<Call>
     Some(Call::Update { txn, ts })
 }
 
-/// The number of a request that the word spells: 1 to 2^40 - 1.
+/// The request number that the word spells, from 1 to 2^40 - 1.
 pub fn request_number(word: &[u8]) -> Option<u64>
     ensures { result ≡ number_within 1 (2 ^ 40) word.now }
 {
@@ -93,9 +95,9 @@ fn look(words: &mut Words) -> Option<Call>
     Some(Call::Look { number })
 }
 
-#[tactic(auto, unfolding(crate::specs::Calls::call_of))]
+#[tactic(auto, unfolding(crate::specs::Calls::call_in_words))]
 fn call_named(name: &[u8], words: &mut Words) -> Option<Call>
-    ensures { Gives result words.new (call_of name.now words.old) }
+    ensures { Gives result words.new (call_in_words name.now words.old) }
 {
     if name == b"visit".as_slice() {
         return visit(words);
@@ -118,8 +120,8 @@ fn call_named(name: &[u8], words: &mut Words) -> Option<Call>
     None
 }
 
-/// The call that the next words spell, its name first; `None` where they spell none, or a number is out of its range.
-/// The words after the call are left.
+/// The call that the next words spell, its name first. `None` if they spell no call, or if a number is out of its
+/// range. The words after the call remain.
 pub fn call(words: &mut Words) -> Option<Call>
     ensures { Gives result words.new (call_at words.old) }
 {

@@ -1,3 +1,5 @@
+//! Reads the words inside a line: transactions, tickets, timestamps, accesses and bounds. Each function returns
+//! `None` if the word spells no such value.
 ghost use Rattle.std.specs.Prelude.{◌≡◌, ◌^◌};
 ghost use Rattle.lt_text.specs.Fields.{number_within, pair_of, ticket_of, time_of, access_of, owner_of, is_bound, bound_of};
 
@@ -5,14 +7,14 @@ use crate::number::number;
 use crate::words::cut;
 use lt_ids::{Access, Ticket, Timestamp, TxnId};
 
-/// The transaction that the word names: 1 to 2^64 - 1.
+/// The transaction that the word names, from 1 to 2^64 - 1.
 pub fn txn(word: &[u8]) -> Option<TxnId>
     ensures { result ≡ number_within 1 (2 ^ 64) word.now }
 {
     TxnId::new(number(word)?)
 }
 
-/// The transaction that the word names, or none where the word is `-`.
+/// The transaction that the word names, or no transaction if the word is `-`.
 #[tactic(auto, unfolding(crate::specs::Fields::owner_of))]
 pub fn owner(word: &[u8]) -> Option<Option<TxnId>>
     ensures { result ≡ owner_of word.now }
@@ -23,7 +25,7 @@ pub fn owner(word: &[u8]) -> Option<Option<TxnId>>
     Some(Some(txn(word)?))
 }
 
-/// The two numbers that stand on either side of a dot.
+/// The two numbers before and after a dot.
 fn pair(word: &[u8]) -> Option<(u64, u64)>
     ensures { result ≡ pair_of word.now }
 {
@@ -31,7 +33,7 @@ fn pair(word: &[u8]) -> Option<(u64, u64)>
     Some((number(first)?, number(second)?))
 }
 
-/// The ticket that the word spells: a number from 1 to 2^40 - 1, a dot, and a wait from 1 to 2^24 - 1.
+/// The ticket that the word spells: a number from 1 to 2^40 - 1, a dot, and a wait number from 1 to 2^24 - 1.
 #[tactic(auto, unfolding(crate::specs::Fields::ticket_of))]
 pub fn ticket(word: &[u8]) -> Option<Ticket>
     ensures { result ≡ ticket_of word.now }
@@ -40,7 +42,7 @@ pub fn ticket(word: &[u8]) -> Option<Ticket>
     Ticket::new(number, u32::try_from(wait).ok()?)
 }
 
-/// The timestamp that the word spells: a number below 2^64, a dot, and one below 2^32.
+/// The timestamp that the word spells: a number below 2^64, a dot, and a number below 2^32.
 #[tactic(auto, unfolding(crate::specs::Fields::time_of))]
 pub fn timestamp(word: &[u8]) -> Option<Timestamp>
     ensures { result ≡ time_of word.now }
@@ -50,7 +52,7 @@ pub fn timestamp(word: &[u8]) -> Option<Timestamp>
     Some(Timestamp { wall, logical })
 }
 
-/// The access that the word spells: `r` or `w`.
+/// The access that the word spells, `r` or `w`.
 #[tactic(auto, unfolding(crate::specs::Fields::access_of))]
 pub fn access(word: &[u8]) -> Option<Access>
     ensures { result ≡ access_of word.now }
@@ -64,7 +66,7 @@ pub fn access(word: &[u8]) -> Option<Access>
     None
 }
 
-/// Whether the word begins as a bound does: with `max=`.
+/// Whether the word begins as a bound does, with `max=`.
 pub fn is_bound(word: &[u8]) -> bool
     ensures { result ≡ is_bound word.now }
 {

@@ -1,8 +1,9 @@
+//! Reads decimal numbers. Each number has exactly one spelling.
 ghost use Rattle.std.specs.Prelude.{◌≡◌, MatchOption};
 ghost use Rattle.std.specs.Str.Parse.{AllDigits, digits_value};
-ghost use Rattle.lt_text.specs.Number.{number_of, IsNoNumber};
+ghost use Rattle.lt_text.specs.Number.{decimal_of, IsNoNumber};
 
-/// The number below `2^64` that the digits spell, leading zeros or none.
+/// The number below `2^64` with these digits. Leading zeros are allowed.
 #[tactic(auto, using(crate::proofs::Numbers::not_a_digit, crate::proofs::Numbers::too_large, crate::proofs::Numbers::one_more))]
 fn value(digits: &[u8]) -> Option<u64>
     ensures { MatchOption result (IsNoNumber digits.now) (λ n. AllDigits 10 digits.now × (n ≡ digits_value 10 digits.now)) }
@@ -17,10 +18,10 @@ fn value(digits: &[u8]) -> Option<u64>
     Some(n)
 }
 
-/// The number below `2^64` that the word spells in digits, the first no zero unless it is the only one.
+/// The number below `2^64` that the word spells in digits. The first digit is not zero, unless it is the only one.
 #[tactic(auto, using(crate::proofs::Numbers::number_of_none, crate::proofs::Numbers::no_word, crate::proofs::Numbers::leading_zero, crate::proofs::Numbers::number_of_digits))]
 pub fn number(word: &[u8]) -> Option<u64>
-    ensures { result ≡ number_of word.now }
+    ensures { result ≡ decimal_of word.now }
 {
     if word.is_empty() {
         return None;

@@ -1,3 +1,6 @@
+//! How are numbers, calls and replies written? Each function appends to a byte vector the words that
+//! `specs/Fields.antt`, `specs/Calls.antt` and `specs/Replies.antt` define. It fails only when an allocation
+//! fails, and then may have appended a part.
 ghost use Rattle.std.specs.Prelude.{◌≡◌, ◌++◌, ◌∷◌, [], OnOk, decimal};
 ghost use Rattle.lt_text.specs.Replies.{held_word, reply_words};
 ghost use Rattle.lt_text.specs.Fields.{pair_word, access_word, owner_word, bound_words};
@@ -10,7 +13,7 @@ use lt_ids::{Access, Ticket, Timestamp, TxnId};
 use lt_plain::{Call, Reply};
 use std::alloc::AllocError;
 
-/// Puts the number at the end.
+/// Appends the number.
 pub fn put_number(out: &mut Vec<u8>, n: u64) -> Result<(), AllocError>
     ensures { OnOk result (out.new.items ≡ out.old.items ++ decimal n) }
 {
@@ -18,7 +21,7 @@ pub fn put_number(out: &mut Vec<u8>, n: u64) -> Result<(), AllocError>
     out.extend_from_slice(buffer.format(n).as_bytes())
 }
 
-/// Puts two numbers with a dot between them at the end.
+/// Appends two numbers with a dot between them.
 pub fn put_pair(out: &mut Vec<u8>, first: u64, second: u64) -> Result<(), AllocError>
     ensures { OnOk result (out.new.items ≡ out.old.items ++ pair_word first second) }
 {
@@ -27,7 +30,7 @@ pub fn put_pair(out: &mut Vec<u8>, first: u64, second: u64) -> Result<(), AllocE
     put_number(out, second)
 }
 
-/// Puts a space and the word at the end.
+/// Appends a space and the word.
 pub fn put_word(out: &mut Vec<u8>, word: &[u8]) -> Result<(), AllocError>
     ensures { OnOk result (out.new.items ≡ out.old.items ++ 32 ∷ word.now) }
 {
@@ -35,7 +38,7 @@ pub fn put_word(out: &mut Vec<u8>, word: &[u8]) -> Result<(), AllocError>
     out.extend_from_slice(word)
 }
 
-/// Puts a space and the number at the end.
+/// Appends a space and the number.
 pub fn put_number_word(out: &mut Vec<u8>, n: u64) -> Result<(), AllocError>
     ensures { OnOk result (out.new.items ≡ out.old.items ++ 32 ∷ decimal n) }
 {
@@ -43,7 +46,7 @@ pub fn put_number_word(out: &mut Vec<u8>, n: u64) -> Result<(), AllocError>
     put_number(out, n)
 }
 
-/// Puts a space and two numbers with a dot between them at the end.
+/// Appends a space and two numbers with a dot between them.
 pub fn put_pair_word(out: &mut Vec<u8>, first: u64, second: u64) -> Result<(), AllocError>
     ensures { OnOk result (out.new.items ≡ out.old.items ++ 32 ∷ pair_word first second) }
 {
@@ -51,21 +54,21 @@ pub fn put_pair_word(out: &mut Vec<u8>, first: u64, second: u64) -> Result<(), A
     put_pair(out, first, second)
 }
 
-/// Puts a space and the timestamp at the end.
+/// Appends a space and the timestamp.
 pub fn put_time(out: &mut Vec<u8>, ts: Timestamp) -> Result<(), AllocError>
     ensures { OnOk result (out.new.items ≡ out.old.items ++ 32 ∷ pair_word ts.wall ts.logical) }
 {
     put_pair_word(out, ts.wall, ts.logical as u64)
 }
 
-/// Puts a space and the ticket at the end.
+/// Appends a space and the ticket.
 pub fn put_ticket(out: &mut Vec<u8>, ticket: Ticket) -> Result<(), AllocError>
     ensures { OnOk result (out.new.items ≡ out.old.items ++ 32 ∷ pair_word ticket.number ticket.wait) }
 {
     put_pair_word(out, ticket.number(), ticket.wait() as u64)
 }
 
-/// Puts a space and the word of the transaction, or of none, at the end.
+/// Appends a space and the transaction, or `-` if there is none.
 pub fn put_owner(out: &mut Vec<u8>, txn: Option<TxnId>) -> Result<(), AllocError>
     ensures { OnOk result (out.new.items ≡ out.old.items ++ 32 ∷ owner_word txn) }
 {
@@ -75,7 +78,7 @@ pub fn put_owner(out: &mut Vec<u8>, txn: Option<TxnId>) -> Result<(), AllocError
     }
 }
 
-/// Puts a space and the bound at the end, if it is one: 0 is none.
+/// Appends a space and the bound. Appends nothing for 0, which means no bound.
 pub fn put_bound(out: &mut Vec<u8>, longest: u32) -> Result<(), AllocError>
     ensures { OnOk result (out.new.items ≡ out.old.items ++ spaced (bound_words longest)) }
 {
@@ -96,7 +99,7 @@ fn access_name(access: Access) -> &'static [u8]
     }
 }
 
-/// Puts the words of the call at the end, a space before each.
+/// Appends the words of the call, with a space before each.
 pub fn put_call(out: &mut Vec<u8>, call: Call) -> Result<(), AllocError>
     ensures { OnOk result (out.new.items ≡ out.old.items ++ spaced (call_words call)) }
 {
@@ -140,14 +143,14 @@ pub fn put_call(out: &mut Vec<u8>, call: Call) -> Result<(), AllocError>
     }
 }
 
-/// Whether a lock is held or reserved, as a word.
+/// The word that says whether a lock is held or reserved.
 fn held_name(is_held: bool) -> &'static [u8]
     ensures { result.now ≡ held_word is_held }
 {
     if is_held { b"held" } else { b"reserved" }
 }
 
-/// Puts the words at the end that say for whom one waits.
+/// Appends the words of a reply that tells what a request waits for.
 fn put_waits(out: &mut Vec<u8>, name: &[u8], txn: TxnId, is_held: bool) -> Result<(), AllocError>
     ensures { OnOk result (out.new.items ≡ out.old.items ++ spaced (name.now ∷ decimal txn ∷ held_word is_held ∷ [])) }
 {
@@ -156,7 +159,7 @@ fn put_waits(out: &mut Vec<u8>, name: &[u8], txn: TxnId, is_held: bool) -> Resul
     put_word(out, held_name(is_held))
 }
 
-/// Puts the words of the reply at the end, a space before each.
+/// Appends the words of the reply, with a space before each.
 pub fn put_reply(out: &mut Vec<u8>, reply: Reply) -> Result<(), AllocError>
     ensures { OnOk result (out.new.items ≡ out.old.items ++ spaced (reply_words reply)) }
 {

@@ -1,7 +1,10 @@
+//! How is a reply read from the words of a line, and which replies can a call have? [`reply`] reads the name of
+//! the reply and then its arguments; [`is_reply_of`] has the replies of each call. `specs/Replies.antt` defines
+//! both; `put.rt` writes replies.
 ghost use Rattle.std.specs.Prelude.{◌≡◌, Some};
 ghost use Rattle.std.specs.Str.{bytes_eq};
 ghost use Rattle.lt_text.specs.Calls.{Gives};
-ghost use Rattle.lt_text.specs.Replies.{reply_name, fixed_reply, held_of, waits_at, own_at, reply_of, reply_at, is_reply_of, is_visit_reply, is_acquire_reply, is_update_reply, is_finish_reply, is_leave_reply, is_look_reply};
+ghost use Rattle.lt_text.specs.Replies.{reply_name, fixed_reply, held_of, waits_at, own_at, reply_in_words, reply_at, is_reply_of, is_visit_reply, is_acquire_reply, is_update_reply, is_finish_reply, is_leave_reply, is_look_reply};
 
 use crate::field::txn;
 use crate::words::Words;
@@ -31,7 +34,7 @@ pub fn name(reply: Reply) -> &'static [u8]
     }
 }
 
-/// The replies of one word.
+/// The replies that consist of one word.
 const FIXED: [Reply; 13] = [
     Reply::Passed,
     Reply::MustWait,
@@ -48,14 +51,15 @@ const FIXED: [Reply; 13] = [
     Reply::Idle,
 ];
 
-/// Whether the word is the reply's first.
+/// Whether the word is the first word of the reply.
 fn is_spelled(reply: &Reply, word: &[u8]) -> bool
     ensures { result ≡ bytes_eq (reply_name reply.now) word.now }
 {
     name(*reply) == word
 }
 
-/// A reply of one word, that which the word spells if it spells any.
+/// A one-word reply. It is chosen by the word's length and first bytes, so as to be the right one if the word
+/// spells any. The caller checks it.
 #[tactic(auto, unfolding(crate::specs::Replies::fixed_reply))]
 fn likely(word: &[u8]) -> Reply
     ensures { fixed_reply (reply_name result) ≡ Some result }
@@ -94,7 +98,7 @@ fn fixed(word: &[u8]) -> Option<Reply>
     FIXED.iter().copied().find(|r| is_spelled(r, word))
 }
 
-/// Whether the lock is held; else it is reserved.
+/// Whether the word says that the lock is held or reserved; `None` for any other word.
 fn is_held(word: &[u8]) -> Option<bool>
     ensures { result ≡ held_of word.now }
 {
@@ -130,9 +134,9 @@ fn wait_own(words: &mut Words) -> Option<Reply>
     Some(Reply::WaitOwn(txn))
 }
 
-#[tactic(auto, unfolding(crate::specs::Replies::reply_of))]
+#[tactic(auto, unfolding(crate::specs::Replies::reply_in_words))]
 fn reply_named(name: &[u8], words: &mut Words) -> Option<Reply>
-    ensures { Gives result words.new (reply_of name.now words.old) }
+    ensures { Gives result words.new (reply_in_words name.now words.old) }
 {
     if name == b"for".as_slice() {
         return wait_for(words);
@@ -146,7 +150,8 @@ fn reply_named(name: &[u8], words: &mut Words) -> Option<Reply>
     fixed(name)
 }
 
-/// The reply that the next words spell, its name first; `None` where they spell none. The words after it are left.
+/// The reply that the next words spell, its name first, or `None` if they spell no reply. The words after the
+/// reply remain.
 pub fn reply(words: &mut Words) -> Option<Reply>
     ensures { Gives result words.new (reply_at words.old) }
 {
@@ -201,7 +206,7 @@ fn is_reply_of_look(reply: Reply) -> bool
     )
 }
 
-/// The reply is one of those that the call can have.
+/// Whether the call can have this reply.
 pub fn is_reply_of(call: Call, reply: Reply) -> bool
     ensures { result ≡ is_reply_of call reply }
 {

@@ -1,22 +1,23 @@
+//! Splits a line into its words, which single spaces separate.
 ghost use Rattle.std.specs.Prelude.{◌≡◌, ◌==◌, ◌∷◌, [], List, ℕ, MatchOption, None, Some, position};
 ghost use Rattle.std.specs.List.{slice_split};
-ghost use Rattle.lt_text.specs.Words.{cut_of, words_of, IsFirst};
+ghost use Rattle.lt_text.specs.Words.{cut_of, words_left, IsFirst};
 ghost use Rattle.std.specs.Option.{option_copied};
 
 use std::marker::Model;
 
-fn place_of(bytes: &[u8], at: u8) -> Option<usize>
+fn position_of(bytes: &[u8], at: u8) -> Option<usize>
     ensures { result ≡ position (λ b. b == at) bytes.now }
 {
     bytes.iter().position(|b| *b == at)
 }
 
-/// What stands before the first byte that is `at`, and what stands after it; `None` where no byte is.
+/// The bytes before and after the first byte that equals `at`, or `None` if there is no such byte.
 #[tactic(auto, using(crate::proofs::Cuts::cut_of_none, crate::proofs::Cuts::cut_of_at))]
 pub fn cut(bytes: &[u8], at: u8) -> Option<(&[u8], &[u8])>
     ensures { MatchOption result (cut_of at bytes.now ≡ None) (λ parts. cut_of at bytes.now ≡ Some (parts.0.now, parts.1.now)) }
 {
-    match place_of(bytes, at) {
+    match position_of(bytes, at) {
         None => None,
         Some(place) => {
             let (before, _) = bytes.split_at(place);
@@ -26,10 +27,10 @@ pub fn cut(bytes: &[u8], at: u8) -> Option<(&[u8], &[u8])>
     }
 }
 
-/// The first word, and what is left after it and its space.
+/// The first word, and the rest of the line after the word and its space.
 #[tactic(auto, using(crate::proofs::Cuts::slice_split_cut, crate::proofs::Cuts::slice_split_uncut))]
 fn first_word(line: &[u8]) -> (&[u8], Option<&[u8]>)
-    ensures { slice_split (λ b. b == 32) line.now ≡ result.0.now ∷ words_of (option_copied result.1) }
+    ensures { slice_split (λ b. b == 32) line.now ≡ result.0.now ∷ words_left (option_copied result.1) }
 {
     match cut(line, b' ') {
         None => (line, None),
@@ -37,7 +38,7 @@ fn first_word(line: &[u8]) -> (&[u8], Option<&[u8]>)
     }
 }
 
-/// The words of a line that are left: what stands between single spaces.
+/// The remaining words of a line.
 #[derive(Drop)]
 pub struct Words<'a> {
     rest: Option<&'a [u8]>,
@@ -46,22 +47,22 @@ pub struct Words<'a> {
 impl<'a> Model for Words<'a> {
     ghost use Rattle.std.specs.Prelude.{ℕ, List};
     ghost use Rattle.std.specs.Option.{option_copied};
-    ghost use Rattle.lt_text.specs.Words.{words_of};
+    ghost use Rattle.lt_text.specs.Words.{words_left};
 
     ghost Value = { List (List ℕ) };
 
-    ghost view = { λ w. words_of (option_copied w.rest) };
+    ghost view = { λ w. words_left (option_copied w.rest) };
 }
 
 impl<'a> Words<'a> {
-    /// The words of the line, whose end is left out. An empty line has one word, which is empty.
+    /// The words of the line, which is given without its line end. An empty line has one word, which is empty.
     pub fn new(line: &'a [u8]) -> Self
         ensures { result ≡ slice_split (λ b. b == 32) line.now }
     {
         Words { rest: Some(line) }
     }
 
-    /// The next word, which is left; `None` after the last.
+    /// The next word, which remains; `None` after the last.
     pub fn peek(&self) -> Option<&'a [u8]>
         ensures { MatchOption result (self.now ≡ []) (λ word. IsFirst word.now self.now) }
     {
@@ -69,7 +70,7 @@ impl<'a> Words<'a> {
         Some(word)
     }
 
-    /// The next word, or `None` after the last.
+    /// The next word, which is consumed; `None` after the last.
     pub fn next(&mut self) -> Option<&'a [u8]>
         ensures { MatchOption result ((self.old ≡ []) × (self.new ≡ [])) (λ word. self.old ≡ word.now ∷ self.new) }
     {

@@ -1,27 +1,27 @@
--- The output of a script ends with a text that a check takes.
+-- The output of a script ends with a text that a check accepts.
 use Rattle.std.proofs.Common.{◌≡◌, ℕ, List, Bool, Option, length, refl, subst, inr}
 use Rattle.lt_history.proofs.Verdicts.{all_of_latest}
 use Rattle.lt_script.specs.declared.command.Command.{Command}
-use Rattle.lt_desk.specs.declared.outcome.Finish.{Finish}
-use Rattle.lt_desk.specs.declared.outcome.Ran.{Ran}
-use Rattle.lt_desk.specs.Ran.{IsRan, joined, run_rules}
+use Rattle.lt_runner.specs.declared.outcome.Finish.{Finish}
+use Rattle.lt_runner.specs.declared.outcome.Ran.{Ran}
+use Rattle.lt_runner.specs.Ran.{IsRan, all_entries, run_rules}
 use Rattle.lt_command_line.specs.declared.options.Options.{Options}
-use Rattle.lt_tool.specs.Output.{IsComposed, IsOutput, rules_of, turns_of}
+use Rattle.lt_tool.specs.Output.{IsComposed, IsOutput, rules_of_options, turns_of}
 
-written : (options : Options) (always : Bool) (commands : List Command) (ran : Ran) (text : List ℕ) (finish : Finish) → IsRan (rules_of options) always options.shards commands ran → IsComposed ran text finish
+written : (options : Options) (always : Bool) (commands : List Command) (ran : Ran) (text : List ℕ) (finish : Finish) → IsRan (rules_of_options options) always options.shards commands ran → IsComposed ran text finish
     → IsOutput options always commands text finish
 written options always commands ran text finish is_ran composed = record {
   ran = ran;
   is_ran = is_ran;
   finish_is = composed.finish_is;
   histories = composed.histories;
-  report = record { version = 2; keys = length composed.is_text.keys; steps = length (joined ran.histories.items) };
+  report = record { version = 2; keys = length composed.is_text.keys; steps = length (all_entries ran.histories.items) };
   latest = refl;
   legal = record {
     is_version = inr refl;
-    entries = joined ran.histories.items;
+    entries = all_entries ran.histories.items;
     in_range = is_ran.in_range;
-    of_version = all_of_latest (joined ran.histories.items);
+    of_version = all_of_latest (all_entries ran.histories.items);
     legal = is_ran.legal;
     is_text = composed.is_text;
     keys = refl;
@@ -35,5 +35,5 @@ pub is_output : (options : Options) (always : Bool) (commands given : List Comma
     → IsRan (run_rules options.steps turns) always options.shards given ran → IsComposed ran text finish → IsOutput options always commands text finish
 is_output options always commands given turns ran text finish said same is_ran composed =
     written options always commands ran text finish
-    (subst (λ (cs : List Command). IsRan (rules_of options) always options.shards cs ran) same
+    (subst (λ (cs : List Command). IsRan (rules_of_options options) always options.shards cs ran) same
     (subst (λ (t : Option ℕ). IsRan (run_rules options.steps t) always options.shards given ran) said is_ran)) composed

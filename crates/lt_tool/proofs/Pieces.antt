@@ -5,11 +5,11 @@ use Rattle.std.specs.Io.KnownBytes.{Consumes, IsAtEnd}
 use Rattle.std.proofs.lemmas.List.{append-nil}
 use Rattle.lt_tool.specs.Input.{IsPiece}
 
-pub consumes_more : (first mid last : Option (List ℕ)) (front bytes : List ℕ) → Consumes first mid front → Consumes mid last bytes → Consumes first last (front ++ bytes)
-consumes_more None mid last front bytes p q = tt
-consumes_more (Some xs) None last front bytes p q = absurd p
-consumes_more (Some xs) (Some ys) None front bytes p q = q
-consumes_more (Some xs) (Some ys) (Some zs) front bytes p q = p ∙ (ap (λ (t : List ℕ). front ++ t) q ∙ sym (append_assoc front bytes zs))
+pub consumes_more : (first mid last : Option (List ℕ)) (prefix bytes : List ℕ) → Consumes first mid prefix → Consumes mid last bytes → Consumes first last (prefix ++ bytes)
+consumes_more None mid last prefix bytes p q = tt
+consumes_more (Some xs) None last prefix bytes p q = absurd p
+consumes_more (Some xs) (Some ys) None prefix bytes p q = q
+consumes_more (Some xs) (Some ys) (Some zs) prefix bytes p q = p ∙ (ap (λ (t : List ℕ). prefix ++ t) q ∙ sym (append_assoc prefix bytes zs))
 
 pub more : (first mid last : Option (List ℕ)) (old new : List ℕ) (n : ℕ) → Consumes first mid old → IsPiece mid last old new n → Consumes first last new
 more first mid last old new n h p = rw p.grown (consumes_more first mid last old p.bytes h p.taken)

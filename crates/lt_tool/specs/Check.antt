@@ -1,11 +1,11 @@
--- What is told of a text of histories.
+-- What the program answers to a text of histories.
 use Rattle.std.specs.Prelude.{ℕ, ◌≡◌, ◌⊎◌, ◌<◌, ◌^◌, List, [], ◌∷◌, ◌++◌, length, Option, IfSome, Result, Ok, Err, decimal, codes}
 use Rattle.std.specs.Io.KnownBytes.{Appends}
 use Rattle.lt_text.specs.Compose.{spaced}
 use Rattle.lt_history.specs.declared.checker.Report.{Report}
 use Rattle.lt_history.specs.declared.checker.CheckError.TheVariants as faults
 use Rattle.lt_history.specs.declared.error.Fault.{Fault}
-use Rattle.lt_history.specs.Print.{AppendsFront}
+use Rattle.lt_history.specs.Print.{AppendsPrefix}
 use Rattle.lt_history.specs.Text.{Fails}
 use Rattle.lt_history.specs.Verdict.{IsLegalText, upgraded, of_latest}
 use Rattle.lt_tool.specs.declared.check.CheckTextError.{CheckTextError}
@@ -14,74 +14,74 @@ use Rattle.lt_tool.specs.declared.input.Unread.{Unread}
 use Rattle.lt_tool.specs.declared.input.Unread.TheVariants as inputs
 use Rattle.lt_tool.specs.Output.{IsShort}
 
--- the line of a legal text, with its end
+-- The line that answers a legal text, with its line end.
 abbrev pub report_line : Report → List ℕ
 report_line r = codes "ok" ++ spaced (decimal r.keys ∷ codes "keys" ∷ decimal r.steps ∷ codes "steps" ∷ []) ++ 10 ∷ []
 
--- This text was read to its end, and it is one of legal histories, of this version and so many keys and steps; it is the
--- reader's, where those bytes are known.
-pub record IsLegalOf (source : Option (List ℕ)) (text : List ℕ) (report : Report) : Type 0 where
+-- This text was read to its end, and it is the text of legal histories, of this version and with these numbers of
+-- keys and steps. If the bytes of the reader are known, the text is those bytes.
+pub record IsLegalReport (source : Option (List ℕ)) (text : List ℕ) (report : Report) : Type 0 where
   pub is_read : IfSome source (λ all. text ≡ all)
   pub short : IsShort text
   pub legal : IsLegalText text report
 
--- A text is so.
+-- Some text was read that is legal in this way.
 pub record IsChecked (source : Option (List ℕ)) (report : Report) : Type 0 where
   pub text : List ℕ
-  pub is_legal : IsLegalOf source text report
+  pub is_legal : IsLegalReport source text report
 
--- A text that was read to its end has this fault first, and that on this line.
+-- A text was read to its end, and this is its first faulty line and the first fault in it.
 pub record IsFaulty (source : Option (List ℕ)) (line : ℕ) (fault : Fault) : Type 0 where
   pub text : List ℕ
   pub is_read : IfSome source (λ all. text ≡ all)
   pub short : IsShort text
   pub fails : Fails text line fault
 
--- why a text was not answered with its numbers
+-- Why a text was not answered with its numbers.
 abbrev pub IsUnchecked : CheckTextError → Option (List ℕ) → Type 0
 IsUnchecked errors.TooLong source = IfSome source (λ text. 2 ^ 24 < length text)
 IsUnchecked (errors.Check (faults.Refused line fault)) source = IsFaulty source line fault
 IsUnchecked _ source = Unit {0}
 
--- The text was legal, and the writer holds a front of its line more.
+-- The text was legal, and the writer has received a prefix of its line.
 pub record ToldInPart (source old new : Option (List ℕ)) : Type 0 where
   pub report : Report
   pub checked : IsChecked source report
-  pub written : AppendsFront old new (report_line report)
+  pub written : AppendsPrefix old new (report_line report)
 
--- A text of legal histories was read, and the writer holds it more with the first line of the latest version, and nothing
--- else; that text is legal, with the same numbers.
+-- A text of legal histories was read. The writer has received it with the first line of the latest version, and
+-- nothing else. That text is legal, with the same numbers.
 pub record IsUpgraded (source old new : Option (List ℕ)) (report : Report) : Type 0 where
   pub text : List ℕ
-  pub is_legal : IsLegalOf source text report
+  pub is_legal : IsLegalReport source text report
   pub stays_legal : IsLegalText (upgraded text) (of_latest report)
   pub written : Appends old new (upgraded text)
 
--- The same, and the writer holds a front of it more.
+-- The same, but the writer has received only a prefix of the upgraded text.
 pub record UpgradedInPart (source old new : Option (List ℕ)) : Type 0 where
   pub text : List ℕ
   pub report : Report
-  pub is_legal : IsLegalOf source text report
+  pub is_legal : IsLegalReport source text report
   pub stays_legal : IsLegalText (upgraded text) (of_latest report)
-  pub written : AppendsFront old new (upgraded text)
+  pub written : AppendsPrefix old new (upgraded text)
 
--- what is told of a text that is taken, without the text
+-- The report on a text that was accepted, without the text.
 abbrev pub reported : {X : Type 0} → Result (X × Report) CheckTextError → Result Report CheckTextError
 reported (Ok taken) = Ok taken.1
 reported (Err e) = Err e
 
 -- A read failed, or memory ran out.
-abbrev pub IsStopped : Result Report CheckTextError → Type 0
-IsStopped (Err errors.Read) = Unit {0}
-IsStopped (Err (errors.Check faults.Memory)) = Unit {0}
-IsStopped _ = ⊥
+abbrev pub IsCheckStopped : Result Report CheckTextError → Type 0
+IsCheckStopped (Err errors.Read) = Unit {0}
+IsCheckStopped (Err (errors.Check faults.Memory)) = Unit {0}
+IsCheckStopped _ = ⊥
 
-abbrev pub IsStoppedOr : Result Report CheckTextError → Result Report CheckTextError → Type 0
-IsStoppedOr result said = (result ≡ said) ⊎ IsStopped result
+abbrev pub IsCheckStoppedOr : Result Report CheckTextError → Result Report CheckTextError → Type 0
+IsCheckStoppedOr result said = (result ≡ said) ⊎ IsCheckStopped result
 
 -- The same, or a write failed.
 abbrev pub IsUnwrittenOr : Result Report CheckTextError → Result Report CheckTextError → Type 0
-IsUnwrittenOr result said = (result ≡ Err errors.Write) ⊎ IsStoppedOr result said
+IsUnwrittenOr result said = (result ≡ Err errors.Write) ⊎ IsCheckStoppedOr result said
 
 abbrev pub unread : Unread → CheckTextError
 unread inputs.Read = errors.Read

@@ -1,8 +1,9 @@
--- What is read of a text.
+-- One read of a text.
 use Rattle.std.specs.Prelude.{ℕ, ◌≡◌, List, ◌++◌, length, Option}
 use Rattle.std.specs.Io.KnownBytes.{Consumes, IsAtEnd}
 
--- One read put so many bytes behind the text, which the reader has lost; none only at its end.
+-- One read appended this many bytes to the text and took them from the reader. It brings none only at the reader's
+-- end.
 pub record IsPiece (before after : Option (List ℕ)) (old new : List ℕ) (n : ℕ) : Type 0 where
   pub bytes : List ℕ
   pub grown : new ≡ old ++ bytes

@@ -1,16 +1,16 @@
--- How the program ends, and what it says where it fails.
+-- How the program ends, and what it says if it fails.
 use Rattle.std.specs.Prelude.{ℕ, List, [], ◌++◌, decimal, codes, Result, Ok, Err}
 use Rattle.lt_history.specs.declared.checker.CheckError.TheVariants as checks
-use Rattle.lt_history.specs.declared.error.Fault.{Fault as HistoryFault}
+use Rattle.lt_history.specs.declared.error.Fault.{Fault}
 use Rattle.lt_history.specs.declared.error.Fault.TheVariants as histories
-use Rattle.lt_script.specs.declared.error.Fault.{Fault}
-use Rattle.lt_script.specs.declared.error.Fault.TheVariants.{BadPass, BadCall, BadWords, BadTxn, BadTime, BadMax, BadKey, BadAccess}
-use Rattle.lt_desk.specs.declared.outcome.Finish.{Finish}
-use Rattle.lt_desk.specs.declared.outcome.Finish.TheVariants.{Done, TurnsOut}
-use Rattle.lt_tool.specs.declared.run.RunError.{RunError}
-use Rattle.lt_tool.specs.declared.run.RunError.TheVariants.{Read, TooLong, Script, Memory, Counts, Write}
-use Rattle.lt_tool.specs.declared.program.Failure.{Failure}
-use Rattle.lt_tool.specs.declared.program.Failure.TheVariants as failures
+use Rattle.lt_script.specs.declared.error.ScriptFault.{ScriptFault}
+use Rattle.lt_script.specs.declared.error.ScriptFault.TheVariants.{BadPass, BadCall, BadWords, BadTxn, BadTime, BadMax, BadKey, BadAccess}
+use Rattle.lt_runner.specs.declared.outcome.Finish.{Finish}
+use Rattle.lt_runner.specs.declared.outcome.Finish.TheVariants.{Done, TurnsOut}
+use Rattle.lt_tool.specs.declared.script.RunError.{RunError}
+use Rattle.lt_tool.specs.declared.script.RunError.TheVariants.{Read, TooLong, Script, Memory, Counts, Write}
+use Rattle.lt_tool.specs.declared.failure.Failure.{Failure}
+use Rattle.lt_tool.specs.declared.failure.Failure.TheVariants as failures
 use Rattle.lt_tool.specs.declared.check.CheckTextError.{CheckTextError}
 use Rattle.lt_tool.specs.declared.check.CheckTextError.TheVariants as texts
 
@@ -41,7 +41,7 @@ status_of (Ok Done) = 0
 status_of (Ok TurnsOut) = 3
 status_of (Err e) = failure_status e
 
-abbrev pub fault_end : Fault → List ℕ
+abbrev pub fault_end : ScriptFault → List ℕ
 fault_end BadPass = codes ": BadPass\n"
 fault_end BadCall = codes ": BadCall\n"
 fault_end BadWords = codes ": BadWords\n"
@@ -51,7 +51,7 @@ fault_end BadMax = codes ": BadMax\n"
 fault_end BadKey = codes ": BadKey\n"
 fault_end BadAccess = codes ": BadAccess\n"
 
-abbrev pub history_end : HistoryFault → List ℕ
+abbrev pub history_end : Fault → List ℕ
 history_end histories.Header = codes ": Header\n"
 history_end histories.Shape = codes ": Shape\n"
 history_end histories.KeyOrder = codes ": KeyOrder\n"
@@ -59,7 +59,7 @@ history_end histories.Index = codes ": Index\n"
 history_end histories.WrongReply = codes ": WrongReply\n"
 history_end histories.WrongLets = codes ": WrongLets\n"
 
--- the line that tells of a fault, which ends so
+-- The line that reports a fault, with this end.
 abbrev pub line_message : ℕ → List ℕ → List ℕ
 line_message line end = codes "lockrun: line " ++ decimal line ++ end
 
@@ -85,7 +85,7 @@ failure_message failures.Help = codes "lockrun: write\n"
 failure_message (failures.Run e) = error_message e
 failure_message (failures.Check e) = check_message e
 
--- the line on standard error, which is left out where all was done
+-- The line on standard error, which is empty if the work was done.
 abbrev pub message_of : Result Finish Failure → List ℕ
 message_of (Ok Done) = []
 message_of (Ok TurnsOut) = codes "lockrun: turns\n"

@@ -1,8 +1,9 @@
+//! Appends the answer lines of a run to its output.
 ghost use Rattle.std.specs.Prelude.{◌≡◌, ◌++◌, ◌∷◌, [], OnOk};
 ghost use Rattle.lt_text.specs.Compose.{spaced};
-ghost use Rattle.lt_tool.specs.Answers.{refusal_word, answer_words, line_text, pass_text, answers_text};
+ghost use Rattle.lt_tool.specs.Answers.{refusal_word, answer_words, answer_line_text, pass_text, answers_text};
 
-use lt_desk::{AnswerLine, LineAnswer, Refusal};
+use lt_runner::{AnswerLine, LineAnswer, Refusal};
 use lt_text::put::{put_number, put_number_word, put_reply, put_word};
 use std::alloc::AllocError;
 
@@ -20,7 +21,7 @@ fn refusal_name(refusal: Refusal) -> &'static [u8]
     }
 }
 
-/// Puts the words of the answer at the end, a space before each.
+/// Appends the words of the answer, with a space before each.
 fn put_answer(out: &mut Vec<u8>, answer: &LineAnswer) -> Result<(), AllocError>
     ensures { OnOk result (out.new.items ≡ out.old.items ++ spaced (answer_words answer.now)) }
 {
@@ -55,9 +56,9 @@ fn put_answer(out: &mut Vec<u8>, answer: &LineAnswer) -> Result<(), AllocError>
     }
 }
 
-/// Puts the line of the pass at the end.
+/// Appends the line of an answer of this pass.
 fn put_line(out: &mut Vec<u8>, pass: u64, line: &AnswerLine) -> Result<(), AllocError>
-    ensures { OnOk result (out.new.items ≡ out.old.items ++ line_text pass line.now) }
+    ensures { OnOk result (out.new.items ≡ out.old.items ++ answer_line_text pass line.now) }
 {
     put_number(out, pass)?;
     put_number_word(out, line.line as u64)?;
@@ -66,7 +67,7 @@ fn put_line(out: &mut Vec<u8>, pass: u64, line: &AnswerLine) -> Result<(), Alloc
     Ok(())
 }
 
-/// Puts the lines of one pass at the end.
+/// Appends the lines of one pass.
 fn put_pass(out: &mut Vec<u8>, pass: u64, lines: &[AnswerLine]) -> Result<(), AllocError>
     ensures { OnOk result (out.new.items ≡ out.old.items ++ pass_text pass lines.now) }
 {
@@ -76,7 +77,7 @@ fn put_pass(out: &mut Vec<u8>, pass: u64, lines: &[AnswerLine]) -> Result<(), Al
     Ok(())
 }
 
-/// Puts the lines of all passes at the end, pass after pass.
+/// Appends the lines of all passes, pass after pass.
 pub(crate) fn put_answers(out: &mut Vec<u8>, passes: &[Vec<AnswerLine>]) -> Result<(), AllocError>
     ensures { OnOk result (out.new.items ≡ out.old.items ++ answers_text passes.now) }
 {

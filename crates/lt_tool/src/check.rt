@@ -1,11 +1,16 @@
+//! What does the program answer to a text of histories?
+//!
+//! [`check_text`] writes the numbers of a legal text; [`upgrade_text`] writes the text itself with the first line
+//! of the latest version. Both read the whole text and check it with `lt_history` before they write. Read next:
+//! `specs/Check.antt`.
 ghost use Rattle.std.specs.Prelude.{◌≡◌, ◌≢◌, ◌<◌, ◌^◌, ◌++◌, ℕ, IfOk, IfErr, IfSome, OnOk, Ok, Err, length};
 ghost use Rattle.std.specs.Io.KnownBytes.{Appends};
 ghost use Rattle.lt_history.specs.declared.checker.CheckError.TheVariants as faults;
-ghost use Rattle.lt_history.specs.Print.{AppendsFront};
+ghost use Rattle.lt_history.specs.Print.{AppendsPrefix};
 ghost use Rattle.lt_history.specs.Text.{Fails};
 ghost use Rattle.lt_history.specs.Verdict.{IsLegalText};
 ghost use Rattle.lt_tool.specs.Output.{IsShort};
-ghost use Rattle.lt_tool.specs.Check.{IsLegalOf, IsChecked, IsUnchecked, IsStoppedOr, IsUnwrittenOr, ToldInPart, IsUpgraded, UpgradedInPart, report_line, reported, unread};
+ghost use Rattle.lt_tool.specs.Check.{IsLegalReport, IsChecked, IsUnchecked, IsCheckStoppedOr, IsUnwrittenOr, ToldInPart, IsUpgraded, UpgradedInPart, report_line, reported, unread};
 
 use crate::input::{Unread, read_text};
 use lt_history::{CheckError, Fault, Report, check, upgrade, write_out};
@@ -14,20 +19,21 @@ use std::alloc::{AllocError, Global};
 use std::io::{Read, Write};
 use thiserror::Error;
 
-/// Why a text of histories was not answered with its numbers, or not upgraded.
+/// Why a text of histories was not answered with its numbers, or was not upgraded.
 #[derive(Clone, Copy, Debug, PartialEq, Eq, Drop, Error)]
 pub enum CheckTextError {
-    /// A read failed. Nothing is written.
+    /// A read failed. Nothing was written.
     #[error("the histories could not be read")]
     Read,
-    /// The text has more than 16,777,216 bytes. Nothing is written.
+    /// The text has more than 16,777,216 bytes. Nothing was written.
     #[error("the histories are too long")]
     TooLong,
-    /// The text is refused, by its first faulty line and the first fault in it, or memory ran out. Nothing is written.
+    /// The text was refused, with its first faulty line and the first fault in it, or memory ran out. Nothing was
+    /// written.
     #[error("{0}")]
     Check(CheckError),
-    /// The text is legal, and a write failed, was interrupted, or took no byte. A front of the line, or of the upgraded text,
-    /// is written.
+    /// The text is legal, but a write failed, was interrupted, or took no byte. A prefix of the line, or of the
+    /// upgraded text, was written.
     #[error("the answer could not be written to its end")]
     Write,
 }
@@ -42,13 +48,13 @@ fn unread(why: Unread) -> CheckTextError
     }
 }
 
-/// What the reader has, and the report on it, where it is legal.
+/// Reads the text and checks it. Returns the text and its report, if it is legal.
 fn legal_text<R: Read>(alloc: Global, reader: &mut R) -> Result<(Vec<u8>, Report), CheckTextError>
-    ensures ok { IfOk result (λ taken. IsLegalOf (R.remaining reader.old) taken.0.items taken.1) }
+    ensures ok { IfOk result (λ taken. IsLegalReport (R.remaining reader.old) taken.0.items taken.1) }
     ensures err { IfErr result (λ e. IsUnchecked e (R.remaining reader.old)) }
-    ensures legal { IfSome (R.remaining reader.old) (λ text. (report : Report) → IsShort text → IsLegalText text report → IsStoppedOr (reported result) (Ok report)) }
-    ensures faulty { IfSome (R.remaining reader.old) (λ text. (line : ℕ) (fault : Fault) → IsShort text → Fails text line fault → IsStoppedOr (reported result) (Err (CheckTextError.Check (faults.Refused line fault)))) }
-    ensures too_long { IfSome (R.remaining reader.old) (λ text. 2 ^ 24 < length text → IsStoppedOr (reported result) (Err CheckTextError.TooLong)) }
+    ensures legal { IfSome (R.remaining reader.old) (λ text. (report : Report) → IsShort text → IsLegalText text report → IsCheckStoppedOr (reported result) (Ok report)) }
+    ensures faulty { IfSome (R.remaining reader.old) (λ text. (line : ℕ) (fault : Fault) → IsShort text → Fails text line fault → IsCheckStoppedOr (reported result) (Err (CheckTextError.Check (faults.Refused line fault)))) }
+    ensures too_long { IfSome (R.remaining reader.old) (λ text. 2 ^ 24 < length text → IsCheckStoppedOr (reported result) (Err CheckTextError.TooLong)) }
     ensures unwritten { IfErr result (λ e. e ≢ CheckTextError.Write) }
 {
     let text = match read_text(alloc, reader) {
@@ -61,7 +67,7 @@ fn legal_text<R: Read>(alloc: Global, reader: &mut R) -> Result<(Vec<u8>, Report
     }
 }
 
-/// The line that tells of a legal text.
+/// The line that answers a legal text.
 fn line_of(alloc: Global, report: Report) -> Result<Vec<u8>, AllocError>
     ensures { IfOk result (λ line. line.items ≡ report_line report) }
 {
@@ -74,30 +80,31 @@ fn line_of(alloc: Global, report: Report) -> Result<Vec<u8>, AllocError>
     Ok(line)
 }
 
-/// Reads a text of histories, checks it, and writes one line: `ok`, the number of keys and `keys`, the number of steps
-/// and `steps`. The whole text is checked before the first write. A legal text is
-/// answered by its numbers, any other by its first faulty line and the first fault in it, or as too long. Only a read or
-/// a write that fails and want of memory keep it from that.
+/// Reads a text of histories, checks it, and writes one line: `ok`, the number of keys and `keys`, the number of
+/// steps and `steps`. Checks the whole text before the first write. A legal text is answered with its numbers. Any
+/// other text is answered with its first faulty line and the first fault in it, or as too long. Only a failed read,
+/// a failed write or running out of memory can prevent that.
 pub fn check_text<R: Read, W: Write>(
     alloc: Global,
     reader: &mut R,
     writer: &mut W,
 ) -> Result<Report, CheckTextError>
-    // The text is legal, with these numbers, and the writer has their line more, and nothing else.
+    // The text is legal and has these numbers. The writer has received their line and nothing else.
     ensures done { IfOk result (λ report. IsChecked (R.remaining reader.old) report) }
     ensures told { IfOk result (λ report. Appends (W.contents writer.old) (W.contents writer.new) (report_line report)) }
 
-    // A text that is refused has this fault, and that on this line, first.
+    // A refused text has this fault on this line, and it is the first one.
     ensures refused { IfErr result (λ e. IsUnchecked e (R.remaining reader.old)) }
     ensures unwritten { IfErr result (λ e. e ≢ CheckTextError.Write → writer.new ≡ writer.old) }
 
-    // After a write that failed the text is legal, and the writer holds a front of its line.
+    // If a write failed, the text is legal and the writer has received a prefix of its line.
     ensures write { IfErr result (λ e. e ≡ CheckTextError.Write → ToldInPart (R.remaining reader.old) (W.contents writer.old) (W.contents writer.new)) }
 
-    // A legal text has its numbers told, and any other is refused, but for a read, a write or memory that fails.
+    // A legal text is answered with its numbers and any other is refused, unless a read, a write or an allocation
+    // fails.
     ensures legal { IfSome (R.remaining reader.old) (λ text. (report : Report) → IsShort text → IsLegalText text report → IsUnwrittenOr result (Ok report)) }
-    ensures faulty { IfSome (R.remaining reader.old) (λ text. (line : ℕ) (fault : Fault) → IsShort text → Fails text line fault → IsStoppedOr result (Err (CheckTextError.Check (faults.Refused line fault)))) }
-    ensures too_long { IfSome (R.remaining reader.old) (λ text. 2 ^ 24 < length text → IsStoppedOr result (Err CheckTextError.TooLong)) }
+    ensures faulty { IfSome (R.remaining reader.old) (λ text. (line : ℕ) (fault : Fault) → IsShort text → Fails text line fault → IsCheckStoppedOr result (Err (CheckTextError.Check (faults.Refused line fault)))) }
+    ensures too_long { IfSome (R.remaining reader.old) (λ text. 2 ^ 24 < length text → IsCheckStoppedOr result (Err CheckTextError.TooLong)) }
 {
     let (_, report) = legal_text(alloc, reader)?;
     let Ok(line) = line_of(alloc, report) else {
@@ -109,28 +116,29 @@ pub fn check_text<R: Read, W: Write>(
     }
 }
 
-/// Reads a text of histories, checks it, and writes it as one of the latest version: with `locks 2` as its first line, and
-/// else as it is. The whole text is checked before the first write. It answers, and refuses, as [`check_text`] does; the
-/// report is that of the text read.
+/// Reads a text of histories, checks it, and writes it as a text of the latest version: its first line becomes
+/// `locks 2`, and the rest is unchanged. Checks the whole text before the first write. It answers and refuses as
+/// [`check_text`] does; the report is that of the text as read.
 pub fn upgrade_text<R: Read, W: Write>(
     alloc: Global,
     reader: &mut R,
     writer: &mut W,
 ) -> Result<Report, CheckTextError>
-    // The text is legal, with these numbers, and the writer has it more with its first line changed, which is legal too.
+    // The text is legal and has these numbers. The writer has received it with its first line changed, and that
+    // text is legal too.
     ensures done { IfOk result (λ report. IsUpgraded (R.remaining reader.old) (W.contents writer.old) (W.contents writer.new) report) }
 
-    // A text that is refused has this fault, and that on this line, first.
+    // A refused text has this fault on this line, and it is the first one.
     ensures refused { IfErr result (λ e. IsUnchecked e (R.remaining reader.old)) }
     ensures unwritten { IfErr result (λ e. e ≢ CheckTextError.Write → writer.new ≡ writer.old) }
 
-    // After a write that failed the text is legal, and the writer holds a front of what was to be written.
+    // If a write failed, the text is legal and the writer has received a prefix of the upgraded text.
     ensures write { IfErr result (λ e. e ≡ CheckTextError.Write → UpgradedInPart (R.remaining reader.old) (W.contents writer.old) (W.contents writer.new)) }
 
-    // A legal text is written, and any other is refused, but for a read, a write or memory that fails.
+    // A legal text is written and any other is refused, unless a read, a write or an allocation fails.
     ensures legal { IfSome (R.remaining reader.old) (λ text. (report : Report) → IsShort text → IsLegalText text report → IsUnwrittenOr result (Ok report)) }
-    ensures faulty { IfSome (R.remaining reader.old) (λ text. (line : ℕ) (fault : Fault) → IsShort text → Fails text line fault → IsStoppedOr result (Err (CheckTextError.Check (faults.Refused line fault)))) }
-    ensures too_long { IfSome (R.remaining reader.old) (λ text. 2 ^ 24 < length text → IsStoppedOr result (Err CheckTextError.TooLong)) }
+    ensures faulty { IfSome (R.remaining reader.old) (λ text. (line : ℕ) (fault : Fault) → IsShort text → Fails text line fault → IsCheckStoppedOr result (Err (CheckTextError.Check (faults.Refused line fault)))) }
+    ensures too_long { IfSome (R.remaining reader.old) (λ text. 2 ^ 24 < length text → IsCheckStoppedOr result (Err CheckTextError.TooLong)) }
 {
     let (mut text, report) = legal_text(alloc, reader)?;
     upgrade(&mut text);

@@ -1,10 +1,11 @@
+//! Reads a whole text of limited length.
 ghost use Rattle.std.specs.Prelude.{◌≡◌, ◌<◌, ◌≤◌, ◌^◌, length, IfOk, IfErr, IfSome};
 ghost use Rattle.lt_tool.specs.Input.{IsPiece};
 
 use std::alloc::Global;
 use std::io::Read;
 
-/// Why a text is not read.
+/// Why a text could not be read.
 #[derive(Clone, Copy, Debug, PartialEq, Eq)]
 pub(crate) enum Unread {
     Read,
@@ -12,10 +13,10 @@ pub(crate) enum Unread {
     Memory,
 }
 
-/// The greatest length of a text.
+/// The greatest length of a text, in bytes.
 const LONGEST: usize = 1 << 24;
 
-/// One read: how many bytes came, none at the end.
+/// Makes one read and appends its bytes. Returns how many bytes came; 0 means the end.
 #[tactic(auto, using(crate::proofs::Pieces::piece))]
 fn read_some<R: Read>(reader: &mut R, text: &mut Vec<u8>) -> Result<usize, Unread>
     ensures ok { IfOk result (λ n. IsPiece (R.remaining reader.old) (R.remaining reader.new) text.old.items text.new.items n) }
@@ -31,9 +32,10 @@ fn read_some<R: Read>(reader: &mut R, text: &mut Vec<u8>) -> Result<usize, Unrea
     }
 }
 
-/// All that the reader has, up to its end. Room for the longest text is taken at once, so that it is not moved, and as much
-/// again: a piece of over 32 MiB goes back to the system when it is dropped, where the C library would keep a smaller one,
-/// and would from then on let the lists of a run grow in pieces that it keeps as well.
+/// Reads everything that the reader has, up to its end. Allocates room for the longest text at once, so that the
+/// text never moves, and then the same again. The second half is there because the C library returns a block of
+/// over 32 MiB to the system when it is dropped. It would keep a smaller block, and from then on also keep the
+/// blocks in which the lists of a run grow.
 #[tactic(auto, using(crate::proofs::Pieces::more, crate::proofs::Pieces::whole, crate::proofs::Pieces::too_long))]
 pub(crate) fn read_text<R: Read>(alloc: Global, reader: &mut R) -> Result<Vec<u8>, Unread>
     ensures ok { IfOk result (λ text. IfSome (R.remaining reader.old) (λ all. text.items ≡ all)) }

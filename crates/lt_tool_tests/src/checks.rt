@@ -1,10 +1,15 @@
+//! What do the check and the upgrade of a history write, and how do they end if a stream fails or the text is cut?
+//! A row of `WORKS` is a job, the version of its text, the text, and what is written for it. The tests play each
+//! row with readers and writers that fail, and with prefixes of the text. Read next `streams`, and
+//! `texts::histories` for the verdicts on other texts.
 use crate::streams::{FAULTS_OF_READS, FAULTS_OF_WRITES, LineEnds, Paper, Torn, blank};
 use lt_history::{CheckError, Fault, Report};
 use lt_tool::{CheckTextError, check_text, upgrade_text};
 use std::io::{ErrorKind, Read};
 use std::test::*;
 
-/// A key that is taken, a reader that waits for it, and a look at the reader; and the same in the first version.
+/// A lock that is taken, a reader that waits for it, and a look at the reader. `OLDER` is the same in the first
+/// version.
 const THREE_STEPS: &str =
     "locks 2\na 1 1 acquire 7 20.0 = taken\na 2 2 visit 1.1 8 20.0 r = wait\na 3 2 look 1 = first 7 held\n";
 
@@ -13,34 +18,34 @@ const OLDER: &str =
 
 const LINE: &str = "ok 1 keys 3 steps\n";
 
-type Ending = Result<Report, CheckTextError>;
+type CheckEnding = Result<Report, CheckTextError>;
 
 /// What is done with a text.
 #[derive(Clone, Copy)]
-enum Work {
+enum TextJob {
     Check,
     Upgrade,
 }
 
-/// Each version of the text, and what is written for it.
-const WORKS: [(Work, u8, &str, &str); 4] = [
-    (Work::Check, 1, OLDER, LINE),
-    (Work::Check, 2, THREE_STEPS, LINE),
-    (Work::Upgrade, 1, OLDER, THREE_STEPS),
-    (Work::Upgrade, 2, THREE_STEPS, THREE_STEPS),
+/// Each job on each version of the text: the job, the version, the text, and what is written.
+const WORKS: [(TextJob, u8, &str, &str); 4] = [
+    (TextJob::Check, 1, OLDER, LINE),
+    (TextJob::Check, 2, THREE_STEPS, LINE),
+    (TextJob::Upgrade, 1, OLDER, THREE_STEPS),
+    (TextJob::Upgrade, 2, THREE_STEPS, THREE_STEPS),
 ];
 
-/// One check or upgrade, and a second one where the first was refused memory: then nothing was written.
+/// Runs the job, and runs it a second time if it ran out of memory and has written nothing.
 fn done<R: Read + Drop>(
     rt: &HostRuntime,
-    work: Work,
+    work: TextJob,
     mut readers: [R; 2],
     writer: &mut Paper,
-) -> Ending {
+) -> CheckEnding {
     for reader in &mut readers {
         let ended = match work {
-            Work::Check => check_text(rt.alloc(), reader, writer),
-            Work::Upgrade => upgrade_text(rt.alloc(), reader, writer),
+            TextJob::Check => check_text(rt.alloc(), reader, writer),
+            TextJob::Upgrade => upgrade_text(rt.alloc(), reader, writer),
         };
         if ended != Err(CheckTextError::Check(CheckError::Memory)) || !writer.written().is_empty() {
             return ended;
@@ -58,12 +63,12 @@ fn torn(text: &str, fails_at: usize, fault: ErrorKind) -> Torn<'_> {
     }
 }
 
-/// The text, by a reader that does not fail.
+/// A reader of the text that does not fail.
 fn whole(text: &str) -> Torn<'_> {
     torn(text, usize::MAX, ErrorKind::Other)
 }
 
-fn three_steps(version: u8) -> Ending {
+fn three_steps(version: u8) -> CheckEnding {
     Ok(Report {
         version,
         keys: 1,
@@ -71,8 +76,8 @@ fn three_steps(version: u8) -> Ending {
     })
 }
 
-/// A text of 97 bytes is read by ten reads of up to ten bytes, and an eleventh that finds its end. A read that fails or is
-/// interrupted is told, though the next one would not fail.
+/// A text of 97 bytes takes ten reads of up to ten bytes, and an eleventh that finds its end. A read that fails or
+/// is interrupted is reported, although the next one would succeed.
 #[test]
 fn reads_that_fail(rt: HostRuntime) {
     assert_eq!(rt; THREE_STEPS.len(), 97);
@@ -94,8 +99,8 @@ fn reads_that_fail(rt: HostRuntime) {
     }
 }
 
-/// A writer that fails after so many bytes holds the front of the line, or of the upgraded text, that long. So does one that
-/// takes no byte then, or is interrupted, though the next write would not fail.
+/// A writer that fails after `stops_at` bytes holds a prefix of the line, or of the upgraded text, of that length.
+/// So does a writer that then takes no bytes or is interrupted, although the next write would succeed.
 #[test]
 fn writes_that_fail(rt: HostRuntime) {
     for (work, version, text, told) in WORKS {
@@ -119,14 +124,14 @@ fn writes_that_fail(rt: HostRuntime) {
     }
 }
 
-/// The longest text, and ones that are too long.
+/// The longest text that is read, and texts that are too long.
 #[test]
 fn long_texts(rt: HostRuntime) {
     let header = CheckError::Refused {
         line: 1,
         fault: Fault::Header,
     };
-    for work in [Work::Check, Work::Upgrade] {
+    for work in [TextJob::Check, TextJob::Upgrade] {
         for (left, error) in [
             (16_777_216, CheckTextError::Check(header)),
             (16_777_217, CheckTextError::TooLong),
@@ -141,8 +146,9 @@ fn long_texts(rt: HostRuntime) {
     }
 }
 
-/// What the rules say of the front of so many bytes, whose line ends are counted.
-fn ending_of_cut(version: u8, len: usize, ends: usize, is_whole: bool) -> Ending {
+/// The expected result for a prefix of `len` bytes, with `ends` line ends. `is_whole` says whether it ends with a
+/// line end.
+fn ending_of_cut(version: u8, len: usize, ends: usize, is_whole: bool) -> CheckEnding {
     if len < 8 {
         return Err(CheckTextError::Check(CheckError::Refused {
             line: 1,
@@ -163,19 +169,19 @@ fn ending_of_cut(version: u8, len: usize, ends: usize, is_whole: bool) -> Ending
     }))
 }
 
-/// What is written for the front, which has so many lines with the first.
-fn told_of_cut(work: Work, front: &str, ends: usize) -> &str {
+/// What is written for a prefix of `ends` whole lines, the first line included.
+fn told_of_cut(work: TextJob, front: &str, ends: usize) -> &str {
     match (work, ends) {
-        (Work::Upgrade, _) => front,
-        (Work::Check, 1) => "ok 0 keys 0 steps\n",
-        (Work::Check, 2) => "ok 1 keys 1 steps\n",
-        (Work::Check, 3) => "ok 1 keys 2 steps\n",
-        (Work::Check, _) => LINE,
+        (TextJob::Upgrade, _) => front,
+        (TextJob::Check, 1) => "ok 0 keys 0 steps\n",
+        (TextJob::Check, 2) => "ok 1 keys 1 steps\n",
+        (TextJob::Check, 3) => "ok 1 keys 2 steps\n",
+        (TextJob::Check, _) => LINE,
     }
 }
 
-/// A text that is cut inside its first line has no header; inside a later line, that line is no line; after its header
-/// and some lines, it tells that many steps, and is upgraded that far.
+/// A text cut inside its first line has a faulty header. A text cut inside a later line has a faulty line there. A
+/// text cut after a line is legal, with the steps so far, and is upgraded that far.
 #[test]
 fn cut_texts(rt: HostRuntime) {
     for (work, version, text, _) in WORKS {

@@ -1,4 +1,6 @@
-//! Gates that note what they are asked, end a pass, or hold one pass for another.
+//! How do the tests observe and order the lines of a run?
+//! [`GateNotes`] notes the calls of a gate and can end a pass. The other gates hold the line of one pass until
+//! another pass has come far enough. Read next `scripts`, which runs scripts with them.
 ghost use Rattle.std.specs.Prelude.{false};
 
 use lt_tool::Gate;
@@ -7,10 +9,10 @@ use std::hint::spin_loop;
 use std::sync::atomic::{AtomicBool, AtomicU64, AtomicUsize, Ordering};
 use std::thread::yield_now;
 
-/// How many turns a hold has at most.
+/// How many turns a gate holds a line at most.
 const TURNS: u32 = 5_000_000;
 
-/// Gives the processor away until the flag is set. False where it is not set in so many turns.
+/// Yields the processor until the flag is set. False if it is not set within `TURNS` turns.
 fn is_set_in_time(flag: &AtomicBool) -> bool {
     for _ in 0..TURNS {
         if flag.load(Ordering::SeqCst) {
@@ -21,7 +23,8 @@ fn is_set_in_time(flag: &AtomicBool) -> bool {
     false
 }
 
-/// Counts 5,000,000 turns, unless the flag is set before. It keeps the processor, so that this takes as long on a busy one.
+/// Spins for `TURNS` turns, unless the flag is set before. It does not yield the processor, so that it takes as
+/// long on a busy one.
 fn linger(flag: &AtomicBool) {
     for _ in 0..TURNS {
         if flag.load(Ordering::SeqCst) {
@@ -31,18 +34,18 @@ fn linger(flag: &AtomicBool) {
     }
 }
 
-/// Notes what it is asked and told, and answers no before one line. A note has three digits: the pass, the line, and 0 where
-/// it was asked before the line, 1 where it was told after it.
+/// Notes each call of the gate, and answers false before the line `refused`. A note has three digits: the pass,
+/// the line, and 0 for the call before the line or 1 for the call after it.
 #[derive(Drop)]
-pub(crate) struct Notes {
+pub(crate) struct GateNotes {
     refused: usize,
     count: AtomicUsize,
     notes: [AtomicU64; 16],
 }
 
-impl Notes {
+impl GateNotes {
     pub fn new(refused: usize) -> Self {
-        Notes {
+        GateNotes {
             refused,
             count: AtomicUsize::new(0),
             notes: array::from_fn(|_place: usize| AtomicU64::new(0)),
@@ -60,7 +63,7 @@ impl Notes {
         }
     }
 
-    /// The notes of the pass, or of all passes if none is named, in their order, are these.
+    /// Whether the notes of the pass, or of all passes if none is named, are these, in order.
     pub fn are(&self, pass: Option<u64>, expected: &[u64]) -> bool {
         let mut rest = expected;
         for note in &self.notes {
@@ -76,7 +79,7 @@ impl Notes {
     }
 }
 
-impl Gate for Notes {
+impl Gate for GateNotes {
     ghost always = { λ _. false };
 
     fn before(&self, pass: u32, line: usize) -> bool {
@@ -89,8 +92,8 @@ impl Gate for Notes {
     }
 }
 
-/// Holds line 1 until line 4 is answered, and line 4 until it was asked for line 1; and answers no where it held a line too
-/// long.
+/// Holds line 1 until line 4 is answered, and line 4 until the gate was asked for line 1. Answers false if it held
+/// a line too long.
 #[derive(Drop)]
 pub(crate) struct Crossed {
     asked: AtomicBool,
@@ -127,8 +130,8 @@ impl Gate for Crossed {
     }
 }
 
-/// Holds each line until the line before it is answered, so that passes on threads take turns as they do on one thread; and
-/// answers no where it held a line too long.
+/// Holds each line until the line before it is answered, so that passes on threads take turns as without threads.
+/// Answers false if it held a line too long.
 #[derive(Drop)]
 pub(crate) struct Between {
     answered: AtomicUsize,
@@ -160,24 +163,25 @@ impl Gate for Between {
     }
 }
 
-/// Holds line 1 until it is told of line 2, and the pass that tells it of line 2 until it is asked for line 3. So line 2 is
-/// taken first if the gate is told of it only once it is answered, and else last. It answers no where it held line 1 too long.
+/// Holds line 1 until the gate is told of line 2, and the pass that tells it until the gate is asked for line 3.
+/// So line 2 takes effect first if the gate is told of a line only once it is answered, and last otherwise.
+/// Answers false if it held line 1 too long.
 #[derive(Drop)]
-pub(crate) struct Told {
+pub(crate) struct GateTold {
     told: AtomicBool,
     asked: AtomicBool,
 }
 
-impl Told {
+impl GateTold {
     pub fn new() -> Self {
-        Told {
+        GateTold {
             told: AtomicBool::new(false),
             asked: AtomicBool::new(false),
         }
     }
 }
 
-impl Gate for Told {
+impl Gate for GateTold {
     ghost always = { λ _. false };
 
     fn before(&self, _pass: u32, line: usize) -> bool {
@@ -199,8 +203,8 @@ impl Gate for Told {
     }
 }
 
-/// Holds line 3 until line 1 is answered, and line 5 until it was asked for line 4 and many turns more, unless line 4 is
-/// answered before; and answers no where it held a line too long.
+/// Holds line 3 until line 1 is answered. Holds line 5 until the gate was asked for line 4, and then for many
+/// turns more unless line 4 is answered before. Answers false if it held a line too long.
 #[derive(Drop)]
 pub(crate) struct Late {
     first: AtomicBool,

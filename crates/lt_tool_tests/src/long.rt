@@ -1,4 +1,6 @@
-//! Long texts: a script of many lines, whose calls are all of one key, and the many steps of that key.
+//! Are scripts of many lines run whole, and histories of many steps checked whole?
+//! A row is a key and a count. A script repeats one line that many times, and all its calls are of that key; the
+//! history of the key has as many steps. Read next `streams`, which compares such outputs without storing them.
 use crate::streams::Expecting;
 use lt_history::Report;
 use lt_tool::{Finish, Options, check_text, run_script, upgrade_text};
@@ -7,7 +9,7 @@ use std::sync::Wait;
 use std::test::*;
 use std::thread::Threads;
 
-/// So many times the line that takes the lock of the key.
+/// A script that repeats `count` times the line that takes the lock of the key.
 fn script_of(alloc: Global, key: &str, count: usize) -> Option<Vec<u8>> {
     let line = format!(in alloc; "1 acquire 7 20.0 {key}\n").ok()?;
     let mut script = Vec::new(alloc);
@@ -17,7 +19,7 @@ fn script_of(alloc: Global, key: &str, count: usize) -> Option<Vec<u8>> {
     Some(script)
 }
 
-/// What so many such lines are answered: the lock is taken by the first, and kept by each further one.
+/// The answers to such a script: the first line takes the lock, and each further line keeps it.
 fn answers_of(alloc: Global, count: usize) -> Option<Vec<u8>> {
     let mut answers = Vec::new(alloc);
     answers.extend_from_slice(b"1 1 taken\n").ok()?;
@@ -28,7 +30,7 @@ fn answers_of(alloc: Global, count: usize) -> Option<Vec<u8>> {
     Some(answers)
 }
 
-/// The history of the key, in a text of this version.
+/// The history of the key after such a script, in a text of this version.
 fn history_of(alloc: Global, version: u8, key: &str, count: usize) -> Option<Vec<u8>> {
     let front = format!(in alloc; "locks {version}\n{key} 1 1 acquire 7 20.0 = taken\n").ok()?;
     let mut text = Vec::from_slice(alloc, front.as_bytes()).ok()?;
@@ -39,7 +41,7 @@ fn history_of(alloc: Global, version: u8, key: &str, count: usize) -> Option<Vec
     Some(text)
 }
 
-/// The script is answered line by line, and the history of its key follows, and nothing else.
+/// Whether the output is the answer of each line, followed by the history of the key and nothing else.
 fn is_run<H: Threads + Wait + Sync>(
     rt: &H,
     alloc: Global,
@@ -62,7 +64,7 @@ fn is_run<H: Threads + Wait + Sync>(
     Some(ended == Ok(Finish::Done) && writer.has_all())
 }
 
-/// The history of the key is checked, and upgraded to one of the second version.
+/// Whether the history of the key passes the check, and is upgraded to the second version.
 fn is_checked(alloc: Global, version: u8, key: &str, count: usize) -> Option<bool> {
     let text = history_of(alloc, version, key, count)?;
     let upgraded = history_of(alloc, 2, key, count)?;
@@ -82,7 +84,7 @@ fn is_checked(alloc: Global, version: u8, key: &str, count: usize) -> Option<boo
 /// A key of the greatest length.
 const LONG_KEY: &str = "kkkkkkkkkkkkkkkkkkkkkkkkkkkkkkkkkkkkkkkkkkkkkkkkkkkkkkkkkkkkkkkk";
 
-/// A script of 5,000 lines, and one of 13,120,000 bytes, whose output has more than 16,777,216 bytes.
+/// A script of 5,000 lines, and one of 13,120,000 bytes whose output has more than 16,777,216 bytes.
 #[test]
 fn a_long_script_is_answered_line_by_line(rt: HostRuntime) {
     for (key, count) in &[("a", 5_000), (LONG_KEY, 160_000)] {
@@ -90,7 +92,7 @@ fn a_long_script_is_answered_line_by_line(rt: HostRuntime) {
     }
 }
 
-/// A key of 1,000 steps and of more, in both versions.
+/// A key of 1,000, 5,000 and 160,000 steps, in both versions.
 #[test]
 fn a_key_of_many_steps_is_checked(rt: HostRuntime) {
     for (key, count) in &[("a", 1_000), ("a", 5_000), (LONG_KEY, 160_000)] {

@@ -1,8 +1,9 @@
+//! Options for the runs of the tests.
 ghost use Rattle.lt_command_line.specs.Options.{AreInRange};
 
 use lt_tool::Options;
 
-/// These options, each number brought into its range.
+/// Options with these values, each number clamped to its range.
 pub(crate) fn options(shards: usize, steps: u64, threads: bool, turns: u64) -> Options
     ensures { AreInRange result }
 {

@@ -1,9 +1,13 @@
+//! What does the run of a script write, and how does it end?
+//! Each row of `RUNS` is what the run shows, a script and its whole output; `OTHERWISE` adds options and how the
+//! run ends. Other tables have what a gate is asked and told (`NOTED`) and the prefixes of a script (`FRONTS`).
+//! Read next `gates` and `streams`; `docs/FORMATS.md` explains the texts.
 ghost use Rattle.lt_command_line.specs.Options.{AreInRange};
 
-use crate::gates::{Between, Crossed, Late, Notes, Told};
+use crate::gates::{Between, Crossed, GateNotes, GateTold, Late};
 use crate::options::options;
 use crate::streams::{FAULTS_OF_READS, FAULTS_OF_WRITES, LineEnds, Paper, Torn, blank};
-use lt_script::Fault;
+use lt_script::ScriptFault;
 use lt_tool::{Finish, Gate, Options, RunError, run_script, run_script_with};
 use std::alloc::{AllocError, Global};
 use std::io::{ErrorKind, Read};
@@ -12,7 +16,8 @@ use std::sync::Wait;
 use std::test::*;
 use std::thread::Threads;
 
-/// What each run shows, its script, and what it writes. Eight runs are the scripts of `examples/`, whose files say the same.
+/// What each run shows, its script, and its output. Eight runs are the scripts of `examples/`, whose files have
+/// the same output.
 const RUNS: [(&'static str, &'static str, &'static str); 32] = [
     ("an empty script", "", "locks 2\n"),
     (
@@ -172,7 +177,7 @@ const RUNS: [(&'static str, &'static str, &'static str); 32] = [
     ),
 ];
 
-/// What each run shows, its script and what it writes; its shards, steps, threads and turns; and how it ends.
+/// What each run shows, its script and its output; its shards, steps, threads and turns; and how it ends.
 const OTHERWISE: [(
     (&'static str, &'static str, &'static str),
     (usize, u64, bool, u64),
@@ -236,20 +241,20 @@ const TWO_KEYS: &str = "1 acquire 7 20.0 a\n2 acquire 8 20.0 b\n1 finish 7 a\n2 
 const TWO_KEYS_ANSWERED: &str =
     "1 1 taken\n1 3 freed\n2 2 taken\n2 4 freed\nlocks 2\na 1 1 acquire 7 20.0 = taken\na 2 1 finish 7 = freed\nb 1 2 acquire 8 20.0 = taken\nb 2 2 finish 8 = freed\n";
 
-/// The same without the last line.
+/// The output of `TWO_KEYS` if its last line does not run.
 const TWO_KEYS_BUT_ONE_LINE: &str =
     "1 1 taken\n1 3 freed\n2 2 taken\nlocks 2\na 1 1 acquire 7 20.0 = taken\na 2 1 finish 7 = freed\nb 1 2 acquire 8 20.0 = taken\n";
 
-type Ending = Result<Finish, RunError>;
+type RunEnding = Result<Finish, RunError>;
 
-/// One run, and a second one where the first was refused memory: then nothing was written.
+/// Runs the script, and runs it a second time if it ran out of memory and has written nothing.
 fn run_by<H: Threads + Wait + Sync, R: Read + Drop>(
     rt: &H,
     alloc: Global,
     mut readers: [R; 2],
     writer: &mut Paper,
     options: &Options,
-) -> Ending
+) -> RunEnding
     requires { AreInRange options.now }
 {
     for reader in &mut readers {
@@ -261,17 +266,17 @@ fn run_by<H: Threads + Wait + Sync, R: Read + Drop>(
     Err(RunError::Memory)
 }
 
-/// The same by the options that are the default.
+/// The same with the default options.
 fn run_of<H: Threads + Wait + Sync, R: Read + Drop>(
     rt: &H,
     alloc: Global,
     readers: [R; 2],
     writer: &mut Paper,
-) -> Ending {
+) -> RunEnding {
     run_by(rt, alloc, readers, writer, &Options::default())
 }
 
-/// Runs a script, and asks that the run ends so and that this is written.
+/// Runs the script of a row, and asserts how the run ends and what it writes.
 fn expect_output<H: Threads + Wait + Sync + Abort>(
     rt: &H,
     alloc: Global,
@@ -290,7 +295,8 @@ fn expect_output<H: Threads + Wait + Sync + Abort>(
     assert!(rt; writer.written() == output.as_bytes(), "{what}");
 }
 
-/// The answers and the histories of each script, with few shards and many, and where a writer takes three bytes at once.
+/// Each script has its answers and histories with few shards and with many, and also if the writer takes three
+/// bytes at a time.
 #[test]
 fn scripts_are_answered_and_their_steps_told(rt: HostRuntime) {
     for run in &RUNS {
@@ -301,7 +307,7 @@ fn scripts_are_answered_and_their_steps_told(rt: HostRuntime) {
     }
 }
 
-/// The same under other options.
+/// The same with other options.
 #[test]
 fn options_are_kept(rt: HostRuntime) {
     for (run, (shards, steps, threads, turns), finish) in &OTHERWISE {
@@ -310,7 +316,7 @@ fn options_are_kept(rt: HostRuntime) {
     }
 }
 
-/// A script of one line that opens a request with so many accesses of one key.
+/// A script of one line that opens a request with `count` accesses of one key.
 fn many_accesses(alloc: Global, count: usize) -> Result<Vec<u8>, AllocError> {
     let mut script = Vec::from_slice(alloc, b"1 open 1 1.0")?;
     for _ in 0..count {
@@ -319,7 +325,7 @@ fn many_accesses(alloc: Global, count: usize) -> Result<Vec<u8>, AllocError> {
     Ok(script)
 }
 
-/// A request has up to 256 accesses, also where they name fewer keys.
+/// A request has at most 256 accesses, even if they name fewer keys.
 #[test]
 fn a_request_has_up_to_256_accesses(rt: HostRuntime) {
     for (count, answer) in [
@@ -338,7 +344,7 @@ fn a_request_has_up_to_256_accesses(rt: HostRuntime) {
     }
 }
 
-/// One run of a script by this gate.
+/// Runs a script with this gate.
 fn run_gated<H: Threads + Wait + Sync, G: Gate + Sync>(
     rt: &H,
     alloc: Global,
@@ -346,13 +352,14 @@ fn run_gated<H: Threads + Wait + Sync, G: Gate + Sync>(
     threads: bool,
     gate: &G,
     writer: &mut Paper,
-) -> Ending {
+) -> RunEnding {
     let options = options(4, 1000000, threads, 1000000000);
     run_script_with(rt, alloc, &mut script.as_bytes(), writer, &options, gate)
 }
 
-/// A script by a gate that notes what it is asked and told, whether the passes have threads, the line before which the gate
-/// answers no, and how the run ends; the pass whose notes are read, or none for those of all; and the notes.
+/// A run with a gate that notes its calls: the script, whether the passes run on threads, the line before which
+/// the gate answers false (0 for none), and how the run ends; the pass whose notes are compared, or none for all
+/// passes; and the expected notes.
 type Noted = (
     &'static str,
     bool,
@@ -362,12 +369,12 @@ type Noted = (
     &'static [u64],
 );
 
-/// Two passes. The lines are numbered with those that are skipped.
+/// Two passes. Skipped lines count in the numbers of the lines.
 const LINES_OF_TWO: &str =
     "# 1\n1 acquire 7 20.0 a\n2 acquire 8 20.0 b\n\n1 finish 7 a\n2 finish 8 b\n";
 
-/// In turn the gate is asked in the order of the script; on threads in that of each pass. A line before which it answers no
-/// is the last one of its pass for which it is asked, and it is not told of it.
+/// Without threads the gate is asked in the order of the script, and with threads in the order of each pass. If it
+/// answers false before a line, it is not told of that line, and not asked for a later line of its pass.
 const NOTED: [Noted; 9] = [
     (
         LINES_OF_TWO,
@@ -436,21 +443,21 @@ const NOTED: [Noted; 9] = [
     ),
 ];
 
-/// Runs the script of the row, and asks that the gate's notes are these.
+/// Runs the script of the row, and asserts how the run ends and what the gate noted.
 fn expect_notes<H: Threads + Wait + Sync + Abort>(rt: &H, alloc: Global, row: &Noted) {
     let (script, threads, refused, finish, pass, expected) = *row;
-    let mut notes = Notes::new(refused);
+    let mut notes = GateNotes::new(refused);
     let mut writer = blank(1024, 1024);
     let mut ended = run_gated(rt, alloc, script, threads, &notes, &mut writer);
     if ended == Err(RunError::Memory) {
-        notes = Notes::new(refused);
+        notes = GateNotes::new(refused);
         ended = run_gated(rt, alloc, script, threads, &notes, &mut writer);
     }
     assert_eq!(rt; ended, Ok(finish));
     assert!(rt; notes.are(pass, expected), "{pass:?} {expected:?}");
 }
 
-/// The gate is asked with the pass and the line before each line, and told of both after it.
+/// The gate is asked before each line and told after it, each time with the pass and the line.
 #[test]
 fn a_gate_is_asked_and_told_of_each_line(rt: HostRuntime) {
     for row in &NOTED {
@@ -458,7 +465,7 @@ fn a_gate_is_asked_and_told_of_each_line(rt: HostRuntime) {
     }
 }
 
-/// A gate that answers no before a line ends that line's pass, and no other one, with threads and in turn.
+/// A gate that answers false before a line ends the pass of that line and no other, with threads and without.
 #[test]
 fn a_gate_ends_a_pass(rt: HostRuntime) {
     for threads in [true, false] {
@@ -468,7 +475,7 @@ fn a_gate_ends_a_pass(rt: HostRuntime) {
             rt.alloc(),
             TWO_KEYS,
             threads,
-            &Notes::new(4),
+            &GateNotes::new(4),
             &mut writer,
         );
         if ended == Err(RunError::Memory) {
@@ -477,7 +484,7 @@ fn a_gate_ends_a_pass(rt: HostRuntime) {
                 rt.alloc(),
                 TWO_KEYS,
                 threads,
-                &Notes::new(4),
+                &GateNotes::new(4),
                 &mut writer,
             );
         }
@@ -486,7 +493,7 @@ fn a_gate_ends_a_pass(rt: HostRuntime) {
     }
 }
 
-/// Asks that the script, by this gate and with threads, is answered so.
+/// Runs the script with this gate and on threads, and asserts that the run is done and has this output.
 fn expect_gated<H: Threads + Wait + Sync + Abort, G: Gate + Sync>(
     rt: &H,
     alloc: Global,
@@ -500,8 +507,8 @@ fn expect_gated<H: Threads + Wait + Sync + Abort, G: Gate + Sync>(
     assert!(rt; writer.written() == output.as_bytes(), "{script}");
 }
 
-/// The gate holds the first line of pass 1 until the last line of pass 2 is answered, and that one until the gate was asked
-/// for the first: so the passes work at once.
+/// The gate holds the first line of pass 1 until the last line of pass 2 is answered, and holds that one until it
+/// was asked for the first. Both are answered only if the passes work at once.
 #[test]
 fn passes_work_at_once(rt: HostRuntime) {
     expect_gated(
@@ -513,18 +520,19 @@ fn passes_work_at_once(rt: HostRuntime) {
     );
 }
 
-/// Two passes ask for one lock.
+/// Two passes acquire the same lock.
 const TWO_TAKERS: &str = "1 acquire 7 20.0 a\n2 acquire 8 20.0 a\n1 finish 7 a\n";
 
-/// What they are answered if pass 2 comes first.
+/// The output of `TWO_TAKERS` if pass 2 comes first.
 const SECOND_TAKES: &str =
     "1 1 other\n1 3 other\n2 2 taken\nlocks 2\na 1 2 acquire 8 20.0 = taken\na 2 1 acquire 7 20.0 = other\na 3 1 finish 7 = other\n";
 
-/// A gate that holds a line until another was answered has the lines take effect in its order: in the script's, as without
-/// threads, and in another one. Runs in which an `await` is answered `waiting` are left out, since on threads it polls on.
+/// If a gate holds a line until another is answered, the lines take effect in the order of the gate: here in the
+/// order of the script, as without threads, and in another order. Runs in which an `await` is answered `waiting`
+/// are left out, since on threads it keeps polling.
 #[test]
 fn passes_take_turns_by_a_gate(rt: HostRuntime) {
-    expect_gated(&rt, rt.alloc(), &Told::new(), TWO_TAKERS, SECOND_TAKES);
+    expect_gated(&rt, rt.alloc(), &GateTold::new(), TWO_TAKERS, SECOND_TAKES);
     for (_, script, output) in &RUNS {
         if !output.contains("waiting\n") {
             expect_gated(&rt, rt.alloc(), &Between::new(), script, output);
@@ -532,20 +540,21 @@ fn passes_take_turns_by_a_gate(rt: HostRuntime) {
     }
 }
 
-/// A writer waits, and the holder lets it go.
+/// A writer waits until the holder frees the lock.
 const ONE_LET: &str =
     "2 acquire 9 10.0 a\n1 open 1 10.0 a:w\n1 scan\n1 await\n2 finish 9 a\n1 leave\n";
 
 const ONE_LET_ANSWERED: &str =
     "1 2 request 1\n1 3 waiting a\n1 4 let\n1 6 done\n2 1 taken\n2 5 freed\nlocks 2\na 1 2 acquire 9 10.0 = taken\na 2 1 visit 1.1 1 10.0 w = wait\na 3 2 finish 9 = freed let 1.1\na 4 1 leave 1 = left\n";
 
-/// An `await` on threads polls on: the gate holds the line that lets the request through until long after the `await` began.
+/// On threads an `await` keeps polling. The gate holds the line that lets the request through until long after the
+/// `await` began.
 #[test]
 fn passes_poll_until_they_are_let_through(rt: HostRuntime) {
     expect_gated(&rt, rt.alloc(), &Late::new(), ONE_LET, ONE_LET_ANSWERED);
 }
 
-/// A lock that is taken, and a request for it.
+/// A lock is taken, and a request to read its key is opened.
 const TWO_LINES: &str = "1 acquire 7 20.0 a\n2 open 8 20.0 a:r\n";
 
 const ANSWERED: &str = "1 1 taken\n2 2 request 1\nlocks 2\na 1 1 acquire 7 20.0 = taken\n";
@@ -559,13 +568,13 @@ fn torn(fails_at: usize, fault: ErrorKind) -> Torn<'static> {
     }
 }
 
-/// The two lines, by a reader that does not fail.
+/// A reader of the two lines that does not fail.
 fn whole() -> Torn<'static> {
     torn(usize::MAX, ErrorKind::Other)
 }
 
-/// A script of 37 bytes is read by four reads of up to ten bytes, and a fifth that finds its end. A read that fails or is
-/// interrupted is told, though the next one would not fail.
+/// A script of 37 bytes takes four reads of up to ten bytes, and a fifth that finds its end. A read that fails or
+/// is interrupted is reported, although the next one would succeed.
 #[test]
 fn reads_that_fail(rt: HostRuntime) {
     assert_eq!(rt; TWO_LINES.len(), 37);
@@ -585,8 +594,8 @@ fn reads_that_fail(rt: HostRuntime) {
     }
 }
 
-/// A writer that fails after so many bytes holds the front of the output that long. So does one that takes no byte then, or is
-/// interrupted, though the next write would not fail.
+/// A writer that fails after `stops_at` bytes holds a prefix of the output of that length. So does a writer that
+/// then takes no bytes or is interrupted, although the next write would succeed.
 #[test]
 fn writes_that_fail(rt: HostRuntime) {
     assert_eq!(rt; ANSWERED.len(), 61);
@@ -608,7 +617,7 @@ fn writes_that_fail(rt: HostRuntime) {
     }
 }
 
-/// The longest script, whose lines are all empty, and ones that are too long.
+/// The longest script that is read, all of whose lines are empty, and scripts that are too long.
 #[test]
 fn long_scripts(rt: HostRuntime) {
     for (left, ending, written) in [
@@ -628,70 +637,70 @@ fn long_scripts(rt: HostRuntime) {
     }
 }
 
-/// A reader below the time of a lock, one at it or above it, and the lock's end.
+/// A reader below the time of a lock, a reader above it, and the finish of the lock.
 const TWO_READERS: &str =
     "1 acquire 7 20.0 a\n2 open 8 19.4294967295 a:r\n2 scan\n3 open 9 20.1 a:r\n3 scan\n1 finish 7 a\n";
 
-/// From which length and before which one the fronts of this script have this fault, or this output. The last line may lack
-/// its end.
-const FRONTS: [(usize, usize, Option<(usize, Fault)>, &str); 23] = [
+/// The prefixes of `TWO_READERS`: from which length on and before which length they have this fault, or else this
+/// output. The last line of a prefix may lack its line end.
+const FRONTS: [(usize, usize, Option<(usize, ScriptFault)>, &str); 23] = [
     (0, 1, None, "locks 2\n"),
-    (1, 9, Some((1, Fault::BadCall)), ""),
-    (9, 18, Some((1, Fault::BadWords)), ""),
+    (1, 9, Some((1, ScriptFault::BadCall)), ""),
+    (9, 18, Some((1, ScriptFault::BadWords)), ""),
     (
         18,
         20,
         None,
         "1 1 taken\nlocks 2\na 1 1 acquire 7 20.0 = taken\n",
     ),
-    (20, 25, Some((2, Fault::BadCall)), ""),
-    (25, 29, Some((2, Fault::BadWords)), ""),
-    (29, 32, Some((2, Fault::BadTime)), ""),
+    (20, 25, Some((2, ScriptFault::BadCall)), ""),
+    (25, 29, Some((2, ScriptFault::BadWords)), ""),
+    (29, 32, Some((2, ScriptFault::BadTime)), ""),
     (
         32,
         43,
         None,
         "1 1 taken\n2 2 refused NoKeys\nlocks 2\na 1 1 acquire 7 20.0 = taken\n",
     ),
-    (43, 45, Some((2, Fault::BadAccess)), ""),
+    (43, 45, Some((2, ScriptFault::BadAccess)), ""),
     (
         45,
         47,
         None,
         "1 1 taken\n2 2 request 1\nlocks 2\na 1 1 acquire 7 20.0 = taken\n",
     ),
-    (47, 52, Some((3, Fault::BadCall)), ""),
+    (47, 52, Some((3, ScriptFault::BadCall)), ""),
     (
         52,
         54,
         None,
         "1 1 taken\n2 2 request 1\n2 3 proceed\nlocks 2\na 1 1 acquire 7 20.0 = taken\na 2 2 visit 1.1 8 19.4294967295 r = pass\n",
     ),
-    (54, 59, Some((4, Fault::BadCall)), ""),
-    (59, 63, Some((4, Fault::BadWords)), ""),
-    (63, 66, Some((4, Fault::BadTime)), ""),
+    (54, 59, Some((4, ScriptFault::BadCall)), ""),
+    (59, 63, Some((4, ScriptFault::BadWords)), ""),
+    (63, 66, Some((4, ScriptFault::BadTime)), ""),
     (
         66,
         68,
         None,
         "1 1 taken\n2 2 request 1\n2 3 proceed\n3 4 refused NoKeys\nlocks 2\na 1 1 acquire 7 20.0 = taken\na 2 2 visit 1.1 8 19.4294967295 r = pass\n",
     ),
-    (68, 70, Some((4, Fault::BadAccess)), ""),
+    (68, 70, Some((4, ScriptFault::BadAccess)), ""),
     (
         70,
         72,
         None,
         "1 1 taken\n2 2 request 1\n2 3 proceed\n3 4 request 2\nlocks 2\na 1 1 acquire 7 20.0 = taken\na 2 2 visit 1.1 8 19.4294967295 r = pass\n",
     ),
-    (72, 77, Some((5, Fault::BadCall)), ""),
+    (72, 77, Some((5, ScriptFault::BadCall)), ""),
     (
         77,
         79,
         None,
         "1 1 taken\n2 2 request 1\n2 3 proceed\n3 4 request 2\n3 5 waiting a\nlocks 2\na 1 1 acquire 7 20.0 = taken\na 2 2 visit 1.1 8 19.4294967295 r = pass\na 3 3 visit 2.1 9 20.1 r = wait\n",
     ),
-    (79, 86, Some((6, Fault::BadCall)), ""),
-    (86, 90, Some((6, Fault::BadWords)), ""),
+    (79, 86, Some((6, ScriptFault::BadCall)), ""),
+    (86, 90, Some((6, ScriptFault::BadWords)), ""),
     (
         90,
         92,
@@ -700,14 +709,14 @@ const FRONTS: [(usize, usize, Option<(usize, Fault)>, &str); 23] = [
     ),
 ];
 
-fn ending_of(fault: Option<(usize, Fault)>) -> Ending {
+fn ending_of(fault: Option<(usize, ScriptFault)>) -> RunEnding {
     match fault {
         None => Ok(Finish::Done),
         Some((line, fault)) => Err(RunError::Script { line, fault }),
     }
 }
 
-/// A script that is cut inside a line has the fault of the words that are left, or none.
+/// A script cut inside a line has the fault of the words that are left of that line, or none.
 #[test]
 fn cut_scripts(rt: HostRuntime) {
     assert_eq!(rt; TWO_READERS.len(), 91);

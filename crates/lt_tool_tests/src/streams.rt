@@ -1,4 +1,6 @@
-//! Streams that give, take and fail as they are told.
+//! Which readers and writers do the tests run on?
+//! [`Torn`] and [`Paper`] read and write few bytes at a time and fail once. [`LineEnds`] and [`Expecting`] read
+//! and write long texts without storing them. Read next `scripts` and `checks`, which use them.
 ghost use Rattle.std.specs.Prelude.{◌≤◌};
 
 use std::io;
@@ -7,14 +9,15 @@ use std::io::{ErrorKind, Read, Write};
 /// How a read can fail.
 pub(crate) const FAULTS_OF_READS: [ErrorKind; 2] = [ErrorKind::Other, ErrorKind::Interrupted];
 
-/// How a write can fail. Without an error it takes no byte.
+/// How a write can fail. `None` is a write that takes no bytes and reports no error.
 pub(crate) const FAULTS_OF_WRITES: [Option<ErrorKind>; 3] = [
     Some(ErrorKind::Other),
     Some(ErrorKind::Interrupted),
     None,
 ];
 
-/// A writer that takes up to so many bytes at once. It fails once, when it holds so many bytes, and then takes bytes again.
+/// A writer that takes up to `at_once` bytes at a time. It fails once, when it holds `stops_at` bytes, and then
+/// takes bytes again.
 #[derive(Drop)]
 pub(crate) struct Paper {
     bytes: [u8; 1024],
@@ -78,7 +81,7 @@ impl Write for Paper {
     }
 }
 
-/// A writer that takes everything, and compares it with what is expected as it goes.
+/// A writer that takes everything, and compares it with the expected bytes as they come.
 #[derive(Drop)]
 pub(crate) struct Expecting<'a> {
     rest: &'a [u8],
@@ -93,7 +96,7 @@ impl<'a> Expecting<'a> {
         }
     }
 
-    /// Whether it was given just what is expected.
+    /// Whether it received exactly the expected bytes.
     pub fn has_all(&self) -> bool {
         !self.is_other && self.rest.is_empty()
     }
@@ -113,7 +116,7 @@ impl Write for Expecting<'_> {
     }
 }
 
-/// A reader that gives so many line ends.
+/// A reader that gives `left` line ends.
 #[derive(Drop)]
 pub(crate) struct LineEnds {
     pub left: usize,
@@ -128,7 +131,8 @@ impl Read for LineEnds {
     }
 }
 
-/// A reader that gives a text, ten bytes at once. It fails once, at this read, of which 0 is the first, and then goes on.
+/// A reader that gives a text, up to ten bytes at a time. It fails once, at the read with the index `fails_at`,
+/// and then continues.
 #[derive(Drop)]
 pub(crate) struct Torn<'a> {
     pub rest: &'a [u8],

@@ -1,8 +1,8 @@
-//! Worked scripts and histories, each with what its format's rules make of it, the names that stand in them, and writers and
-//! allocations that fail.
+//! Do worked scripts, histories and names have the results that the rules of their formats give, also if a writer
+//! or an allocation fails?
 //!
-//! The tests speak of `lt_ids`, `lt_script` and `lt_history`. They stand apart from these, so that none is proved a second
-//! time with its tests.
+//! The tests call `lt_ids`, `lt_script` and `lt_history`. They are kept out of those crates so that no crate is
+//! proved a second time together with its tests.
 
 mod histories;
 mod names;

@@ -1,6 +1,10 @@
+//! Which status, output and message does the program end with for each command line?
+//! Each row of `TEXTS`, `WORDS` and `ENDS_WITH_OPTIONS` is a whole run of the program: what it shows, its words
+//! and standard input, and what must come out. Further tests have the help, the jobs that words name, faulty
+//! options and every failure. Read next `scripts`, which has more scripts.
 use crate::streams::{Paper, blank};
 use lt_history::CheckError;
-use lt_script::Fault;
+use lt_script::ScriptFault;
 use lt_tool::{
     CheckTextError, Failure, Finish, Job, Options, RunError, WordsError, complain, perform,
     read_words, status,
@@ -12,8 +16,9 @@ use std::sync::Wait;
 use std::test::*;
 use std::thread::Threads;
 
-/// What it shows, the words behind the program's name, standard input, the status, standard output, and standard error.
-type Case = (
+/// What the case shows, the words after the program's name, standard input, the status, standard output, and
+/// standard error.
+type WordsCase = (
     &'static str,
     &'static [&'static str],
     &'static str,
@@ -22,7 +27,7 @@ type Case = (
     &'static str,
 );
 
-const TEXTS: [Case; 34] = [
+const TEXTS: [WordsCase; 34] = [
     (
         "a script on standard input",
         &["run"],
@@ -297,7 +302,7 @@ const TEXTS: [Case; 34] = [
     ),
 ];
 
-const WORDS: [Case; 23] = [
+const WORDS: [WordsCase; 23] = [
     (
         "a script that is not there",
         &["run", "no-such-file"],
@@ -477,8 +482,8 @@ const WORDS: [Case; 23] = [
     ),
 ];
 
-/// The same of runs with options.
-const ENDS_WITH_OPTIONS: [Case; 3] = [
+/// The same for runs with options.
+const ENDS_WITH_OPTIONS: [WordsCase; 3] = [
     (
         "turns that are used up",
         &["run", "--threads", "--turns", "10"],
@@ -505,7 +510,7 @@ const ENDS_WITH_OPTIONS: [Case; 3] = [
     ),
 ];
 
-/// The help of the program, and of its two commands, with its first eight bytes.
+/// The words that ask for help, the help of the program or of a command, and its first eight bytes.
 const HELPS: [(&[&str], &str, &str); 5] = [
     (&["--help"], HELP, "Runs scr"),
     (&["help"], HELP, "Runs scr"),
@@ -526,7 +531,8 @@ const UPGRADE_HELP: &str =
 const CHECK_HELP: &str =
     "Checks whether a text tells legal histories of keys\n\nUsage: lockrun check [FILE]\n\nArguments:\n  [FILE]  The text; standard input where none is named\n\nOptions:\n  -h, --help  Print help\n";
 
-/// What one run of the program ends with, and a second one where the first was refused memory: then nothing was written.
+/// Runs the program, and runs it a second time if it ended with status 4 and has written nothing. A failed
+/// allocation has that status.
 fn ended<H: Threads + Wait + Sync, F: Files>(
     rt: &H,
     alloc: Global,
@@ -544,12 +550,12 @@ fn ended<H: Threads + Wait + Sync, F: Files>(
     Err(Failure::Memory)
 }
 
-/// Asks that the program ends as the case says.
+/// Asserts that the program ends as the case says.
 fn expect_end<H: Threads + Wait + Sync + Abort, F: Files>(
     rt: &H,
     alloc: Global,
     files: &F,
-    case: &Case,
+    case: &WordsCase,
 ) {
     let (what, words, input, code, written, message) = *case;
     let mut output = blank(1024, 1024);
@@ -582,7 +588,8 @@ fn options_end_as_the_rules_say(rt: HostRuntime) {
     }
 }
 
-/// Help is written to standard output, and its status is 0; where it cannot be written a front of it is.
+/// Help is written to standard output, with status 0. If the output fails after eight bytes, it holds that prefix,
+/// and the status is 5.
 #[test]
 fn help_is_told(rt: HostRuntime) {
     for (words, help, front) in HELPS {
@@ -595,7 +602,7 @@ fn help_is_told(rt: HostRuntime) {
     }
 }
 
-/// The jobs that words name. `--` ends the options, so a file's name may begin with a hyphen behind it.
+/// The jobs that words name. `--` ends the options, so the name of a file after it may begin with a hyphen.
 #[test]
 fn words_are_read(rt: HostRuntime) {
     let options = Options::default();
@@ -661,7 +668,7 @@ fn is_refused(rt: &HostRuntime, words: &'static [&'static str]) -> bool {
     }
 }
 
-/// A number that is out of its range, a word that is no number, an option that is given twice, and a flag with a value are
+/// A number out of its range, a word that is no number, an option given twice, and a flag with a value are
 /// refused.
 #[test]
 fn faulty_options_are_refused(rt: HostRuntime) {
@@ -684,7 +691,7 @@ fn faulty_options_are_refused(rt: HostRuntime) {
 fn failures_are_told(rt: HostRuntime) {
     let script = RunError::Script {
         line: 18446744073709551615,
-        fault: Fault::BadAccess,
+        fault: ScriptFault::BadAccess,
     };
     let faulty = CheckTextError::Check(CheckError::Refused {
         line: 10,

@@ -1,10 +1,10 @@
--- What the numbers of draws tell.
+-- What follows from the numbers of draws.
 use Rattle.std.proofs.Common.{Option, Some, None, IfSome, ◌≡◌, ℕ, ◌+◌, ◌<◌, ◌≤◌, List, [], ◌∷◌, ◌++◌, refl, ap, sym, subst, ◌∙◌, inl, inr, ⊎_elim, arith}
 use mathlib.Core.List.{IsPrefix}
 use Rattle.lt_words.specs.declared.event.Event.{Event}
 use Rattle.lt_words.specs.declared.event.Event.TheVariants.{Opened, Draw, Step}
 use Rattle.lt_words.specs.History.{draws_of, DrawsCount, IsLegalHistory, DrewIn}
-use Rattle.lt_words.specs.Row.{GoesTo}
+use Rattle.lt_words.specs.Row.{Appends}
 use Rattle.lt_words.proofs.Histories.{draws_of-append}
 
 -- ---- one draw
@@ -41,7 +41,7 @@ rise n (Step s e ∷ past) between rest p m q k c = rise n past between rest p m
 pub numbers_rise : (shards : ℕ) (past between rest : List Event) (p m q n : ℕ) → IsLegalHistory shards (past ++ Draw p m ∷ (between ++ Draw q n ∷ rest)) → m < n
 numbers_rise shards past between rest p m q n legal = rise 0 past between rest p m q n legal.draws
 
--- after as many draws stands one draw alone
+-- two draws of one list with equally many draws before them are the same draw
 same_draw : (past past2 rest rest2 : List Event) (p q m n : ℕ) → past ++ Draw p m ∷ rest ≡ past2 ++ Draw q n ∷ rest2 → draws_of past ≡ draws_of past2 → (p ≡ q) × (past ≡ past2)
 same_draw [] [] rest rest2 p q m n e many = (cc (e), refl)
 same_draw [] (Opened a b way ∷ xs) rest rest2 p q m n e many = absurd (cc (e))
@@ -91,7 +91,7 @@ drew_more (Step s e ∷ g) more p n d = drew_more g more p n d
 pub draws_stay : (g h : List Event) (p n : ℕ) → IsPrefix g h → DrewIn g p n → DrewIn h p n
 draws_stay g h p n pre d = subst (λ (l : List Event). DrewIn l p n) pre.1 (drew_more g pre.0 p n d)
 
--- a draw that ends a history stands in it
+-- a draw at the end of a history is one of its draws
 drew_last : (g : List Event) (p n : ℕ) → DrewIn (g ++ Draw p n ∷ []) p n
 drew_last [] p n = inl (refl, refl)
 drew_last (Opened a b way ∷ g) p n = drew_last g p n
@@ -99,8 +99,8 @@ drew_last (Draw q k ∷ g) p n = inr (drew_last g p n)
 drew_last (Step s e ∷ g) p n = drew_last g p n
 
 -- what was drawn last, if anything was
-pub drew : (r : Option ℕ) (pass max : ℕ) (old new : List Event) → IfSome r (λ n. (0 < n) × (n ≤ max) × GoesTo old (λ h. draws_of h + 1 ≡ n) (Draw pass n) new) → IfSome r (λ n. DrewIn new pass n)
+pub drew : (r : Option ℕ) (pass max : ℕ) (old new : List Event) → IfSome r (λ n. (0 < n) × (n ≤ max) × Appends old (λ h. draws_of h + 1 ≡ n) (Draw pass n) new) → IfSome r (λ n. DrewIn new pass n)
 drew None pass max old new g = tt
 drew (Some n) pass max old new g =
-    let goes : GoesTo old (λ h. draws_of h + 1 ≡ n) (Draw pass n) new = g.2 in
+    let goes : Appends old (λ h. draws_of h + 1 ≡ n) (Draw pass n) new = g.2 in
     subst (λ (l : List Event). DrewIn l pass n) (sym goes.3) (drew_last goes.0 pass n)

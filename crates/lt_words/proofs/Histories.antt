@@ -1,4 +1,4 @@
--- How what a history says changes with one more event.
+-- What one more event changes in what a history says.
 use Rattle.std.proofs.Common.{◌≡◌, ℕ, ◌+◌, ◌≤◌, ◌==◌, Bool, true, false, cond, List, [], ◌∷◌, ◌++◌, length, map, refl, ap, sym, subst, ◌∙◌, inl, inr, ⊎_elim, arith, append-nil, length-append, eq-eqb}
 use Rattle.std.specs.Str.{bytes_eq}
 use mathlib.Core.List.{IsPrefix}
@@ -7,12 +7,12 @@ use Rattle.lt_plain.specs.Rules.{empty}
 use Rattle.lt_plain.specs.Step.{step, record_after}
 use Rattle.lt_entry.specs.declared.entry.Entry.{Entry}
 use Rattle.lt_entry.specs.Legal.{event_of, AreLegalKeys}
-use Rattle.lt_entry.specs.Legal.{part as key_part}
+use Rattle.lt_entry.specs.Legal.{key_part}
 use Rattle.lt_entry.proofs.SameKeys.{same_key}
 use Rattle.lt_entry.proofs.OneMore.{keys_legal_more}
 use Rattle.lt_words.specs.declared.event.Event.{Event}
 use Rattle.lt_words.specs.declared.event.Event.TheVariants.{Opened, Draw, Step}
-use Rattle.lt_words.specs.History.{shard_of, steps_of, part, draws_of, DrawsCount, StepsAtHome, IsLegalHistory, MayFollow, Among, LetIn}
+use Rattle.lt_words.specs.History.{shard_of, steps_of, part, draws_of, DrawsCount, StepsAreInTheirShards, IsLegalHistory, MayFollow, IsLetAmong, LetIn}
 use Rattle.lt_words.proofs.Prefixes.{prefix_whole}
 
 pub steps_of-append : (xs ys : List Event) → steps_of (xs ++ ys) ≡ steps_of xs ++ steps_of ys
@@ -43,8 +43,8 @@ let_more (Opened a b way ∷ xs) ys p t h = let_more xs ys p t h
 let_more (Draw q n ∷ xs) ys p t h = let_more xs ys p t h
 let_more (Step s e ∷ xs) ys p t h = ⊎_elim (λ a. inl a) (λ l. inr (let_more xs ys p t l)) h
 
--- a step lets its own through
-pub let_last : (xs : List Event) (s : ℕ) (e : Entry) (p : ℕ) (t : Wait) → Among e.lets p t → LetIn (xs ++ Step s e ∷ []) p t
+-- a step lets the tickets of its own lets through
+pub let_last : (xs : List Event) (s : ℕ) (e : Entry) (p : ℕ) (t : Wait) → IsLetAmong e.lets p t → LetIn (xs ++ Step s e ∷ []) p t
 let_last [] s e p t h = inl h
 let_last (Opened a b way ∷ xs) s e p t h = let_last xs s e p t h
 let_last (Draw q n ∷ xs) s e p t h = let_last xs s e p t h
@@ -62,7 +62,7 @@ draws_then_step n (Opened a b way ∷ h) s e c = absurd c
 draws_then_step n (Draw q m ∷ h) s e c = (c.0, draws_then_step (n + 1) h s e c.1)
 draws_then_step n (Step r f ∷ h) s e c = draws_then_step n h s e c
 
-home_more : (shards : ℕ) (xs ys : List Event) → StepsAtHome shards xs → StepsAtHome shards ys → StepsAtHome shards (xs ++ ys)
+home_more : (shards : ℕ) (xs ys : List Event) → StepsAreInTheirShards shards xs → StepsAreInTheirShards shards ys → StepsAreInTheirShards shards (xs ++ ys)
 home_more shards [] ys h k = k
 home_more shards (Opened a b way ∷ xs) ys h k = absurd h
 home_more shards (Draw p n ∷ xs) ys h k = home_more shards xs ys h k
@@ -84,8 +84,8 @@ beside shards s t k e p w true is at home h =
 beside shards s t k e p w false is at home h =
     elim (s == t) as (λ v. key_part k (cond v (e ∷ p) p) ≡ key_part k w) [ true ↦ rw is h | false ↦ h ]
 
--- a key's steps all stand in the part of its shard
-pub key_in_part : (shards s : ℕ) (k : List ℕ) (h : List Event) → s ≡ shard_of k shards → StepsAtHome shards h → key_part k (part s h) ≡ key_part k (steps_of h)
+-- all steps of a key are in the part of its shard
+pub key_in_part : (shards s : ℕ) (k : List ℕ) (h : List Event) → s ≡ shard_of k shards → StepsAreInTheirShards shards h → key_part k (part s h) ≡ key_part k (steps_of h)
 key_in_part shards s k [] at home = refl
 key_in_part shards s k (Opened a b way ∷ h) at home = absurd home
 key_in_part shards s k (Draw p n ∷ h) at home = key_in_part shards s k h at home
@@ -114,18 +114,18 @@ legal_step shards h s e legal at may = record {
   draws = draws_then_step 0 h s e legal.draws;
 }
 
--- parts of a beginning
+-- parts of a prefix
 
 pub part_prefix : (s : ℕ) (xs ys : List Event) → IsPrefix xs ys → IsPrefix (part s xs) (part s ys)
 part_prefix s xs ys p = (part s p.0, sym (part-append s xs p.0) ∙ ap (part s) p.1)
 
--- where a beginning has as many steps of a shard as the whole, it has the same
+-- a prefix with as many steps of a shard as the whole has the same steps of it
 pub part_same : (s n : ℕ) (xs ys : List Event) → IsPrefix xs ys → length (part s xs) ≡ n → length (part s ys) ≡ n → part s xs ≡ part s ys
 part_same s n xs ys p a b = prefix_whole (part s xs) (part s ys) (part_prefix s xs ys p) (omega arith)
 
 pub part_length : (s : ℕ) (xs ys : List Event) → IsPrefix xs ys → length (part s xs) ≤ length (part s ys)
 part_length s xs ys p = omega (arith, ap (λ l. length (part s l)) p.1, ap length (part-append s xs p.0), length-append (part s xs) (part s p.0))
 
--- what was let through stays so
+-- what was let through stays let through
 pub let_later : (xs ys : List Event) (p : ℕ) (t : Wait) → IsPrefix xs ys → LetIn xs p t → LetIn ys p t
 let_later xs ys p t pre h = subst (λ (l : List Event). LetIn l p t) pre.1 (let_more xs pre.0 p t h)

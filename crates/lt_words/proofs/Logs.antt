@@ -10,7 +10,7 @@ use Rattle.lt_words.specs.declared.event.Logged.TheVariants.{Happened, Shown}
 use Rattle.lt_words.specs.History.{IsLegalHistory}
 use Rattle.lt_words.specs.Shown.{AreLet}
 use Rattle.lt_words.specs.Rules.{events_of, shown_of, history_of, after_first, shards_first, passes_first, keeping_first, shards_in, passes_in, keeping_in, IsOpenLog}
-use Rattle.lt_words.specs.Row.{sight_of, SightGrows}
+use Rattle.lt_words.specs.Row.{front_state, FrontGrows}
 
 events_of-append : (xs ys : List Logged) → events_of (xs ++ ys) ≡ events_of xs ++ events_of ys
 events_of-append [] ys = refl
@@ -22,7 +22,7 @@ shown_of-append [] ys = refl
 shown_of-append (Happened e ∷ xs) ys = shown_of-append xs ys
 shown_of-append (Shown t ∷ xs) ys = ap (λ (l : List Through). t ∷ l) (shown_of-append xs ys)
 
--- a log that goes on begins with the same opening
+-- a log that was extended has the same opening
 pub events_on : (log more : List Logged) → IsOpenLog log → events_of (log ++ more) ≡ Opened (shards_in log) (passes_in log) (keeping_in log) ∷ (history_of log ++ events_of more)
 events_on log more is = events_of-append log more ∙ ap (λ (l : List Event). l ++ events_of more) is.opened
 
@@ -38,7 +38,7 @@ passes_on log more is = ap passes_first (events_on log more is)
 pub keeping_on : (log more : List Logged) → IsOpenLog log → keeping_in (log ++ more) ≡ keeping_in log
 keeping_on log more is = ap keeping_first (events_on log more is)
 
--- a log that goes on is a book's, where its history and what it has shown are
+-- an extended log is a book's log if its history is legal and each let that it has shown was let through
 pub open_on : (log more : List Logged) → IsOpenLog log → IsLegalHistory (shards_in log) (history_of log ++ events_of more) → AreLet (history_of log ++ events_of more) (shown_of log ++ shown_of more) → IsOpenLog (log ++ more)
 open_on log more is legal through =
     let history = history_on log more is in record {
@@ -47,7 +47,7 @@ open_on log more is legal through =
       let_through = subst (λ (t : List Event × List Through). AreLet t.0 t.1) (λ i. (sym history i, sym (shown_of-append log more) i)) through;
     }
 
--- ---- beginnings
+-- ---- prefixes
 
 pub history_prefix : (v w : List Logged) → IsOpenLog v → IsPrefix v w → IsPrefix (history_of v) (history_of w)
 history_prefix v w is pre = (events_of pre.0, sym (history_on v pre.0 is) ∙ ap history_of pre.1)
@@ -64,7 +64,7 @@ same_passes v w is pre = ap passes_in (sym pre.1) ∙ passes_on v pre.0 is
 same_keeping : (v w : List Logged) → IsOpenLog v → IsPrefix v w → keeping_in w ≡ keeping_in v
 same_keeping v w is pre = ap keeping_in (sym pre.1) ∙ keeping_on v pre.0 is
 
-pub sight_grows : (book book2 : Book) (v w : List Logged) → book2 ≡ book → IsOpenLog v → IsPrefix v w → SightGrows (sight_of book v) (sight_of book2 w)
+pub sight_grows : (book book2 : Book) (v w : List Logged) → book2 ≡ book → IsOpenLog v → IsPrefix v w → FrontGrows (front_state book v) (front_state book2 w)
 sight_grows book book2 v w same is pre = record {
   of = λ i. record { book = same i; shards = same_shards v w is pre i; passes = same_passes v w is pre i; keeping = same_keeping v w is pre i };
   seen = history_prefix v w is pre;

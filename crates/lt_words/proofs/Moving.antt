@@ -1,4 +1,4 @@
--- Steps on one word keep the rule, and tell what they tell.
+-- Each access of a word keeps the rule, and tells its caller what specs/Rules says.
 use Rattle.std.proofs.Common.{◌≡◌, ◌≢◌, ℕ, ◌+◌, ◌-◌, ◌<◌, ◌≤◌, ◌==◌, Bool, true, false, List, [], ◌∷◌, ◌++◌, length, set, refl, ap, sym, subst, ◌∙◌, inl, arith, append-nil, eq-eqb, ne_eqb, Option, None, MatchBool}
 use mathlib.Core.List.{IsPrefix}
 use prog.Atomic.{either}
@@ -13,7 +13,7 @@ use Rattle.lt_ids.specs.Ids.{value_of, IsNumber, IsWaitNumber}
 use Rattle.lt_ids.specs.declared.ticket.Through.{Through}
 use Rattle.lt_words.specs.History.{part, shard_of, MayFollow, LetIn, IsStatus}
 use Rattle.lt_words.specs.Shown.{word_of, IsShown}
-use Rattle.lt_words.specs.Rules.{history_of, shown_of, shards_in, passes_in, IsOpenLog, IsKept, Counts, Reads, AddsDraw, AddsStep, Meets, Shows}
+use Rattle.lt_words.specs.Rules.{history_of, shown_of, shards_in, passes_in, IsOpenLog, WordsMatchLog, DrawnGives, ReadGives, DrawGives, CommitGives, ExactGives, SignalGives}
 use Rattle.lt_words.proofs.Prefixes.{prefix_trans}
 use Rattle.lt_words.proofs.Histories.{part_same, let_later}
 use Rattle.lt_words.proofs.Showing.{word_here, status_is}
@@ -31,16 +31,16 @@ moved xs ys n = Unit {0}
 abbrev pub at_rest : List Logged → View Logged ℕ
 at_rest v = (v, (no_nib, None))
 
--- an exchange: the word was as expected, and something was added; or nothing changed
+-- an exchange: the word was as expected and the log was extended, or nothing changed
 pub exchanges : (k : ℕ) (v : List Logged) (old new : ℕ) (T : ℕ → View Logged ℕ → Type 0)
-    → ((cs : List Cell) (log : List Logged) → IsKept cs log → IsPrefix v log → k < length cs)
-    → ((cs : List Cell) (log : List Logged) → IsKept cs log → IsPrefix v log → (cell cs k).0 ≡ old → (more : List Logged) × IsKept (set cs k (new, true)) (log ++ more) × T old (at_rest (log ++ more)))
-    → ((cs : List Cell) (log : List Logged) → IsKept cs log → IsPrefix v log → (cell cs k).0 ≢ old → T (cell cs k).0 (at_rest log))
-    → Moves IsKept bare moved k (at_rest v) (λ n. either (n == old) new n) T
+    → ((cs : List Cell) (log : List Logged) → WordsMatchLog cs log → IsPrefix v log → k < length cs)
+    → ((cs : List Cell) (log : List Logged) → WordsMatchLog cs log → IsPrefix v log → (cell cs k).0 ≡ old → (more : List Logged) × WordsMatchLog (set cs k (new, true)) (log ++ more) × T old (at_rest (log ++ more)))
+    → ((cs : List Cell) (log : List Logged) → WordsMatchLog cs log → IsPrefix v log → (cell cs k).0 ≢ old → T (cell cs k).0 (at_rest log))
+    → Moves WordsMatchLog bare moved k (at_rest v) (λ n. either (n == old) new n) T
 exchanges k v old new T inside hit miss cs log kept pre away =
     let here = inside cs log kept pre in
     let found = (cell cs k).0 in
-    let F : ℕ → Type 0 = λ m. (a : Act) × (more : List Logged) × (t : Option ℕ) × Valid a no_nib × IsKept (cells_after a no_nib (set cs k (m, true))) (log ++ more) × Runs moved None t (bare log) (bare (log ++ more)) × T found (log ++ more, (nib_after a no_nib cs, t)) in
+    let F : ℕ → Type 0 = λ m. (a : Act) × (more : List Logged) × (t : Option ℕ) × Valid a no_nib × WordsMatchLog (cells_after a no_nib (set cs k (m, true))) (log ++ more) × Runs moved None t (bare log) (bare (log ++ more)) × T found (log ++ more, (nib_after a no_nib cs, t)) in
     let went : F (either (found == old) new found) =
     exchanged found old new F
     (λ e. let h = hit cs log kept pre e in (keeps, h.0, None, tt, h.1, inl (refl, refl), subst (λ (n : ℕ). T n (at_rest (log ++ h.0))) (sym e) h.2))
@@ -49,9 +49,9 @@ exchanges k v old new T inside hit miss cs log kept pre away =
 
 -- a load: nothing changes
 pub loads : (k : ℕ) (v : List Logged) (T : ℕ → View Logged ℕ → Type 0)
-    → ((cs : List Cell) (log : List Logged) → IsKept cs log → IsPrefix v log → k < length cs)
-    → ((cs : List Cell) (log : List Logged) → IsKept cs log → IsPrefix v log → T (cell cs k).0 (at_rest log))
-    → Moves IsKept bare moved k (at_rest v) (λ n. n) T
+    → ((cs : List Cell) (log : List Logged) → WordsMatchLog cs log → IsPrefix v log → k < length cs)
+    → ((cs : List Cell) (log : List Logged) → WordsMatchLog cs log → IsPrefix v log → T (cell cs k).0 (at_rest log))
+    → Moves WordsMatchLog bare moved k (at_rest v) (λ n. n) T
 loads k v T inside tells cs log kept pre away =
     let here = inside cs log kept pre in
     (here, kept.home k here, (keeps, [], None, tt, kept_same cs log k kept here, inl (refl, refl), subst (λ (l : List Logged). T (cell cs k).0 (at_rest l)) (sym (append-nil log)) (tells cs log kept pre)))
@@ -63,14 +63,14 @@ match_false : (b : Bool) (P Q : Type 0) → b ≡ false → Q → MatchBool b P 
 match_false b P Q e q = subst (λ (c : Bool). MatchBool c P Q) (sym e) q
 
 -- the number word is read
-pub count_moves : (v : List Logged) (ask : Logged) → Moves IsKept bare moved 0 (at_rest v) (λ n. n) (Counts (step 0 0 0 ask) (at_rest v))
-count_moves v ask = loads 0 v (Counts (step 0 0 0 ask) (at_rest v))
+pub count_moves : (v : List Logged) (ask : Logged) → Moves WordsMatchLog bare moved 0 (at_rest v) (λ n. n) (DrawnGives (step 0 0 0 ask) (at_rest v))
+count_moves v ask = loads 0 v (DrawnGives (step 0 0 0 ask) (at_rest v))
     (λ cs log kept pre. omega (arith, kept.many))
     (λ cs log kept pre. (kept.is_open, kept.number))
 
 -- a status word is read
-pub read_moves : (v : List Logged) (pass : ℕ) (ask : Logged) → IsOpenLog v → 0 < pass → pass ≤ passes_in v → Moves IsKept bare moved (pass + 64) (at_rest v) (λ n. n) (Reads (step (pass + 64) 0 0 ask) (at_rest v))
-read_moves v pass ask is low high = loads (pass + 64) v (Reads (step (pass + 64) 0 0 ask) (at_rest v))
+pub read_moves : (v : List Logged) (pass : ℕ) (ask : Logged) → IsOpenLog v → 0 < pass → pass ≤ passes_in v → Moves WordsMatchLog bare moved (pass + 64) (at_rest v) (λ n. n) (ReadGives (step (pass + 64) 0 0 ask) (at_rest v))
+read_moves v pass ask is low high = loads (pass + 64) v (ReadGives (step (pass + 64) 0 0 ask) (at_rest v))
     (λ cs log kept pre. omega (arith, kept.many, same_passes v log is pre))
     (λ cs log kept pre.
     let back : (pass + 64) - 64 ≡ pass = omega arith in
@@ -80,9 +80,9 @@ read_moves v pass ask is low high = loads (pass + 64) v (Reads (step (pass + 64)
 
 -- the number word goes from old to old + 1
 pub draw_moves : (v : List Logged) (pass old new : ℕ) → IsOpenLog v → new ≡ old + 1
-    → Moves IsKept bare moved 0 (at_rest v) (λ n. either (n == old) new n) (AddsDraw (step 0 old new (Happened (Draw pass new))) (at_rest v))
+    → Moves WordsMatchLog bare moved 0 (at_rest v) (λ n. either (n == old) new n) (DrawGives (step 0 old new (Happened (Draw pass new))) (at_rest v))
 draw_moves v pass old new begun is =
-    let T : ℕ → View Logged ℕ → Type 0 = AddsDraw (step 0 old new (Happened (Draw pass new))) (at_rest v) in
+    let T : ℕ → View Logged ℕ → Type 0 = DrawGives (step 0 old new (Happened (Draw pass new))) (at_rest v) in
     exchanges 0 v old new T
     (λ cs log kept pre. omega (arith, kept.many))
     (λ cs log kept pre e.
@@ -93,12 +93,12 @@ draw_moves v pass old new begun is =
     ))
     (λ cs log kept pre ne. (kept.is_open, match_false ((cell cs 0).0 == old) _ _ (ne_eqb (cell cs 0).0 old ne) (history_prefix v log begun pre)))
 
--- a step word goes from old to old + 1, where the front's part of the shard has old steps and the entry goes on from there
+-- a step word goes from old to old + 1: the front's part of the shard has old steps, and the entry may follow them
 pub step_moves : (v : List Logged) (front : List Event) (shard old new : ℕ) (entry : Entry) → IsOpenLog v → IsPrefix front (history_of v)
     → shard < 64 → length (part shard front) ≡ old → new ≡ old + 1 → shard ≡ shard_of entry.key (shards_in v) → MayFollow (part shard front) entry
-    → Moves IsKept bare moved (shard + 1) (at_rest v) (λ n. either (n == old) new n) (AddsStep (step (shard + 1) old new (Happened (Step shard entry))) (at_rest v))
+    → Moves WordsMatchLog bare moved (shard + 1) (at_rest v) (λ n. either (n == old) new n) (CommitGives (step (shard + 1) old new (Happened (Step shard entry))) (at_rest v))
 step_moves v front shard old new entry is begins small many one at may =
-    let T : ℕ → View Logged ℕ → Type 0 = AddsStep (step (shard + 1) old new (Happened (Step shard entry))) (at_rest v) in
+    let T : ℕ → View Logged ℕ → Type 0 = CommitGives (step (shard + 1) old new (Happened (Step shard entry))) (at_rest v) in
     exchanges (shard + 1) v old new T
     (λ cs log kept pre. omega (arith, kept.many))
     (λ cs log kept pre e.
@@ -113,22 +113,22 @@ step_moves v front shard old new entry is begins small many one at may =
     (λ cs log kept pre ne. (kept.is_open, match_false ((cell cs (shard + 1)).0 == old) _ _ (ne_eqb (cell cs (shard + 1)).0 old ne) (history_prefix v log is pre)))
 
 -- a step word goes from n to n
-pub meet_moves : (v : List Logged) (shard old : ℕ) (ask : Logged) → shard < 64 → Moves IsKept bare moved (shard + 1) (at_rest v) (λ n. either (n == old) old n) (Meets (step (shard + 1) old old ask) (at_rest v))
+pub meet_moves : (v : List Logged) (shard old : ℕ) (ask : Logged) → shard < 64 → Moves WordsMatchLog bare moved (shard + 1) (at_rest v) (λ n. either (n == old) old n) (ExactGives (step (shard + 1) old old ask) (at_rest v))
 meet_moves v shard old ask small =
     let back : (shard + 1) - 1 ≡ shard = omega arith in
-    exchanges (shard + 1) v old old (Meets (step (shard + 1) old old ask) (at_rest v))
+    exchanges (shard + 1) v old old (ExactGives (step (shard + 1) old old ask) (at_rest v))
     (λ cs log kept pre. omega (arith, kept.many))
     (λ cs log kept pre e.
-    let here : IsKept (set cs (shard + 1) (old, true)) (log ++ []) = subst (λ (n : ℕ). IsKept (set cs (shard + 1) (n, true)) (log ++ [])) e (kept_same cs log (shard + 1) kept (omega (arith, kept.many))) in
+    let here : WordsMatchLog (set cs (shard + 1) (old, true)) (log ++ []) = subst (λ (n : ℕ). WordsMatchLog (set cs (shard + 1) (n, true)) (log ++ [])) e (kept_same cs log (shard + 1) kept (omega (arith, kept.many))) in
     let counted : length (part ((shard + 1) - 1) (history_of (log ++ []))) ≡ old = ap (λ s. length (part s (history_of (log ++ [])))) back ∙ (ap (λ l. length (part shard (history_of l))) (append-nil log) ∙ (sym (kept.steps shard small) ∙ e)) in
     ([], here, (here.is_open, match_true (old == old) _ _ (eq-eqb old old refl) counted)))
     (λ cs log kept pre ne. (kept.is_open, match_false ((cell cs (shard + 1)).0 == old) _ _ (ne_eqb (cell cs (shard + 1)).0 old ne) tt))
 
--- a status word goes to a ticket that was let through, which is above it
+-- a status word goes up to a ticket that was let through
 pub signal_moves : (v : List Logged) (old new : ℕ) (t : Through) → IsOpenLog v → 0 < t.pass → t.pass ≤ passes_in v → old < new → IsNumber t.ticket.number → IsWaitNumber t.ticket.wait → new ≡ value_of t.ticket → LetIn (history_of v) t.pass t.ticket
-    → Moves IsKept bare moved (t.pass + 64) (at_rest v) (λ n. either (n == old) new n) (Shows (step (t.pass + 64) old new (Shown t)) (at_rest v))
+    → Moves WordsMatchLog bare moved (t.pass + 64) (at_rest v) (λ n. either (n == old) new n) (SignalGives (step (t.pass + 64) old new (Shown t)) (at_rest v))
 signal_moves v old new t is low high below number wait value let_in =
-    let T : ℕ → View Logged ℕ → Type 0 = Shows (step (t.pass + 64) old new (Shown t)) (at_rest v) in
+    let T : ℕ → View Logged ℕ → Type 0 = SignalGives (step (t.pass + 64) old new (Shown t)) (at_rest v) in
     exchanges (t.pass + 64) v old new T
     (λ cs log kept pre. omega (arith, kept.many, same_passes v log is pre))
     (λ cs log kept pre e.

@@ -1,4 +1,4 @@
--- A pass goes on to fit what it has seen.
+-- A pass still fits what it has seen when its seen prefix grows.
 use Rattle.std.proofs.Common.{◌≡◌, ℕ, ◌+◌, ◌<◌, List, [], ◌∷◌, ◌++◌, length, set, get_or, refl, ap, sym, subst, ◌∙◌, arith, append-nil, length-append, length-set, get_or-set_same, get_or-set_other}
 use mathlib.Core.Logic.{dite}
 use native.Mathlib.Decide.{ℕ_discrete}
@@ -7,19 +7,19 @@ use Rattle.lt_entry.specs.declared.entry.Entry.{Entry}
 use Rattle.lt_words.specs.declared.event.Event.{Event}
 use Rattle.lt_words.specs.declared.event.Event.TheVariants.{Step}
 use Rattle.lt_words.specs.History.{part}
-use Rattle.lt_words.specs.Row.{Opening, Sight, SightGrows, IsPass, SeesMore, GoesTo, seer}
+use Rattle.lt_words.specs.Row.{Opening, FrontState, FrontGrows, IsPass, SeesMore, Appends, pass_state}
 use Rattle.lt_words.proofs.Prefixes.{prefix_trans, prefix_more}
 use Rattle.lt_words.proofs.Histories.{part_length, part_same}
 use Rattle.lt_words.proofs.Cells.{part_snoc}
 
--- a sight that grew twice grew
-pub grows_on : (old mid new : Sight) → SightGrows old mid → SightGrows mid new → SightGrows old new
+-- a seen prefix that grew twice grew
+pub grows_on : (old mid new : FrontState) → FrontGrows old mid → FrontGrows mid new → FrontGrows old new
 grows_on old mid new a b = record { of = b.of ∙ a.of; seen = prefix_trans old.seen mid.seen new.seen a.seen b.seen; shown = prefix_trans old.shown mid.shown new.shown a.shown b.shown }
 
-pub grows_self : (s : Sight) → SightGrows s s
+pub grows_self : (s : FrontState) → FrontGrows s s
 grows_self s = record { of = refl; seen = ([], append-nil s.seen); shown = ([], append-nil s.shown) }
 
-pub sight_on : (n : ℕ) (old new : Sight) (counts : List ℕ) → IsPass (seer n old counts) → SightGrows old new → IsPass (seer n new counts)
+pub sight_on : (n : ℕ) (old new : FrontState) (counts : List ℕ) → IsPass (pass_state n old counts) → FrontGrows old new → IsPass (pass_state n new counts)
 sight_on n old new counts p more = record {
   low = p.low;
   high = omega (arith, p.high, ap (λ (o : Opening). o.passes) more.of);
@@ -28,17 +28,17 @@ sight_on n old new counts p more = record {
   within = λ s. omega (arith, p.within s, part_length s old.seen new.seen more.seen);
 }
 
--- what a pass has seen, when its sight grew
-pub sees_on : (n : ℕ) (old new : Sight) (counts : List ℕ) → SightGrows old new → SeesMore (seer n old counts) (seer n new counts)
+-- what a pass has seen, after its seen prefix grew
+pub sees_on : (n : ℕ) (old new : FrontState) (counts : List ℕ) → FrontGrows old new → SeesMore (pass_state n old counts) (pass_state n new counts)
 sees_on n old new counts more = record { of = more.of; number = refl; counts = refl; seen = more.seen; shown = more.shown }
 
--- what goes on from a history begins with it
-pub goes_on : (old : List Event) (P : List Event → Type 0) (e : Event) (new : List Event) → GoesTo old P e new → IsPrefix old new
+-- the old history is a prefix of the new one
+pub goes_on : (old : List Event) (P : List Event → Type 0) (e : Event) (new : List Event) → Appends old P e new → IsPrefix old new
 goes_on old P e new g = subst (λ (l : List Event). IsPrefix old l) (sym g.3) (prefix_trans old g.0 (g.0 ++ e ∷ []) g.1 (prefix_more g.0 (e ∷ [])))
 
--- one more step at its shard
-pub sight_steps : (n : ℕ) (old new : Sight) (counts : List ℕ) (s c : ℕ) (e : Entry) (P : List Event → Type 0) → IsPass (seer n old counts) → SightGrows old new → s < old.of.shards → c ≡ get_or counts s 0
-    → GoesTo old.seen P (Step s e) new.seen → IsPass (seer n new (set counts s (c + 1)))
+-- one more step of the pass at a shard
+pub sight_steps : (n : ℕ) (old new : FrontState) (counts : List ℕ) (s c : ℕ) (e : Entry) (P : List Event → Type 0) → IsPass (pass_state n old counts) → FrontGrows old new → s < old.of.shards → c ≡ get_or counts s 0
+    → Appends old.seen P (Step s e) new.seen → IsPass (pass_state n new (set counts s (c + 1)))
 sight_steps n old new counts s c e P p more small is g =
     let h = g.0 in
     let inside : s < length counts = omega (arith, p.many, small) in record {
@@ -54,9 +54,9 @@ sight_steps n old new counts s c e P p more small is g =
           (λ ne. omega (arith, get_or-set_other counts s t (c + 1) 0 ne, p.within t, part_length t old.seen new.seen more.seen));
     }
 
--- a step after a history in which the shard has just the front's steps
+-- a step after a history in which the shard has exactly the front's steps
 pub committed : (old mid front new : List Event) (s count : ℕ) (e : Entry) → IsPrefix old mid → IsPrefix front mid → length (part s front) ≡ count
-    → GoesTo mid (λ h. length (part s h) ≡ count) (Step s e) new
+    → Appends mid (λ h. length (part s h) ≡ count) (Step s e) new
     → (h : List Event) × IsPrefix old h × IsPrefix front h × (part s h ≡ part s front) × (new ≡ h ++ Step s e ∷ [])
 committed old mid front new s count e a b many g =
     let ahead = prefix_trans front mid g.0 b g.1 in

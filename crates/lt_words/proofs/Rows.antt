@@ -5,14 +5,14 @@ use Rattle.logbook.specs.Pages.{Cell, cell}
 use Rattle.lt_words.specs.declared.event.Event.TheVariants.{Opened}
 use Rattle.lt_words.specs.declared.event.Logged.TheVariants.{Happened}
 use Rattle.lt_words.specs.declared.keeping.Keeping.{Keeping}
-use Rattle.lt_words.specs.Rules.{IsKept}
+use Rattle.lt_words.specs.Rules.{WordsMatchLog}
 
 zero_cells : (n k : ℕ) → (cell (replicate n (0, true)) k).0 ≡ 0
 zero_cells zero k = refl
 zero_cells (suc n) zero = refl
 zero_cells (suc n) (suc k) = zero_cells n k
 
-pub opens : (shards passes : ℕ) (keeping : Keeping) (many : ℕ) → many ≡ passes + 65 → IsKept (replicate many (0, true)) (Happened (Opened shards passes keeping) ∷ [])
+pub opens : (shards passes : ℕ) (keeping : Keeping) (many : ℕ) → many ≡ passes + 65 → WordsMatchLog (replicate many (0, true)) (Happened (Opened shards passes keeping) ∷ [])
 opens shards passes keeping many e = let zero_word : Cell = (0, true) in let off : Cell = (0, false) in record {
   is_open = record { opened = refl; legal = record { keys = λ k. tt; home = tt; draws = tt }; let_through = tt };
   many = length-replicate many zero_word ∙ e;

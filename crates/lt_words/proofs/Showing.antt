@@ -1,4 +1,4 @@
--- What was shown, and the status words that it makes.
+-- The lets that were shown, and the status words that follow from them.
 use Rattle.std.proofs.Common.{◌≡◌, ◌≢◌, ℕ, ◌<◌, ◌≤◌, ◌==◌, max, Bool, true, false, List, [], ◌∷◌, ◌++◌, refl, sym, subst, inl, inr, ⊎_elim, arith, eq-eqb, ne_eqb, cond}
 use mathlib.Core.List.{IsPrefix}
 use Rattle.std.proofs.lemmas.Bool.{eqb-true, cases_lt}
@@ -25,7 +25,7 @@ pub all_shown_later : (lets xs ys : List Through) → IsPrefix xs ys → AreShow
 all_shown_later [] xs ys pre all = tt
 all_shown_later (t ∷ lets) xs ys pre all = (shown_later t.pass t.ticket xs ys pre all.0, all_shown_later lets xs ys pre all.1)
 
--- ---- one more
+-- ---- one more let is shown
 
 pub word_snoc : (p : ℕ) (xs : List Through) (t : Through) → word_of p (xs ++ t ∷ []) ≡ max (word_of p xs) (value_for p t)
 word_snoc p [] t = omega arith
@@ -37,7 +37,7 @@ value_here p t e = rw (eq-eqb p t.pass e) refl
 value_else : (p : ℕ) (t : Through) → p ≢ t.pass → value_for p t ≡ 0
 value_else p t ne = rw (ne_eqb p t.pass ne) refl
 
--- above all that was shown to its pass, it is the word
+-- a ticket above everything that was shown to its pass becomes the pass's word
 pub word_here : (p : ℕ) (xs : List Through) (t : Through) → p ≡ t.pass → word_of p xs < value_of t.ticket → word_of p (xs ++ t ∷ []) ≡ value_of t.ticket
 word_here p xs t e below = let at = word_snoc p xs t in let here = value_here p t e in omega (arith, at, here, below)
 
@@ -64,7 +64,7 @@ status_one h p t rest true is n w l s = ⊎_elim
     (cases_lt rest (value_of t.ticket))
 status_one h p t rest false is n w l s = subst (IsStatus h p) (omega arith) s
 
--- a status word is 0, or a ticket of its pass that was let through
+-- a status word is 0 or a ticket of its pass that was let through
 pub status_is : (h : List Event) (p : ℕ) (ts : List Through) → AreLet h ts → IsStatus h p (word_of p ts)
 status_is h p [] all = inl refl
 status_is h p (t ∷ ts) all = status_one h p t (word_of p ts) (p == t.pass) refl all.0.0 all.0.1 all.0.2 (status_is h p ts all.1)

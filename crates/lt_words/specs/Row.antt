@@ -1,4 +1,4 @@
--- The row of words of a book, what a pass and a front carry, and what a step tells its pass.
+-- The row of words of a book, what a pass and a front carry, and what a step tells the pass that made it.
 use Rattle.std.specs.Prelude.{ℕ, ◌≡◌, ◌+◌, ◌<◌, ◌≤◌, List, [], ◌∷◌, ◌++◌, length, slice_index, slice_index_or, replicate, zero, suc, ◌≢◌, Some, slice_get}
 use mathlib.Core.List.{IsPrefix}
 use Rattle.logbook.specs.Pages.{Book}
@@ -6,7 +6,7 @@ use Rattle.lt_ids.specs.declared.ticket.Through.{Through}
 use Rattle.lt_words.specs.declared.event.Event.{Event}
 use Rattle.lt_words.specs.declared.event.Logged.{Logged}
 use Rattle.lt_words.specs.declared.keeping.Keeping.{Keeping}
-use Rattle.lt_words.specs.declared.line.Line.{Line}
+use Rattle.lt_words.specs.declared.cache_line.CacheLine.{CacheLine}
 use Rattle.lt_words.specs.History.{part}
 use Rattle.lt_words.specs.Shown.{AreShown}
 use Rattle.lt_words.specs.Rules.{word_at, shards_in, passes_in, keeping_in, history_of, shown_of}
@@ -14,11 +14,11 @@ use Rattle.lt_entry.specs.declared.entry.Entry.{Entry}
 use Rattle.lt_plain.specs.declared.call.Call.{Call}
 use Rattle.lt_plain.specs.declared.call.Reply.{Reply}
 
--- the entry of these parts
+-- the entry with these parts
 abbrev pub made : List ℕ → ℕ → Call → Reply → List Through → Entry
 made key pass call reply lets = record { key = key; pass = pass; call = call; reply = reply; lets = lets }
 
--- how many shards and passes a book may have
+-- the numbers of shards and passes that a book may have
 pub record AreSizes (shards passes : ℕ) : Type 0 where
   pub some_shards : 0 < shards
   pub few_shards : shards ≤ 64
@@ -32,55 +32,56 @@ pub record Opening : Type 0 where
   pub passes : ℕ
   pub keeping : Keeping
 
--- each word is the book's, at its place: the number word, 64 step words, and a status word for each pass
-pub record IsRow (of : Opening) (lines : List Line) : Type 0 where
+-- Each word is the book's word at its index: the number word, 64 step words, and a status word for each pass.
+pub record IsWordRow (of : Opening) (lines : List CacheLine) : Type 0 where
   pub sizes : AreSizes of.shards of.passes
   pub many : length lines ≡ of.passes + 65
-  pub each : (k : ℕ) (d : Line) → k < length lines → (slice_index_or lines k d).word ≡ word_at of.book k
+  pub each : (k : ℕ) (d : CacheLine) → k < length lines → (slice_index_or lines k d).word ≡ word_at of.book k
 
 abbrev pub opening_of : Book → List Logged → Opening
 opening_of book log = record { book = book; shards = shards_in log; passes = passes_in log; keeping = keeping_in log }
 
--- what a front has seen: of which book, which beginning of its table history, and what was shown meanwhile
-pub record Sight : Type 0 where
+-- what a front has seen: its book, a prefix of the book's table history, and the lets that were shown meanwhile
+pub record FrontState : Type 0 where
   pub of : Opening
   pub seen : List Event
   pub shown : List Through
 
-abbrev pub sight_of : Book → List Logged → Sight
-sight_of book log = record { of = opening_of book log; seen = history_of log; shown = shown_of log }
+abbrev pub front_state : Book → List Logged → FrontState
+front_state book log = record { of = opening_of book log; seen = history_of log; shown = shown_of log }
 
--- what it has seen only grew
-pub record SightGrows (old new : Sight) : Type 0 where
+-- The book is the same, and the seen prefix only grew.
+pub record FrontGrows (old new : FrontState) : Type 0 where
   pub of : new.of ≡ old.of
   pub seen : IsPrefix old.seen new.seen
   pub shown : IsPrefix old.shown new.shown
 
--- what a pass carries: of which book it is, its number, what it has seen, what was shown meanwhile, and its steps at each shard
-pub record Seer : Type 0 where
+-- what a pass carries: its book, its number, its seen prefix, the lets that were shown meanwhile, and how many
+-- steps it made at each shard
+pub record PassState : Type 0 where
   pub of : Opening
   pub number : ℕ
   pub seen : List Event
   pub shown : List Through
   pub counts : List ℕ
 
-abbrev pub seer : ℕ → Sight → List ℕ → Seer
-seer number sight counts = record { of = sight.of; number = number; seen = sight.seen; shown = sight.shown; counts = counts }
+abbrev pub pass_state : ℕ → FrontState → List ℕ → PassState
+pass_state number sight counts = record { of = sight.of; number = number; seen = sight.seen; shown = sight.shown; counts = counts }
 
--- The pass is one of the book's, and no count is above that shard's steps that it has seen.
-pub record IsPass (p : Seer) : Type 0 where
+-- The pass is one of the book's. It has seen at least as many steps of each shard as it made there.
+pub record IsPass (p : PassState) : Type 0 where
   pub low : 0 < p.number
   pub high : p.number ≤ p.of.passes
   pub few : p.number ≤ 1024
   pub many : length p.counts ≡ p.of.shards
   pub within : (s : ℕ) → slice_index p.counts s ≤ length (part s p.seen)
 
--- What is seen afterwards is a history which goes on from what was seen before and of which P holds, and then e.
-abbrev pub GoesTo : List Event → (List Event → Type 0) → Event → List Event → Type 0
-GoesTo old P e new = (h : List Event) × IsPrefix old h × P h × (new ≡ h ++ e ∷ [])
+-- What is seen afterwards is a history that extends what was seen before and satisfies P, followed by e.
+abbrev pub Appends : List Event → (List Event → Type 0) → Event → List Event → Type 0
+Appends old P e new = (h : List Event) × IsPrefix old h × P h × (new ≡ h ++ e ∷ [])
 
--- nothing but what it has seen changed, which only grew
-pub record SeesMore (old new : Seer) : Type 0 where
+-- Nothing changed except the seen prefix, which only grew.
+pub record SeesMore (old new : PassState) : Type 0 where
   pub of : new.of ≡ old.of
   pub number : new.number ≡ old.number
   pub counts : new.counts ≡ old.counts
@@ -88,19 +89,19 @@ pub record SeesMore (old new : Seer) : Type 0 where
   pub shown : IsPrefix old.shown new.shown
 
 -- a pass that has seen nothing and made no step
-abbrev pub fresh : Opening → ℕ → Seer
+abbrev pub fresh : Opening → ℕ → PassState
 fresh of number = record { of = of; number = number; seen = []; shown = []; counts = replicate of.shards 0 }
 
--- the passes of a new book, from 1 on
-abbrev pub fresh_passes : Opening → ℕ → List Seer
+-- the passes of a new book, numbered from 1
+abbrev pub fresh_passes : Opening → ℕ → List PassState
 fresh_passes of zero = []
 fresh_passes of (suc n) = fresh_passes of n ++ fresh of (suc n) ∷ []
 
--- What a step tells its caller, which a table's call that makes one step can hand on as it is.
--- Between what the pass was and what it is, it made this step: the entry is the pass's own, and stands at this place of the
--- shard's part of what the pass has then seen, after all that it had seen; whom the step let through was shown it; the pass
--- counts one more step at the shard, and none at any other.
-pub record Reports (old new : Seer) (shard at : ℕ) (entry : Entry) : Type 0 where
+-- What a step tells its caller. A call of a table that makes one step can pass it on unchanged. Between the states
+-- old and new the pass made this step: the entry names the pass, and it is at this index of the shard's part of
+-- what the pass has then seen, after everything that the pass had seen before. Each of its lets was shown to the
+-- pass that waits. The pass counts one more step at this shard, and no more at any other.
+pub record Reports (old new : PassState) (shard at : ℕ) (entry : Entry) : Type 0 where
   pub own : entry.pass ≡ old.number
   pub stands : slice_get (part shard new.seen) at ≡ Some entry
   pub later : length (part shard old.seen) ≤ at

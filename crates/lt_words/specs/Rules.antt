@@ -1,4 +1,4 @@
--- The log, the rule of the row of words, and what its steps tell.
+-- The log of a book, the rule that ties the book's words to it, and what each access of a word tells its caller.
 use Rattle.std.specs.Prelude.{ℕ, ◌≡◌, ◌+◌, ◌-◌, ◌==◌, ◌<◌, ◌≤◌, true, List, [], ◌∷◌, ◌++◌, length, MatchBool}
 use mathlib.Core.List.{IsPrefix}
 use Rattle.logbook.specs.Pages.{Cell, cell, Step as Turn, View, Book, Named}
@@ -18,7 +18,7 @@ events_of [] = []
 events_of (Happened e ∷ log) = e ∷ events_of log
 events_of (Shown t ∷ log) = events_of log
 
--- what a log has shown, in order
+-- the lets that a log has shown, in order
 abbrev pub shown_of : List Logged → List Through
 shown_of [] = []
 shown_of (Happened e ∷ log) = shown_of log
@@ -32,7 +32,7 @@ after_first (e ∷ h) = h
 abbrev pub history_of : List Logged → List Event
 history_of log = after_first (events_of log)
 
--- what a log opens with
+-- what the opening of a log names
 abbrev pub shards_first : List Event → ℕ
 shards_first [] = 0
 shards_first (Opened shards passes keeping ∷ h) = shards
@@ -60,13 +60,13 @@ passes_in log = passes_first (events_of log)
 abbrev pub keeping_in : List Logged → Keeping
 keeping_in log = keeping_first (events_of log)
 
--- A log of a book: its opening, then a legal history; and what it has shown was let through.
+-- A log of a book: its opening, then a legal history; and each let that it has shown was let through.
 pub record IsOpenLog (log : List Logged) : Type 0 where
   pub opened : events_of log ≡ Opened (shards_in log) (passes_in log) (keeping_in log) ∷ history_of log
   pub legal : IsLegalHistory (shards_in log) (history_of log)
   pub let_through : AreLet (history_of log) (shown_of log)
 
--- the places of the words in the row; passes are numbered from 1
+-- the index of each word in the row; passes are numbered from 1
 abbrev pub number_word : ℕ
 number_word = 0
 
@@ -76,9 +76,9 @@ step_word shard = shard + 1
 abbrev pub status_word : ℕ → ℕ
 status_word pass = pass + 64
 
--- The rule: between any two steps the words agree with the log.
-pub record IsKept (cells : List Cell) (log : List Logged) : Type 0 where
-  -- the log is a book's: its history is legal, and what it has shown was let through
+-- The rule: between any two accesses the words agree with the log.
+pub record WordsMatchLog (cells : List Cell) (log : List Logged) : Type 0 where
+  -- the log is a book's log: its history is legal, and each let that it has shown was let through
   pub is_open : IsOpenLog log
   pub many : length cells ≡ passes_in log + 65
   pub home : (k : ℕ) → k < length cells → (cell cells k).1 ≡ true
@@ -89,19 +89,20 @@ pub record IsKept (cells : List Cell) (log : List Logged) : Type 0 where
   -- a pass's status word is the highest ticket that was shown to it
   pub status : (p : ℕ) → 0 < p → p ≤ passes_in log → (cell cells (status_word p)).0 ≡ word_of p (shown_of log)
 
--- the word of the book at this place
+-- the word of the book at this index
 abbrev pub word_at : Book → ℕ → Named
 word_at b k = record { tracked = true; key = k; book = b }
 
--- the number word was read: the draws of the history that was seen
-abbrev pub Counts : Turn Logged → View Logged ℕ → ℕ → View Logged ℕ → Type 0
-Counts s v found w = IsOpenLog w.0 × (found ≡ draws_of (history_of w.0))
+-- A load of the number word gives the number of draws in the history then seen.
+abbrev pub DrawnGives : Turn Logged → View Logged ℕ → ℕ → View Logged ℕ → Type 0
+DrawnGives s v found w = IsOpenLog w.0 × (found ≡ draws_of (history_of w.0))
 
--- a status word was read: the highest ticket that was shown to its pass, which was let through
-abbrev pub Reads : Turn Logged → View Logged ℕ → ℕ → View Logged ℕ → Type 0
-Reads s v found w = IsOpenLog w.0 × (found ≡ word_of (s.key - 64) (shown_of w.0)) × IsStatus (history_of w.0) (s.key - 64) found
+-- A load of a status word gives 0, or the highest ticket that was shown to its pass, which was let through.
+abbrev pub ReadGives : Turn Logged → View Logged ℕ → ℕ → View Logged ℕ → Type 0
+ReadGives s v found w = IsOpenLog w.0 × (found ≡ word_of (s.key - 64) (shown_of w.0)) × IsStatus (history_of w.0) (s.key - 64) found
 
--- an event was added to a history that goes on from what was seen, and in which the word was as expected; or the log was seen
+-- An exchange that found the expected word has appended its event to a history that extends what was seen before
+-- and that has the expected count. Any other exchange only sees more of the log.
 abbrev pub Adds : (List Event → ℕ) → Turn Logged → View Logged ℕ → ℕ → View Logged ℕ → Type 0
 Adds counted s v found w =
     IsOpenLog w.0
@@ -109,10 +110,10 @@ Adds counted s v found w =
     ((h : List Event) × IsPrefix (history_of v.0) h × (counted h ≡ s.old) × (history_of w.0 ≡ h ++ events_of (s.ask ∷ [])))
     (IsPrefix (history_of v.0) (history_of w.0))
 
-abbrev pub AddsDraw : Turn Logged → View Logged ℕ → ℕ → View Logged ℕ → Type 0
-AddsDraw s v found w = Adds draws_of s v found w
+abbrev pub DrawGives : Turn Logged → View Logged ℕ → ℕ → View Logged ℕ → Type 0
+DrawGives s v found w = Adds draws_of s v found w
 
--- the shard of a step that is asked for
+-- the shard of the step that an exchange asks to append
 abbrev pub shard_first : List Event → ℕ
 shard_first [] = 0
 shard_first (Opened shards passes keeping ∷ h) = 0
@@ -122,13 +123,14 @@ shard_first (Step shard entry ∷ h) = shard
 abbrev pub asked_shard : Logged → ℕ
 asked_shard ask = shard_first (events_of (ask ∷ []))
 
-abbrev pub AddsStep : Turn Logged → View Logged ℕ → ℕ → View Logged ℕ → Type 0
-AddsStep s v found w = Adds (λ h. length (part (asked_shard s.ask) h)) s v found w
+abbrev pub CommitGives : Turn Logged → View Logged ℕ → ℕ → View Logged ℕ → Type 0
+CommitGives s v found w = Adds (λ h. length (part (asked_shard s.ask) h)) s v found w
 
--- the step word was as expected, at the log that was seen; or the log was seen
-abbrev pub Meets : Turn Logged → View Logged ℕ → ℕ → View Logged ℕ → Type 0
-Meets s v found w = IsOpenLog w.0 × MatchBool (found == s.old) (length (part (s.key - 1) (history_of w.0)) ≡ s.old) (Unit {0})
+-- An exchange of a step word from n to n: if the word was as expected, the shard has exactly n steps in the log
+-- then seen.
+abbrev pub ExactGives : Turn Logged → View Logged ℕ → ℕ → View Logged ℕ → Type 0
+ExactGives s v found w = IsOpenLog w.0 × MatchBool (found == s.old) (length (part (s.key - 1) (history_of w.0)) ≡ s.old) (Unit {0})
 
--- what was asked for was shown; or the log was seen
-abbrev pub Shows : Turn Logged → View Logged ℕ → ℕ → View Logged ℕ → Type 0
-Shows s v found w = IsOpenLog w.0 × MatchBool (found == s.old) (AreShown (shown_of w.0) (shown_of (s.ask ∷ []))) (Unit {0})
+-- An exchange of a status word: if the word was as expected, the let is shown in the log then seen.
+abbrev pub SignalGives : Turn Logged → View Logged ℕ → ℕ → View Logged ℕ → Type 0
+SignalGives s v found w = IsOpenLog w.0 × MatchBool (found == s.old) (AreShown (shown_of w.0) (shown_of (s.ask ∷ []))) (Unit {0})

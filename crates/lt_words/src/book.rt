@@ -1,17 +1,23 @@
+//! Which calls does a book offer to the threads that share it? They open it, draw a number, commit a step, show a
+//! let, read a status word, and put a caller to sleep or wake it.
+//!
+//! Each call states its contract over the caller's pass and, for a step, over the shard's front. Read next
+//! `src/front.rt`, which makes the atomic accesses; `specs/Row.antt`, which says what a pass and a front carry; and
+//! `src/parking.rt`, where callers sleep.
 ghost use Rattle.std.specs.Prelude.{◌≡◌, ◌+◌, ◌<◌, ◌≤◌, ◌^◌, ◌∷◌, ◌++◌, List, [], length, slice_index, slice_set, IfSome, IfNone, IfOk};
 ghost use mathlib.Core.List.{IsPrefix};
 ghost use Rattle.lt_words.specs.declared.event.Event.{Event};
 ghost use Rattle.lt_words.specs.declared.event.Event.TheVariants.{Draw, Step};
 ghost use Rattle.lt_words.specs.History.{part, draws_of, shard_of, DrewIn, LetIn, MayFollow, IsStatus};
 ghost use Rattle.lt_words.specs.Shown.{word_of, IsShown};
-ghost use Rattle.lt_words.specs.Row.{AreSizes, GoesTo, SeesMore, fresh_passes};
+ghost use Rattle.lt_words.specs.Row.{AreSizes, Appends, SeesMore, fresh_passes};
 
+use crate::cache_line::CacheLine;
 use crate::entry_parts::EntryParts;
 use crate::event::Event;
 use crate::front::Front;
 use crate::keeping::Keeping;
-use crate::law::{Law, Opens, Sizes};
-use crate::line::Line;
+use crate::law::{BookRule, Opens, Sizes};
 use crate::pass::{Pass, abandon_all};
 use crate::waker::Waker;
 use logbook::{Seen, Start, Word};
@@ -22,27 +28,27 @@ use std::marker::Model;
 use std::sync::Wait;
 use std::time::Duration;
 
-/// The words that all threads share: the number word, 64 step words, and a status word for each pass. Contracts see
-/// which book it is, its numbers of shards and passes, and how its table keeps steps.
+/// The words that all threads of a table share: the number word, 64 step words, and a status word for each pass.
+/// Contracts see which book it is, its numbers of shards and passes, and how its table keeps steps.
 #[derive(Drop)]
 pub struct Book {
-    pub(crate) lines: Vec<Line>,
+    pub(crate) lines: Vec<CacheLine>,
     pub(crate) start: Front,
     keeping: Keeping,
 }
 
 impl Model for Book {
     ghost use Rattle.std.specs.Prelude.{◌≡◌, []};
-    ghost use Rattle.lt_words.specs.Row.{Opening, IsRow};
+    ghost use Rattle.lt_words.specs.Row.{Opening, IsWordRow};
 
     ghost Value = { Opening };
 
     ghost view = { λ b. b.start.of };
 
-    ghost invariant = { λ b. IsRow b.start.of b.lines.items × (b.start.seen ≡ []) × (b.start.shown ≡ []) × (b.keeping ≡ b.start.of.keeping) };
+    ghost invariant = { λ b. IsWordRow b.start.of b.lines.items × (b.start.seen ≡ []) × (b.start.shown ≡ []) × (b.keeping ≡ b.start.of.keeping) };
 }
 
-/// A row of words that hold 0, and an empty history.
+/// A book whose words all hold 0 and whose history is empty.
 fn open_row(
     alloc: Global,
     shards: usize,
@@ -65,7 +71,7 @@ fn open_row(
     );
     for i in 0..many {
         let mut pen = pens.take();
-        lines.push(Line::new(Word::tracked(0, &mut pen)))?;
+        lines.push(CacheLine::new(Word::tracked(0, &mut pen)))?;
     }
     Ok(Book {
         lines,
@@ -75,8 +81,9 @@ fn open_row(
 }
 
 impl Book {
-    /// Opens a book of 1 to 64 shards and 1 to 1024 passes: a row of words that hold 0, an empty history, and its
-    /// passes, which have seen nothing and made no step. It is the one call of a book that takes memory.
+    /// Opens a book of 1 to 64 shards and 1 to 1024 passes, whose table keeps every step. All words hold 0, the
+    /// history is empty, and the passes have seen nothing and made no step. Opening is the only call of a book that
+    /// allocates.
     pub fn open(
         alloc: Global,
         shards: usize,
@@ -91,7 +98,7 @@ impl Book {
         Book::open_keeping(alloc, shards, passes, Keeping::Whole)
     }
 
-    /// Opens a book whose table keeps steps in this way.
+    /// [`Book::open`] for a table that keeps its steps in the given way.
     pub fn open_keeping(
         alloc: Global,
         shards: usize,
@@ -132,14 +139,14 @@ impl Book {
         Ok(all)
     }
 
-    /// How its table keeps steps.
+    /// How the book's table keeps its steps.
     pub fn keeping(&self) -> Keeping
         ensures keeping { result ≡ self.now.keeping }
     {
         self.keeping
     }
 
-    /// A front that has seen nothing, for a shard to keep.
+    /// A front that has seen nothing yet, for a shard to keep.
     pub fn front(&self) -> Front
         ensures of { result.of ≡ self.now }
         ensures seen { result.seen ≡ [] }
@@ -148,11 +155,11 @@ impl Book {
         self.start.again()
     }
 
-    /// Draws the next number, which is 1 to `max` and nobody else's, or sees that there were `max` draws. It tries again
-    /// until its exchange succeeds.
+    /// Draws the next number for the pass. The number is 1 to `max`, and no other draw gives it. `None` means that
+    /// `max` numbers were drawn before. Retries until its exchange succeeds.
     pub fn draw<R: Wait>(&self, rt: &R, pass: &mut Pass, max: u64) -> Option<u64>
         requires { self.now ≡ pass.old.of }
-        ensures some { IfSome result (λ n. (0 < n) × (n ≤ max) × GoesTo pass.old.seen (λ h. draws_of h + 1 ≡ n) (Draw pass.old.number n) pass.new.seen) }
+        ensures some { IfSome result (λ n. (0 < n) × (n ≤ max) × Appends pass.old.seen (λ h. draws_of h + 1 ≡ n) (Draw pass.old.number n) pass.new.seen) }
         ensures drew { IfSome result (λ n. DrewIn pass.new.seen pass.old.number n) }
         ensures none { IfNone result (max ≤ draws_of pass.new.seen) }
         ensures more { SeesMore pass.old pass.new }
@@ -160,19 +167,21 @@ impl Book {
         pass.seen.draw(rt, self, pass.number, max)
     }
 
-    /// The number of draws in the history that is then seen. It waits for nobody.
+    /// The number of draws in the history that the pass has then seen. Never blocks.
     pub fn drawn(&self, pass: &mut Pass) -> u64
         requires { self.now ≡ pass.old.of }
         ensures draws { result ≡ draws_of pass.new.seen }
         ensures more { SeesMore pass.old pass.new }
     {
-        pass.seen.count(self)
+        pass.seen.drawn(self)
     }
 
-    /// Makes a step of a shard of which the front has `count` steps: the shard's word goes from `count` to
-    /// `count + 1`, and in that instant the history gains the entry. It tries again until its exchange succeeds, so it
-    /// returns only if nobody else makes a step of the shard before, and the word can count one more: it counts up to
-    /// 2^64 - 1. Afterwards pass and front have seen one history.
+    /// Appends a step to a shard's part of the history. The front has seen `count` steps of the shard. The shard's
+    /// word goes from `count` to `count + 1`, and in that instant the history gains the entry. Afterwards the pass
+    /// and the front have seen the same history.
+    ///
+    /// Retries until its exchange succeeds. So it returns only if no other thread makes a step of this shard first,
+    /// and only if the word can count one more step: it counts up to 2^64 - 1.
     pub fn commit<R: Wait>(
         &self,
         rt: &R,
@@ -197,13 +206,13 @@ impl Book {
         ensures stored { part shard front.new.seen ≡ part shard front.old.seen ++ entry.now ∷ [] }
         ensures counted { pass.new.counts ≡ slice_set pass.old.counts shard (slice_index pass.old.counts shard + 1) }
         ensures number { pass.new.number ≡ pass.old.number }
-        // There was a next number for the word.
+        // The word had room to count one more step.
         ensures room { count + 1 < 2 ^ 64 }
     {
         self.commit_parts(rt, pass, front, shard, count, &EntryParts::of(entry))
     }
 
-    /// The same by the parts of the entry.
+    /// [`Book::commit`], given the parts of the entry.
     pub fn commit_parts<R: Wait>(
         &self,
         rt: &R,
@@ -228,20 +237,20 @@ impl Book {
         ensures stored { part shard front.new.seen ≡ part shard front.old.seen ++ entry.now ∷ [] }
         ensures counted { pass.new.counts ≡ slice_set pass.old.counts shard (slice_index pass.old.counts shard + 1) }
         ensures number { pass.new.number ≡ pass.old.number }
-        // There was a next number for the word.
+        // The word had room to count one more step.
         ensures room { count + 1 < 2 ^ 64 }
     {
-        // Brings what is true of each book into the proof.
+        // Ghost read: tells the prover the book's invariant.
         let _ = &self.lines;
         pass.seen.learn(front);
-        pass.seen.step(rt, self, front, shard, count, entry);
+        pass.seen.commit(rt, self, front, shard, count, entry);
         *front = pass.seen.again();
         let counts = &mut pass.counts;
         counts[shard] += 1;
     }
 
-    /// Afterwards pass and front have seen one history, which has just `count` steps of the shard. It tries again
-    /// until its exchange succeeds, so it returns only if the shard has `count` steps at some time of the call.
+    /// Lets the pass and the front see one history that has exactly `count` steps of the shard. Retries until its
+    /// exchange succeeds. So it returns only if the shard has `count` steps at some time during the call.
     pub fn exact<R: Wait>(
         &self,
         rt: &R,
@@ -261,16 +270,18 @@ impl Book {
         ensures shown { IsPrefix front.old.shown front.new.shown }
         ensures exact { length (part shard front.new.seen) ≡ count }
     {
-        // Brings what is true of each book into the proof.
+        // Ghost read: tells the prover the book's invariant.
         let _ = &self.lines;
         pass.seen.learn(front);
-        pass.seen.meet(rt, self, shard, count);
+        pass.seen.exact(rt, self, shard, count);
         *front = pass.seen.again();
     }
 
-    /// Shows a let, which the pass has seen, to the pass that waits: afterwards that pass's status word is at or above the
-    /// ticket. Where it is already, nothing is written; else it tries again until its exchange succeeds. So the word of a
-    /// pass never falls. Where the caller of that pass sleeps, it is woken by the next [`Book::wake`] of this one.
+    /// Shows a let, which `pass` has seen, to the pass that waits. Afterwards that pass's status word is at or
+    /// above the ticket. If it already is, nothing is written; otherwise the call retries until its exchange
+    /// succeeds. So the status word of a pass never falls.
+    ///
+    /// If the caller of the waiting pass sleeps, the next [`Book::wake`] of `pass` wakes it at the latest.
     pub fn signal<R: Wait>(&self, rt: &R, pass: &mut Pass, to_pass: u32, ticket: Ticket)
         requires of { self.now ≡ pass.old.of }
         requires low { 0 < to_pass }
@@ -300,7 +311,8 @@ impl Book {
         pass.seen.signal(rt, self, to_pass, ticket);
     }
 
-    /// Notes the let, if its caller sleeps or each let is noted.
+    /// Notes the let for [`Book::wake`] if its caller sleeps or if the pass notes every let. If the pass has no
+    /// room for it, wakes the caller at once.
     fn note(&self, pass: &mut Pass, through: Through)
         ensures { pass.new ≡ pass.old }
     {
@@ -313,8 +325,8 @@ impl Book {
         }
     }
 
-    /// Wakes the callers that sleep and that the pass's latest step has let through, and tells the waker of each let that
-    /// was noted. It is to be called once no lock is held.
+    /// Wakes the sleeping callers that the pass's latest step has let through, and calls the waker for each let
+    /// that was noted. Call it once no lock is held.
     pub fn wake<W: Waker>(&self, pass: &mut Pass, waker: &W)
         ensures { pass.new ≡ pass.old }
     {
@@ -330,37 +342,38 @@ impl Book {
         pass.noted.clear();
     }
 
-    /// The caller of the pass is about to sleep: a let that is shown from now on wakes it. It is to look once more whether
-    /// it still has to wait.
+    /// Announces that the caller of the pass is about to sleep: a let that is shown from now on wakes it. The
+    /// caller then checks once more whether it still has to wait.
     pub fn prepare(&self, pass: &Pass) {
         if let Some(line) = self.lines.get(pass.number as usize + 64) {
             line.parking.prepare();
         }
     }
 
-    /// The caller of the pass does not sleep after all.
+    /// Takes the announcement back: the caller of the pass does not sleep after all.
     pub fn cancel(&self, pass: &Pass) {
         if let Some(line) = self.lines.get(pass.number as usize + 64) {
             line.parking.cancel();
         }
     }
 
-    /// The caller sleeps until a let is shown to the pass, unless one was shown since it prepared. It may wake for no reason.
+    /// Sleeps until a let is shown to the pass. Returns at once if one was shown since [`Book::prepare`]. May
+    /// return for no reason.
     pub fn sleep<R: Wait>(&self, rt: &R, pass: &Pass) {
         if let Some(line) = self.lines.get(pass.number as usize + 64) {
             line.parking.sleep(rt);
         }
     }
 
-    /// The same, and for no longer than this.
+    /// [`Book::sleep`], for at most `time`.
     pub fn sleep_for<R: Wait>(&self, rt: &R, pass: &Pass, time: Duration) {
         if let Some(line) = self.lines.get(pass.number as usize + 64) {
             line.parking.sleep_for(rt, time);
         }
     }
 
-    /// The pass's own status word: the highest ticket that was shown to it, so one of its that was let through, or 0. It
-    /// waits for nobody.
+    /// The pass's own status word: 0, or the highest ticket that was shown to the pass, which is a ticket of the
+    /// pass that was let through. Never blocks.
     pub fn read(&self, pass: &mut Pass) -> u64
         requires { self.now ≡ pass.old.of }
         ensures word { result ≡ word_of pass.old.number pass.new.shown }
@@ -368,6 +381,6 @@ impl Book {
         ensures more { SeesMore pass.old pass.new }
     {
         let number = pass.number;
-        pass.seen.status(self, number)
+        pass.seen.read(self, number)
     }
 }

@@ -4,8 +4,8 @@ use lt_plain::{Call, Reply};
 use std::marker::Model;
 use std::snapshot::Snapshot;
 
-/// The entry of a step, by its parts. In a contract it is that entry. The parts stand in the proof alone, so a step that
-/// nobody stores needs no entry in memory, and none is copied for the book.
+/// The entry of a step, by its parts. In contracts it is that entry. The parts exist in the proofs alone, so a step
+/// that is not stored needs no entry in memory, and the book copies none.
 #[derive(Drop)]
 pub struct EntryParts {
     key: Snapshot<Key>,
@@ -28,7 +28,7 @@ impl EntryParts {
     ghost use Rattle.std.specs.Prelude.{◌≡◌};
     ghost use Rattle.lt_words.specs.Row.{made};
 
-    /// The parts of the entry that the step of this pass at this key has.
+    /// The parts of the entry of this pass's step at this key.
     pub fn new(key: &Key, pass: u32, call: &Call, reply: &Reply, lets: &Vec<Through>) -> EntryParts
         ensures { result ≡ made key.now pass call.now reply.now lets.now.items }
     {

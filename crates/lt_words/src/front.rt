@@ -1,3 +1,9 @@
+//! How does a seen prefix grow? Here are all loads and exchanges of a book's words: each gives its caller a longer
+//! prefix of the log, in which the word had the value that was found.
+//!
+//! A function named `try_..` makes one exchange and says whether it succeeded; the function of the same name
+//! without `try_` retries. Read next `src/law.rt` and `specs/Rules.antt`, which say what each access tells its
+//! caller.
 ghost use Rattle.std.specs.Prelude.{◌≡◌, ◌+◌, ◌<◌, ◌≤◌, ◌^◌, ◌∷◌, ◌++◌, List, [], length, MatchBool, IfSome, IfNone, IsTrue};
 ghost use mathlib.Core.List.{IsPrefix};
 ghost use Rattle.lt_ids.specs.Ids.{Wait, value_of};
@@ -6,13 +12,14 @@ ghost use Rattle.lt_words.specs.declared.event.Event.TheVariants.{Opened, Draw, 
 ghost use Rattle.lt_words.specs.History.{part, draws_of, shard_of, IsLegalHistory, LetIn, MayFollow, IsStatus};
 ghost use Rattle.lt_words.specs.Shown.{word_of, IsShown, AreLet};
 ghost use Rattle.lt_words.specs.Rules.{IsOpenLog, history_of};
-ghost use Rattle.lt_words.specs.Row.{GoesTo, SightGrows, sight_of};
+ghost use Rattle.lt_words.specs.Row.{Appends, FrontGrows, front_state};
 
 use crate::book::Book;
 use crate::entry_parts::EntryParts;
 use crate::event::Logged;
 use crate::law::{
-    AddDraw, AddStep, Asks, Count, Drawing, Law, Meet, Nothing, Read, Signal, Stepping,
+    Asks, BookRule, CommitRule, DrawRule, Drawing, DrawnRule, ExactRule, Nothing, ReadRule,
+    SignalRule, Stepping,
 };
 use logbook::{Offer, Seen};
 use lt_ids::{Through, Ticket};
@@ -20,33 +27,34 @@ use std::marker::Model;
 use std::snapshot::Snapshot;
 use std::sync::Wait;
 
-/// A beginning of a book's log that was seen. Contracts see the book, the events, and what was shown.
+/// A prefix of a book's log that was seen. Contracts see the book, the table history in it, and the lets that were
+/// shown.
 #[derive(Drop)]
 pub struct Front {
-    seen: Seen<Logged, u64, Law>,
+    seen: Seen<Logged, u64, BookRule>,
 }
 
 impl Model for Front {
     ghost use Rattle.lt_words.specs.Rules.{IsOpenLog};
-    ghost use Rattle.lt_words.specs.Row.{Sight, sight_of};
+    ghost use Rattle.lt_words.specs.Row.{FrontState, front_state};
 
-    ghost Value = { Sight };
+    ghost Value = { FrontState };
 
-    ghost view = { λ f. sight_of f.seen.book f.seen.log };
+    ghost view = { λ f. front_state f.seen.book f.seen.log };
 
     ghost invariant = { λ f. IsOpenLog f.seen.log };
 }
 
 impl Front {
-    /// The front of a book that was just opened.
-    pub(crate) fn begins(seen: Seen<Logged, u64, Law>) -> Front
+    /// What is seen of a book that was just opened.
+    pub(crate) fn begins(seen: Seen<Logged, u64, BookRule>) -> Front
         requires { IsOpenLog seen.log }
-        ensures { result ≡ sight_of seen.book seen.log }
+        ensures { result ≡ front_state seen.book seen.log }
     {
         Front { seen }
     }
 
-    /// A copy.
+    /// A copy of the front.
     pub fn again(&self) -> Front
         ensures { result ≡ self.now }
     {
@@ -55,7 +63,8 @@ impl Front {
         }
     }
 
-    /// What was seen is legal, and what was shown was let through.
+    /// Ghost call: tells the prover that the seen history is legal, and that each let that was shown had been let
+    /// through.
     pub fn legal(&self)
         ensures legal { IsLegalHistory self.now.of.shards self.now.seen }
         ensures let_through { AreLet self.now.seen self.now.shown }
@@ -63,7 +72,7 @@ impl Front {
         let _ = &self.seen;
     }
 
-    /// Afterwards it has seen what both had.
+    /// Extends the front: afterwards it has seen what both had seen.
     pub fn learn(&mut self, other: &Front)
         requires { other.now.of ≡ self.old.of }
         ensures of { self.new.of ≡ self.old.of }
@@ -75,33 +84,33 @@ impl Front {
         self.seen.learn(&other.seen);
     }
 
-    /// The number of draws in the history that is then seen.
-    pub(crate) fn count(&mut self, book: &Book) -> u64
+    /// The number of draws in the history that the front has then seen.
+    pub(crate) fn drawn(&mut self, book: &Book) -> u64
         requires { book.now ≡ self.old.of }
-        ensures more { SightGrows self.old self.new }
+        ensures more { FrontGrows self.old self.new }
         ensures count { result ≡ draws_of self.new.seen }
     {
-        let mut offer: Offer<Logged, u64, Law, Nothing> = self
+        let mut offer: Offer<Logged, u64, BookRule, Nothing> = self
             .seen
             .plain::<Nothing, Drawing, Asks>(&Drawing { pass: 0, number: 0 });
         let word = &book.lines[0].word;
-        word.load::<Count, Nothing>(&mut self.seen, &mut offer)
+        word.load::<DrawnRule, Nothing>(&mut self.seen, &mut offer)
     }
 
-    /// Tries to draw the number after `old`.
+    /// Tries once to draw the number `old + 1`, and says whether it did.
     pub(crate) fn try_draw(&mut self, book: &Book, pass: u32, old: u64) -> bool
         requires of { book.now ≡ self.old.of }
         requires room { old + 1 < 2 ^ 64 }
-        ensures more { SightGrows self.old self.new }
-        ensures went { MatchBool result (GoesTo self.old.seen (λ h. draws_of h ≡ old) (Draw pass (old + 1)) self.new.seen) (IsPrefix self.old.seen self.new.seen) }
+        ensures more { FrontGrows self.old self.new }
+        ensures went { MatchBool result (Appends self.old.seen (λ h. draws_of h ≡ old) (Draw pass (old + 1)) self.new.seen) (IsPrefix self.old.seen self.new.seen) }
     {
         let number = old + 1;
-        let mut offer: Offer<Logged, u64, Law, Nothing> = self
+        let mut offer: Offer<Logged, u64, BookRule, Nothing> = self
             .seen
             .plain::<Nothing, Drawing, Asks>(&Drawing { pass, number });
         let mut pen = self.seen.no_pen();
         let word = &book.lines[0].word;
-        let found = word.compare_exchange::<AddDraw, Nothing>(
+        let found = word.compare_exchange::<DrawRule, Nothing>(
             old,
             number,
             &mut self.seen,
@@ -111,9 +120,9 @@ impl Front {
         found == old
     }
 
-    /// Tries to make a step, where `from` has `count` steps of the shard.
+    /// Tries once to commit a step, and says whether it did. `from` has seen `count` steps of the shard.
     #[tactic(auto, using(crate::proofs::Passes::grows_self))]
-    pub(crate) fn try_step(
+    pub(crate) fn try_commit(
         &mut self,
         book: &Book,
         from: &Front,
@@ -126,14 +135,14 @@ impl Front {
         requires count { length (part shard from.now.seen) ≡ count }
         requires home { shard ≡ shard_of entry.now.key self.old.of.shards }
         requires next { MayFollow (part shard from.now.seen) entry.now }
-        ensures more { SightGrows self.old self.new }
-        ensures went { MatchBool result (GoesTo self.old.seen (λ h. length (part shard h) ≡ count) (Step shard entry.now) self.new.seen) (IsPrefix self.old.seen self.new.seen) }
+        ensures more { FrontGrows self.old self.new }
+        ensures went { MatchBool result (Appends self.old.seen (λ h. length (part shard h) ≡ count) (Step shard entry.now) self.new.seen) (IsPrefix self.old.seen self.new.seen) }
         ensures room { IsTrue result → count + 1 < 2 ^ 64 }
     {
         let Some(next) = count.checked_add(1) else {
             return false;
         };
-        let mut offer: Offer<Logged, u64, Law, Nothing> = self
+        let mut offer: Offer<Logged, u64, BookRule, Nothing> = self
             .seen
             .plain::<Nothing, Stepping, Asks>(&Stepping {
                 shard,
@@ -141,7 +150,7 @@ impl Front {
             });
         let mut pen = self.seen.no_pen();
         let word = &book.lines[shard + 1].word;
-        let found = word.compare_exchange::<AddStep, Nothing>(
+        let found = word.compare_exchange::<CommitRule, Nothing>(
             count,
             next,
             &mut self.seen,
@@ -151,19 +160,19 @@ impl Front {
         found == count
     }
 
-    /// Tries to see the history where it has just `count` steps of the shard.
-    pub(crate) fn try_meet(&mut self, book: &Book, shard: usize, count: u64) -> bool
+    /// Tries once to see a history that has exactly `count` steps of the shard, and says whether it did.
+    pub(crate) fn try_exact(&mut self, book: &Book, shard: usize, count: u64) -> bool
         requires of { book.now ≡ self.old.of }
         requires shard { shard < 64 }
-        ensures more { SightGrows self.old self.new }
+        ensures more { FrontGrows self.old self.new }
         ensures met { MatchBool result (length (part shard self.new.seen) ≡ count) (Unit {0}) }
     {
-        let mut offer: Offer<Logged, u64, Law, Nothing> = self
+        let mut offer: Offer<Logged, u64, BookRule, Nothing> = self
             .seen
             .plain::<Nothing, Drawing, Asks>(&Drawing { pass: 0, number: 0 });
         let mut pen = self.seen.no_pen();
         let word = &book.lines[shard + 1].word;
-        let found = word.compare_exchange::<Meet, Nothing>(
+        let found = word.compare_exchange::<ExactRule, Nothing>(
             count,
             count,
             &mut self.seen,
@@ -174,39 +183,40 @@ impl Front {
     }
 
     /// The status word of a pass.
-    pub(crate) fn status(&mut self, book: &Book, pass: u32) -> u64
+    pub(crate) fn read(&mut self, book: &Book, pass: u32) -> u64
         requires of { book.now ≡ self.old.of }
         requires low { 0 < pass }
         requires high { pass ≤ self.old.of.passes }
-        ensures more { SightGrows self.old self.new }
+        ensures more { FrontGrows self.old self.new }
         ensures word { result ≡ word_of pass self.new.shown }
         ensures status { IsStatus self.new.seen pass result }
     {
-        let mut offer: Offer<Logged, u64, Law, Nothing> = self
+        let mut offer: Offer<Logged, u64, BookRule, Nothing> = self
             .seen
             .plain::<Nothing, Drawing, Asks>(&Drawing { pass: 0, number: 0 });
         let word = &book.lines[pass as usize + 64].word;
-        word.load::<Read, Nothing>(&mut self.seen, &mut offer)
+        word.load::<ReadRule, Nothing>(&mut self.seen, &mut offer)
     }
 
-    /// Tries to write a ticket that was let through into the status word of its pass, which is below it.
+    /// Tries once to raise a pass's status word from `old` to a ticket that was let through, and says whether it
+    /// did.
     pub(crate) fn try_signal(&mut self, book: &Book, pass: u32, old: u64, ticket: Ticket) -> bool
         requires of { book.now ≡ self.old.of }
         requires low { 0 < pass }
         requires high { pass ≤ self.old.of.passes }
         requires below { old < value_of ticket }
         requires through { LetIn self.old.seen pass ticket }
-        ensures more { SightGrows self.old self.new }
+        ensures more { FrontGrows self.old self.new }
         ensures shown { MatchBool result (IsShown self.new.shown pass ticket) (Unit {0}) }
     {
-        let mut offer: Offer<Logged, u64, Law, Nothing> = self
+        let mut offer: Offer<Logged, u64, BookRule, Nothing> = self
             .seen
             .plain::<Nothing, Through, Asks>(&Through { pass, ticket });
         let mut pen = self.seen.no_pen();
         let word = &book.lines[pass as usize + 64].word;
-        // Brings the ranges of a ticket's parts into the proof.
+        // Tells the prover the ranges of the ticket's parts.
         let _ = (ticket.number(), ticket.wait());
-        let found = word.compare_exchange::<Signal, Nothing>(
+        let found = word.compare_exchange::<SignalRule, Nothing>(
             old,
             ticket.value(),
             &mut self.seen,
@@ -216,16 +226,16 @@ impl Front {
         found == old
     }
 
-    /// Draws the next number, up to `max`.
+    /// Draws the next number, up to `max`. Retries until its exchange succeeds.
     #[tactic(auto, using(crate::proofs::Passes::grows_on, crate::proofs::Passes::grows_self))]
     pub(crate) fn draw<R: Wait>(&mut self, rt: &R, book: &Book, pass: u32, max: u64) -> Option<u64>
         requires of { book.now ≡ self.old.of }
-        ensures more { SightGrows self.old self.new }
-        ensures some { IfSome result (λ n. (0 < n) × (n ≤ max) × GoesTo self.old.seen (λ h. draws_of h + 1 ≡ n) (Draw pass n) self.new.seen) }
+        ensures more { FrontGrows self.old self.new }
+        ensures some { IfSome result (λ n. (0 < n) × (n ≤ max) × Appends self.old.seen (λ h. draws_of h + 1 ≡ n) (Draw pass n) self.new.seen) }
         ensures none { IfNone result (max ≤ draws_of self.new.seen) }
     {
         for _ in rt.forever() {
-            let old = self.count(book);
+            let old = self.drawn(book);
             if old >= max {
                 return None;
             }
@@ -236,9 +246,9 @@ impl Front {
         unreachable!()
     }
 
-    /// Makes a step, where `from` has `count` steps of the shard.
+    /// Commits a step. `from` has seen `count` steps of the shard. Retries until its exchange succeeds.
     #[tactic(auto, using(crate::proofs::Passes::grows_on, crate::proofs::Passes::grows_self))]
-    pub(crate) fn step<R: Wait>(
+    pub(crate) fn commit<R: Wait>(
         &mut self,
         rt: &R,
         book: &Book,
@@ -252,44 +262,45 @@ impl Front {
         requires count { length (part shard from.now.seen) ≡ count }
         requires home { shard ≡ shard_of entry.now.key self.old.of.shards }
         requires next { MayFollow (part shard from.now.seen) entry.now }
-        ensures more { SightGrows self.old self.new }
-        ensures step { GoesTo self.old.seen (λ h. length (part shard h) ≡ count) (Step shard entry.now) self.new.seen }
+        ensures more { FrontGrows self.old self.new }
+        ensures step { Appends self.old.seen (λ h. length (part shard h) ≡ count) (Step shard entry.now) self.new.seen }
         ensures room { count + 1 < 2 ^ 64 }
     {
         for _ in rt.forever() {
-            if self.try_step(book, from, shard, count, entry) {
+            if self.try_commit(book, from, shard, count, entry) {
                 break;
             }
         }
     }
 
-    /// Sees the history where it has just `count` steps of the shard.
+    /// Sees a history that has exactly `count` steps of the shard. Retries until its exchange succeeds.
     #[tactic(auto, using(crate::proofs::Passes::grows_on, crate::proofs::Passes::grows_self))]
-    pub(crate) fn meet<R: Wait>(&mut self, rt: &R, book: &Book, shard: usize, count: u64)
+    pub(crate) fn exact<R: Wait>(&mut self, rt: &R, book: &Book, shard: usize, count: u64)
         requires of { book.now ≡ self.old.of }
         requires shard { shard < 64 }
-        ensures more { SightGrows self.old self.new }
+        ensures more { FrontGrows self.old self.new }
         ensures met { length (part shard self.new.seen) ≡ count }
     {
         for _ in rt.forever() {
-            if self.try_meet(book, shard, count) {
+            if self.try_exact(book, shard, count) {
                 break;
             }
         }
     }
 
-    /// Writes a ticket that was let through into the status word of its pass, unless that is at or above it.
+    /// Raises the status word of a pass to a ticket that was let through, unless it is already at or above it.
+    /// Retries until its exchange succeeds.
     #[tactic(auto, using(crate::proofs::Passes::grows_on, crate::proofs::Passes::grows_self))]
     pub(crate) fn signal<R: Wait>(&mut self, rt: &R, book: &Book, pass: u32, ticket: Ticket)
         requires of { book.now ≡ self.old.of }
         requires low { 0 < pass }
         requires high { pass ≤ self.old.of.passes }
         requires through { LetIn self.old.seen pass ticket }
-        ensures more { SightGrows self.old self.new }
+        ensures more { FrontGrows self.old self.new }
         ensures shown { IsShown self.new.shown pass ticket }
     {
         for _ in rt.forever() {
-            let old = self.status(book, pass);
+            let old = self.read(book, pass);
             if old >= ticket.value() {
                 break;
             }

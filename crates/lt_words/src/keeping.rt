@@ -1,4 +1,4 @@
-/// How a table keeps the steps that are made of it. The one legal history is of all steps, in each way.
+/// How a table keeps its steps. In all three ways the one legal history has every step.
 #[derive(Clone, Copy, Debug, PartialEq, Eq)]
 pub enum Keeping {
     /// Each step is stored until the table is closed.

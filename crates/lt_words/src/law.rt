@@ -1,3 +1,8 @@
+//! Which rule do the words keep, and what does each access of a word tell its caller?
+//!
+//! The types here implement the traits of the kit's `logbook`, on which a book is built. The rule and the accesses
+//! name their definitions in `specs/Rules.antt`. Read next that file, and then `src/front.rt`, which makes the
+//! accesses.
 use crate::entry_parts::EntryParts;
 use crate::event::Logged;
 use crate::keeping::Keeping;
@@ -5,15 +10,15 @@ use logbook::{Gain, Opening, Plain, Play, Rule};
 use lt_ids::Through;
 use std::snapshot::Snapshot;
 
-/// The rule of every book.
-pub struct Law;
+/// The rule of every book: its words match its log.
+pub struct BookRule;
 
-impl Rule<Logged, u64> for Law {
+impl Rule<Logged, u64> for BookRule {
     ghost use Rattle.std.specs.Prelude.{[]};
     ghost use base.Fml.{ftrue};
-    ghost use Rattle.lt_words.specs.Rules.{IsKept};
+    ghost use Rattle.lt_words.specs.Rules.{WordsMatchLog};
 
-    ghost holds = { λ cells log. IsKept cells log };
+    ghost holds = { λ cells log. WordsMatchLog cells log };
 
     ghost first = { [] };
 
@@ -26,7 +31,7 @@ impl Rule<Logged, u64> for Law {
     ghost moves = { λ ask before after answer. Unit {0} };
 }
 
-/// Callers trade nothing.
+/// A caller gains nothing from an access besides what the access tells it.
 pub struct Nothing;
 
 impl Gain<Logged, u64> for Nothing {
@@ -35,7 +40,7 @@ impl Gain<Logged, u64> for Nothing {
     ghost after = { λ names about answer. ftrue };
 }
 
-/// What a book opens with.
+/// What a book's opening event names: the numbers of shards and passes, and how its table keeps steps.
 #[derive(Drop)]
 pub struct Sizes {
     pub shards: usize,
@@ -43,7 +48,7 @@ pub struct Sizes {
     pub keeping: Keeping,
 }
 
-/// How a book opens.
+/// The log with which a book opens: the opening event alone.
 pub struct Opens;
 
 impl Opening<Sizes, Logged> for Opens {
@@ -55,74 +60,74 @@ impl Opening<Sizes, Logged> for Opens {
 }
 
 /// A load of the number word.
-pub struct Count;
+pub struct DrawnRule;
 
-impl Play<Logged, u64> for Count {
-    ghost use Rattle.lt_words.specs.Rules.{Counts};
+impl Play<Logged, u64> for DrawnRule {
+    ghost use Rattle.lt_words.specs.Rules.{DrawnGives};
 
-    ghost then = { Counts };
+    ghost then = { DrawnGives };
 }
 
 /// A load of a status word.
-pub struct Read;
+pub struct ReadRule;
 
-impl Play<Logged, u64> for Read {
-    ghost use Rattle.lt_words.specs.Rules.{Reads};
+impl Play<Logged, u64> for ReadRule {
+    ghost use Rattle.lt_words.specs.Rules.{ReadGives};
 
-    ghost then = { Reads };
+    ghost then = { ReadGives };
 }
 
 /// An exchange of the number word, for a draw.
-pub struct AddDraw;
+pub struct DrawRule;
 
-impl Play<Logged, u64> for AddDraw {
-    ghost use Rattle.lt_words.specs.Rules.{AddsDraw};
+impl Play<Logged, u64> for DrawRule {
+    ghost use Rattle.lt_words.specs.Rules.{DrawGives};
 
-    ghost then = { AddsDraw };
+    ghost then = { DrawGives };
 }
 
 /// An exchange of a step word, for a step.
-pub struct AddStep;
+pub struct CommitRule;
 
-impl Play<Logged, u64> for AddStep {
-    ghost use Rattle.lt_words.specs.Rules.{AddsStep};
+impl Play<Logged, u64> for CommitRule {
+    ghost use Rattle.lt_words.specs.Rules.{CommitGives};
 
-    ghost then = { AddsStep };
+    ghost then = { CommitGives };
 }
 
-/// An exchange of a step word from n to n.
-pub struct Meet;
+/// An exchange of a step word from n to n, which changes nothing.
+pub struct ExactRule;
 
-impl Play<Logged, u64> for Meet {
-    ghost use Rattle.lt_words.specs.Rules.{Meets};
+impl Play<Logged, u64> for ExactRule {
+    ghost use Rattle.lt_words.specs.Rules.{ExactGives};
 
-    ghost then = { Meets };
+    ghost then = { ExactGives };
 }
 
-/// An exchange of a status word, for a let that is shown.
-pub struct Signal;
+/// An exchange of a status word, for a let that is being shown.
+pub struct SignalRule;
 
-impl Play<Logged, u64> for Signal {
-    ghost use Rattle.lt_words.specs.Rules.{Shows};
+impl Play<Logged, u64> for SignalRule {
+    ghost use Rattle.lt_words.specs.Rules.{SignalGives};
 
-    ghost then = { Shows };
+    ghost then = { SignalGives };
 }
 
-/// A draw, by the pass and the number.
+/// A draw: its pass and its number.
 #[derive(Drop)]
 pub struct Drawing {
     pub pass: u32,
     pub number: u64,
 }
 
-/// A step, by its shard and its entry.
+/// A step: its shard and its entry.
 #[derive(Drop)]
 pub struct Stepping {
     pub shard: usize,
     pub entry: Snapshot<EntryParts>,
 }
 
-/// What a step asks of the log.
+/// The entry that an exchange asks the log to append.
 pub struct Asks;
 
 impl Plain<Drawing, Logged, u64> for Asks {

@@ -1,29 +1,35 @@
-//! The growing history: a row of atomic words under a rule over a table history, which only grows and exists in the
-//! proofs alone.
+//! How do threads share one history that no thread ever holds? Through a book: a row of atomic words, tied by a
+//! rule to a log that only grows and exists in the proofs alone.
 //!
-//! Many threads draw numbers, make steps of keys and tell waiters that they were let through. Each such act is one
-//! atomic exchange of one word of a [`Book`]: the number word counts the draws, a shard's step word the steps of that
-//! shard, and a pass's status word has the highest ticket that was shown to it (`specs/Shown.antt`). Beside the words
-//! stands a log that no code holds: the list of all draws and steps, and of what was shown, in the order in which the
-//! exchanges happened. The rule (`IsKept` in `specs/Rules.antt`) ties the two together between any two exchanges, and
-//! says that the draws and steps are a legal table history (`specs/History.antt`), and that what was shown was let
-//! through.
+//! Many threads draw request numbers, make key steps, and tell waiting requests that they were let through. Each of
+//! these acts is one atomic exchange of one word of a [`Book`]:
 //!
-//! No thread sees the whole log. A [`Pass`], one caller's token, and a [`Front`], which a shard keeps behind its lock,
-//! carry a **seen prefix**: a beginning of the log that was reached. It only grows; what two of them have seen are
-//! beginnings of one list; so whatever was told to anyone stands in one legal history, whatever the schedule.
+//! - the number word counts the draws;
+//! - a shard's step word counts the steps of that shard;
+//! - a pass's status word has the highest ticket that was shown to the pass (`specs/Shown.antt`).
 //!
-//! `docs/ARCHITECTURE.md`, "The growing history", has a picture.
+//! The log lists all draws, all steps and all lets that were shown, in the order in which their exchanges happened.
+//! The rule (`WordsMatchLog` in `specs/Rules.antt`) holds between any two exchanges. It says that the words agree
+//! with the log, that the draws and steps are a legal table history (`specs/History.antt`), and that each let that
+//! was shown had been let through.
+//!
+//! No thread sees the whole log. A [`Pass`] (one caller's token) and a [`Front`] (which a shard keeps behind its
+//! lock) each carry a **seen prefix**: a prefix of the log that they are known to have reached. A seen prefix only
+//! grows, and any two of them are prefixes of one list. So whatever any caller was told is part of one legal
+//! history, in every schedule.
+//!
+//! Read next `src/book.rt` (the calls) and `specs/Rules.antt` (the rule). `docs/ARCHITECTURE.md`, "The growing
+//! history", has a picture.
 #![tactic(auto)]
 
 mod book;
+mod cache_line;
 mod entry_parts;
 mod event;
 mod front;
 mod keeping;
 mod law;
 pub mod laws;
-mod line;
 mod name;
 mod parking;
 mod pass;

@@ -1,6 +1,6 @@
-/// One opened book, by its numbers alone. A value behind a lock is known by its type, so a shard and a table take a
-/// parameter `N: Name`, and are made and used in a function over `N` that is called at `Brand`: since the trait has no
-/// function, what runs is the same for every name.
+/// Names one opened book, by its numbers alone. A value behind a lock is known only by its type. So a shard and a
+/// table take a parameter `N: Name`, and a function over `N`, called at `Brand`, makes and uses them. The trait has
+/// no function, so the same code runs for every name.
 pub trait Name {
     ghost use Rattle.lt_words.specs.Row.{Opening};
 

@@ -1,18 +1,20 @@
+//! Where a caller sleeps until it is let through, and why no wake-up is lost.
 use std::sync::Wait;
 use std::sync::atomic::{AtomicU64, Ordering};
 use std::time::Duration;
 
-/// Nobody sleeps.
+/// The caller is awake.
 const AWAKE: u64 = 0;
 
-/// Somebody sleeps, or is about to.
+/// The caller sleeps, or is about to.
 const ASLEEP: u64 = 1;
 
-/// Where the caller of one pass sleeps. Each call is an atomic step of one word, and none takes memory.
+/// Where the caller of one pass sleeps: one atomic word. No call allocates.
 ///
-/// The caller says that it will sleep, then looks whether it still has to wait, and then sleeps. Who ends a wait first says
-/// so and then looks whether somebody sleeps. Of the two one sees the other, so no wake is lost; a wake may come for no
-/// reason, so the caller looks again after each.
+/// The caller announces that it will sleep, checks once more whether it still has to wait, and then sleeps. A
+/// thread that ends the wait first shows the let, and then checks whether the caller has announced its sleep. One
+/// of the two sees the other, so no wake-up is lost. A wake-up may also come for no reason, so the caller checks
+/// again after each one.
 #[derive(Drop)]
 pub(crate) struct Parking {
     state: AtomicU64,
@@ -25,32 +27,32 @@ impl Parking {
         }
     }
 
-    /// The caller is about to sleep.
+    /// Announces that the caller is about to sleep.
     pub fn prepare(&self) {
         self.state.store(ASLEEP, Ordering::SeqCst);
     }
 
-    /// The caller does not sleep after all.
+    /// Takes the announcement back: the caller does not sleep after all.
     pub fn cancel(&self) {
         self.state.store(AWAKE, Ordering::SeqCst);
     }
 
-    /// Sleeps until it is woken, unless it was woken since it prepared.
+    /// Sleeps until woken. Returns at once if the caller was woken since `prepare`.
     pub fn sleep<R: Wait>(&self, rt: &R) {
         self.state.park(rt, ASLEEP as u32);
     }
 
-    /// The same, and for no longer than this.
+    /// `sleep`, for at most `time`.
     pub fn sleep_for<R: Wait>(&self, rt: &R, time: Duration) {
         self.state.park_timeout(rt, ASLEEP as u32, time);
     }
 
-    /// Whether the caller sleeps, or is about to.
+    /// Whether the caller sleeps or is about to.
     pub fn is_taken(&self) -> bool {
         self.state.load(Ordering::SeqCst) == ASLEEP
     }
 
-    /// Wakes the caller, if it sleeps.
+    /// Wakes the caller if it sleeps or is about to.
     pub fn wake(&self) {
         if self.is_taken() {
             self.state.store(AWAKE, Ordering::SeqCst);

@@ -1,3 +1,8 @@
+//! What does a caller hold? A pass: its number, its seen prefix, how many steps it made at each shard, and the lets
+//! of its latest step whose callers it has still to wake.
+//!
+//! Read next `src/book.rt`, the calls that a pass makes, and `PassState` in `specs/Row.antt`, what contracts see of
+//! a pass.
 ghost use Rattle.std.specs.Prelude.{◌≡◌, ◌+◌, ◌<◌, ◌≤◌, [], length, slice_index, IfOk};
 ghost use mathlib.Core.List.{IsPrefix};
 ghost use Rattle.lt_words.specs.History.{part, IsLegalHistory};
@@ -9,50 +14,50 @@ use lt_ids::Through;
 use std::alloc::{AllocError, Global};
 use std::marker::Model;
 
-/// A caller's token: its number, from 1, what it has seen of its book's table history, and how many steps it made at
-/// each shard. Only `Book` hands passes out, and one pass serves one caller at a time.
+/// A caller's token: its number (from 1), what it has seen of its book's table history, and how many steps it made
+/// at each shard. Only `Book` hands out passes, and one pass serves one caller at a time.
 ///
-/// A pass cannot be let go by the way: it is handed on, or given up by name ([`Pass::abandon`]).
+/// A pass is not `Drop`: its owner passes it on, or gives it up by name ([`Pass::abandon`]).
 pub struct Pass {
     pub(crate) number: u32,
     pub(crate) seen: Front,
     pub(crate) counts: Vec<u64>,
-    /// Lets of its latest step of which callers are to be told once no lock is held.
+    /// The lets of the pass's latest step that `Book::wake` announces once no lock is held.
     pub(crate) noted: Vec<Through>,
-    /// Whether each let is noted, or only those of callers that sleep.
+    /// Whether the pass notes every let, or only those of sleeping callers.
     pub(crate) notes_each: bool,
 }
 
-/// A pass has room for so many lets of callers that sleep. Callers of further ones are woken at once.
+/// How many lets of sleeping callers a pass has room for. The callers of any further lets are woken at once.
 const MOST_SLEEPERS: usize = 16;
 
 impl Model for Pass {
-    ghost use Rattle.lt_words.specs.Row.{Seer, IsPass, seer};
+    ghost use Rattle.lt_words.specs.Row.{PassState, IsPass, pass_state};
 
-    ghost Value = { Seer };
+    ghost Value = { PassState };
 
-    ghost view = { λ p. seer p.number p.seen p.counts.items };
+    ghost view = { λ p. pass_state p.number p.seen p.counts.items };
 
-    ghost invariant = { λ p. IsPass (seer p.number p.seen p.counts.items) };
+    ghost invariant = { λ p. IsPass (pass_state p.number p.seen p.counts.items) };
 }
 
 impl Pass {
-    /// The pass at a place, from 0, of a book that was just opened.
+    /// The pass at an index, from 0, of a book that was just opened. Its number is one more than the index.
     pub(crate) fn fresh(
         alloc: Global,
         start: &Front,
         shards: usize,
-        place: usize,
+        index: usize,
     ) -> Result<Pass, AllocError>
         requires start { start.now.seen ≡ [] }
         requires shown { start.now.shown ≡ [] }
         requires shards { shards ≡ start.now.of.shards }
-        requires place { place < start.now.of.passes }
+        requires index { index < start.now.of.passes }
         requires few { start.now.of.passes ≤ 1024 }
-        ensures { IfOk result (λ p. p ≡ fresh start.now.of (place + 1)) }
+        ensures { IfOk result (λ p. p ≡ fresh start.now.of (index + 1)) }
     {
         Ok(Pass {
-            number: place as u32 + 1,
+            number: index as u32 + 1,
             seen: start.again(),
             counts: vec![in alloc; 0; shards]?,
             noted: Vec::with_capacity(alloc, MOST_SLEEPERS)?,
@@ -60,19 +65,19 @@ impl Pass {
         })
     }
 
-    /// Its number: 1 up to the number of the book's passes.
+    /// The pass's number: 1 to the number of the book's passes, which is at most 1024.
     pub fn number(&self) -> u32
         ensures number { result ≡ self.now.number }
         ensures low { 0 < result }
         ensures high { result ≤ self.now.of.passes }
         ensures few { result ≤ 1024 }
-        // Its counts have a place for each shard.
+        // The pass has a count for each shard.
         ensures counts { length self.now.counts ≡ self.now.of.shards }
     {
         self.number
     }
 
-    /// How many steps it made at a shard, never more than that shard's steps that it has seen.
+    /// How many steps the pass made at a shard. It has seen at least as many steps of that shard.
     pub fn count(&self, shard: usize) -> u64
         requires { shard < self.now.of.shards }
         ensures count { result ≡ slice_index self.now.counts shard }
@@ -81,7 +86,7 @@ impl Pass {
         self.counts[shard]
     }
 
-    /// What it has seen.
+    /// What the pass has seen.
     pub fn seen(&self) -> Front
         ensures of { result.of ≡ self.now.of }
         ensures seen { result.seen ≡ self.now.seen }
@@ -90,7 +95,7 @@ impl Pass {
         self.seen.again()
     }
 
-    /// Afterwards it has seen what the front has, too.
+    /// Extends the pass's seen prefix: afterwards the pass has also seen what the front has.
     pub fn learn(&mut self, front: &Front)
         requires { front.now.of ≡ self.old.of }
         ensures more { SeesMore self.old self.new }
@@ -100,8 +105,9 @@ impl Pass {
         self.seen.learn(front);
     }
 
-    /// From now on each let of its steps is noted for a [`Waker`](crate::Waker). This takes the memory: room for so many
-    /// lets of one step. As many as there are passes are enough: a pass has one request, which stands once at a key.
+    /// From now on the pass notes each let of its steps for a [`Waker`](crate::Waker). Allocates room for `room`
+    /// lets of one step. As many as there are passes are enough: a pass has one request, which is queued at a key
+    /// at most once.
     pub fn note_each_let(&mut self, room: usize) -> Result<(), AllocError>
         ensures same { self.new ≡ self.old }
     {
@@ -110,7 +116,7 @@ impl Pass {
         Ok(())
     }
 
-    /// Notes a let. False where there is no room.
+    /// Notes a let. False if there is no room for it.
     pub(crate) fn note(&mut self, through: Through) -> bool
         ensures { self.new ≡ self.old }
     {
@@ -122,7 +128,8 @@ impl Pass {
         true
     }
 
-    /// What it has seen is legal, and what was shown was let through.
+    /// Ghost call: tells the prover that what the pass has seen is legal, and that each let that was shown had been
+    /// let through.
     pub fn legal(&self)
         ensures legal { IsLegalHistory self.now.of.shards self.now.seen }
         ensures let_through { AreLet self.now.seen self.now.shown }
@@ -130,7 +137,8 @@ impl Pass {
         self.seen.legal()
     }
 
-    /// Gives the pass up. Its number is not handed out again, and a table that waits for all its passes is never closed.
+    /// Gives the pass up. Its number is not handed out again, and a table that needs all of its passes to close can
+    /// never be closed.
     pub fn abandon(self) {
         let Pass {
             number: _,
@@ -142,7 +150,7 @@ impl Pass {
     }
 }
 
-/// Gives each of the passes up.
+/// Gives up each of the passes.
 pub fn abandon_all(mut passes: Vec<Pass>) {
     while let Some(pass) = passes.pop() {
         pass.abandon();

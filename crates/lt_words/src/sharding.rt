@@ -3,7 +3,7 @@ ghost use Rattle.lt_words.specs.History.{shard_of};
 
 use lt_ids::Key;
 
-/// The shard of a key among so many, from 0: the sum of the key's bytes modulo the number of shards.
+/// The shard of a key, from 0: the sum of the key's bytes modulo the number of shards.
 pub fn shard_of(key: &Key, shards: usize) -> usize
     requires { 0 < shards }
     ensures shard { result ≡ shard_of key.now shards }

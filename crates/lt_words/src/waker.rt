@@ -1,17 +1,17 @@
 use lt_ids::Ticket;
 
-/// Is told of each let, for callers that do not sleep: an executor or an event loop that serves many requests with few
-/// threads. Whoever opens a table hands it in; `()` tells nobody.
+/// Called for each let, for stores whose callers do not sleep: an executor or an event loop that serves many
+/// requests with few threads. The code that opens a table passes in its waker; `()` is the waker that does nothing.
 ///
-/// A caller registers its interest in a pass first, then polls, and then turns to something else. A let that comes after
-/// the poll finds it registered, and one that came before it was heard by the poll.
+/// A caller first registers its interest in a pass, then polls, and then turns to other work. A let that comes
+/// after the poll finds the caller registered; the poll sees a let that came before.
 pub trait Waker {
-    /// The request that waits through this pass with this ticket was let through. It is called once for each let, by the
-    /// thread whose call let the request through: after the let was shown to the pass, so that a poll hears it, with no
-    /// lock of the table held, and before that thread's own call returns.
+    /// The request that waits through this pass with this ticket was let through. The thread whose call let the
+    /// request through calls this, once for each let: after the let was shown to the pass, so that a poll sees it;
+    /// with no lock of the table held; and before that thread's own call returns.
     ///
-    /// It has no handle to wait with, so it cannot block: it may set an atomic word, write to a pipe or wake a thread. It
-    /// may find that the request was polled, has scanned on or has left meanwhile.
+    /// It gets no handle to wait with, so it cannot block: it may set an atomic word, write to a pipe or wake a
+    /// thread. By the time it runs, the request may have been polled, have scanned again or have left.
     fn wake(&self, pass: u32, ticket: Ticket);
 }
 

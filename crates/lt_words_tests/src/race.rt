@@ -1,7 +1,12 @@
+//! What do threads get that draw request numbers and commit steps through one book at the same time?
+//!
+//! Two or four workers run at once. Each has a pass of its own, draws its numbers, and makes the first step of 16
+//! shards that no other worker uses. [`drawn_by_two`] and [`drawn_by_four`] return all numbers; [`crate::tests`]
+//! checks that each was drawn once.
 ghost use Rattle.std.specs.Prelude.{◌≡◌, ◌<◌, ◌≤◌, ◌^◌, IfOk, IfSome, []};
 ghost use Rattle.lt_words.specs.Row.{Opening};
 
-use crate::seat::Seat;
+use crate::seat::DropPass;
 use lt_entry::Entry;
 use lt_ids::{IdError, Key, TxnId};
 use lt_plain::{Call, Reply};
@@ -10,14 +15,14 @@ use std::alloc::{AllocError, Global};
 use std::sync::Wait;
 use std::thread::{Threads, join};
 
-/// What a worker hands back: its pass, and the numbers that it drew.
+/// The result of a worker: its pass, and the numbers that it drew.
 #[derive(Drop)]
-struct Worked {
-    seat: Seat,
+struct DrawnNumbers {
+    seat: DropPass,
     numbers: Vec<u64>,
 }
 
-/// The step of a finish at a key that nobody holds.
+/// The step of a finish at a key that has no holder.
 fn idle_finish(alloc: Global, byte: u8, pass: u32, txn: TxnId) -> Result<Entry, IdError>
     ensures pass { IfOk result (λ e. e.pass ≡ pass) }
     ensures call { IfOk result (λ e. e.call ≡ Call.Finish txn) }
@@ -30,7 +35,7 @@ fn idle_finish(alloc: Global, byte: u8, pass: u32, txn: TxnId) -> Result<Entry, 
     Ok(Entry::new(key, pass, &call, Reply::Other, lets))
 }
 
-/// Makes the first step of the shard of this key.
+/// Commits the first step of the shard of the entry's key.
 fn first_step<R: Wait>(
     rt: &R,
     book: &Book,
@@ -54,15 +59,16 @@ fn first_step<R: Wait>(
     book.commit(rt, pass, &mut front, shard, 0, entry);
 }
 
-/// Draws numbers, and makes the first step of 16 shards of 64, whose keys are one byte from `first` on.
+/// Draws `draws` numbers. Then makes the first step of 16 of the 64 shards: those of the one-byte keys from
+/// `first` on.
 fn work<R: Wait>(
     rt: &R,
     alloc: Global,
     book: &Book,
-    mut seat: Seat,
+    mut seat: DropPass,
     first: u8,
     draws: u64,
-) -> Option<Worked>
+) -> Option<DrawnNumbers>
     requires of { book.now ≡ seat.pass.of }
     requires shards { book.now.shards ≡ 64 }
     requires keys { first ≤ 100 }
@@ -78,19 +84,19 @@ fn work<R: Wait>(
         let entry = idle_finish(alloc, first + k, seat.pass.number(), txn).ok()?;
         first_step(rt, book, &mut seat.pass, 64, &entry, txn);
     }
-    Some(Worked { seat, numbers })
+    Some(DrawnNumbers { seat, numbers })
 }
 
-/// Two workers at once.
+/// Runs two workers at once.
 fn two_workers<R: Threads + Wait + Sync>(
     rt: &R,
     alloc: Global,
     book: &Book,
-    one: Seat,
-    two: Seat,
+    one: DropPass,
+    two: DropPass,
     first: u8,
     draws: u64,
-) -> (Option<Worked>, Option<Worked>)
+) -> (Option<DrawnNumbers>, Option<DrawnNumbers>)
     requires one { book.now ≡ one.pass.of }
     requires two { book.now ≡ two.pass.of }
     requires shards { book.now.shards ≡ 64 }
@@ -100,25 +106,25 @@ fn two_workers<R: Threads + Wait + Sync>(
 {
     join(
         rt,
-        || -> Option<Worked>
+        || -> Option<DrawnNumbers>
             requires { (book.now ≡ one.pass.of) × (book.now.shards ≡ 64) × (first ≤ 84) }
             ensures { IfSome result (λ w. w.seat.pass.of ≡ book.entry.now) }
         { work(rt, alloc, book, one, first, draws) },
-        || -> Option<Worked>
+        || -> Option<DrawnNumbers>
             requires { (book.now ≡ two.pass.of) × (book.now.shards ≡ 64) × (first ≤ 84) }
             ensures { IfSome result (λ w. w.seat.pass.of ≡ book.entry.now) }
         { work(rt, alloc, book, two, first + 16, draws) },
     )
 }
 
-/// Four workers at once.
+/// Runs four workers at once.
 fn four_workers<R: Threads + Wait + Sync>(
     rt: &R,
     alloc: Global,
     book: &Book,
-    seats: (Seat, Seat, Seat, Seat),
+    seats: (DropPass, DropPass, DropPass, DropPass),
     draws: u64,
-) -> Option<(Worked, Worked, Worked, Worked)>
+) -> Option<(DrawnNumbers, DrawnNumbers, DrawnNumbers, DrawnNumbers)>
     requires one { book.now ≡ seats.0.pass.of }
     requires two { book.now ≡ seats.1.pass.of }
     requires three { book.now ≡ seats.2.pass.of }
@@ -129,10 +135,10 @@ fn four_workers<R: Threads + Wait + Sync>(
     let (one, two, three, four) = seats;
     let (front, back) = join(
         rt,
-        || -> (Option<Worked>, Option<Worked>)
+        || -> (Option<DrawnNumbers>, Option<DrawnNumbers>)
             requires { (book.now ≡ one.pass.of) × (book.now ≡ two.pass.of) × (book.now.shards ≡ 64) }
         { two_workers(rt, alloc, book, one, two, 33, draws) },
-        || -> (Option<Worked>, Option<Worked>)
+        || -> (Option<DrawnNumbers>, Option<DrawnNumbers>)
             requires { (book.now ≡ three.pass.of) × (book.now ≡ four.pass.of) × (book.now.shards ≡ 64) }
             ensures { IfSome result.1 (λ w. w.seat.pass.of ≡ book.entry.now) }
         { two_workers(rt, alloc, book, three, four, 65, draws) },
@@ -142,7 +148,8 @@ fn four_workers<R: Threads + Wait + Sync>(
     Some((a?, b?, c?, d?))
 }
 
-/// Whether each of the 64 shards has just one step. Where one has another number of steps it does not return.
+/// Checks that each of the 64 shards has exactly one step. If a shard has another number of steps, the call does
+/// not return.
 fn one_step_each<R: Wait>(rt: &R, book: &Book, pass: &mut Pass)
     requires of { book.now ≡ pass.old.of }
     requires shards { book.now.shards ≡ 64 }
@@ -154,8 +161,8 @@ fn one_step_each<R: Wait>(rt: &R, book: &Book, pass: &mut Pass)
     }
 }
 
-/// A new book of 64 shards, and its two passes.
-fn open_for_two(alloc: Global) -> Option<(Book, Seat, Seat)>
+/// Opens a book with 64 shards and two passes. None if an allocation fails.
+fn open_for_two(alloc: Global) -> Option<(Book, DropPass, DropPass)>
     ensures shards { IfSome result (λ r. r.0.shards ≡ 64) }
     ensures one { IfSome result (λ r. r.1.pass.of ≡ r.0) }
     ensures two { IfSome result (λ r. r.2.pass.of ≡ r.0) }
@@ -165,18 +172,18 @@ fn open_for_two(alloc: Global) -> Option<(Book, Seat, Seat)>
         abandon_all(passes);
         return None;
     };
-    let two = Seat { pass: two };
+    let two = DropPass { pass: two };
     let Some(one) = passes.pop() else {
         abandon_all(passes);
         return None;
     };
-    let one = Seat { pass: one };
+    let one = DropPass { pass: one };
     abandon_all(passes);
     Some((book, one, two))
 }
 
-/// A new book of 64 shards, and its four passes.
-fn open_for_four(alloc: Global) -> Option<(Book, (Seat, Seat, Seat, Seat))>
+/// Opens a book with 64 shards and four passes. None if an allocation fails.
+fn open_for_four(alloc: Global) -> Option<(Book, (DropPass, DropPass, DropPass, DropPass))>
     ensures shards { IfSome result (λ r. r.0.shards ≡ 64) }
     ensures one { IfSome result (λ r. r.1.0.pass.of ≡ r.0) }
     ensures two { IfSome result (λ r. r.1.1.pass.of ≡ r.0) }
@@ -188,27 +195,27 @@ fn open_for_four(alloc: Global) -> Option<(Book, (Seat, Seat, Seat, Seat))>
         abandon_all(passes);
         return None;
     };
-    let four = Seat { pass: four };
+    let four = DropPass { pass: four };
     let Some(three) = passes.pop() else {
         abandon_all(passes);
         return None;
     };
-    let three = Seat { pass: three };
+    let three = DropPass { pass: three };
     let Some(two) = passes.pop() else {
         abandon_all(passes);
         return None;
     };
-    let two = Seat { pass: two };
+    let two = DropPass { pass: two };
     let Some(one) = passes.pop() else {
         abandon_all(passes);
         return None;
     };
-    let one = Seat { pass: one };
+    let one = DropPass { pass: one };
     abandon_all(passes);
     Some((book, (one, two, three, four)))
 }
 
-/// The numbers that two workers at once draw from a new book, each so many.
+/// The numbers that two workers draw at once from a new book; each worker draws `draws`.
 pub fn drawn_by_two<R: Threads + Wait + Sync>(
     rt: &R,
     alloc: Global,
@@ -221,8 +228,8 @@ pub fn drawn_by_two<R: Threads + Wait + Sync>(
     Some(numbers)
 }
 
-/// The numbers that four workers at once draw from a new book, each so many; and how many draws it then counts. It
-/// returns where each shard has just one step.
+/// The numbers that four workers draw at once from a new book, each worker `draws`, and the book's count of draws
+/// afterwards. Returns only if each shard then has exactly one step.
 pub fn drawn_by_four<R: Threads + Wait + Sync>(
     rt: &R,
     alloc: Global,
@@ -239,7 +246,8 @@ pub fn drawn_by_four<R: Threads + Wait + Sync>(
     Some((numbers, book.drawn(&mut last.pass)))
 }
 
-/// The least and the greatest of these numbers, and how many different ones they are.
+/// The least number, the greatest number, and how many distinct numbers there are. None if the list is empty or an
+/// allocation fails.
 pub fn spread(mut numbers: Vec<u64>) -> Option<(u64, u64, usize)> {
     numbers.sort().ok()?;
     numbers.dedup();

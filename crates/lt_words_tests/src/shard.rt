@@ -1,4 +1,4 @@
-//! The steps of a shard, in a book that is opened for them.
+//! Does a shard make its steps and show its lets? The tests open a book for it.
 
 mod run;
 mod tests;

@@ -1,8 +1,10 @@
+//! To which shard does a key belong?
 use lt_ids::Key;
 use lt_words::shard_of;
 use std::alloc::Global;
 
-/// The shards of a key among 1, 2, 11 and 64.
+/// The index of the key's shard if there are 1, 2, 11 and 64 shards. None if the bytes are no key, or an
+/// allocation fails.
 pub fn shards_of(alloc: Global, bytes: &[u8]) -> Option<(usize, usize, usize, usize)> {
     let key = Key::from_bytes(alloc, bytes).ok()?;
     Some((

@@ -1,6 +1,9 @@
+//! The tests of a book: racing threads draw each number once, an open that ran out of memory can be made again,
+//! the limit of request numbers holds, a key's shard is the sum of its bytes modulo the number of shards, and a
+//! book reports how its table keeps steps.
 use crate::named::open_by_name;
 use crate::race::{drawn_by_four, drawn_by_two, spread};
-use crate::seat::Seat;
+use crate::seat::DropPass;
 use crate::sharding::shards_of;
 use lt_words::{Book, Keeping, abandon_all};
 use std::test::Fail;
@@ -33,7 +36,7 @@ fn a_refused_open_can_be_made_again(rt: HostRuntime) -> Result<(), Fail> {
     let last = passes.pop();
     abandon_all(passes);
     assert_eq!(rt; count, 3);
-    let mut last = Seat::of(last).ok_or("pass 3")?;
+    let mut last = DropPass::of(last).ok_or("pass 3")?;
     assert_eq!(rt; last.pass.number(), 3);
     assert_eq!(rt; book.drawn(&mut last.pass), 0);
     Ok(())
@@ -55,7 +58,7 @@ fn no_number_past_the_limit_is_drawn(rt: HostRuntime) -> Result<(), Fail> {
     let (book, mut passes) = Book::open(rt.alloc(), 1, 1)?;
     let pass = passes.pop();
     abandon_all(passes);
-    let mut seat = Seat::of(pass).ok_or("pass 1")?;
+    let mut seat = DropPass::of(pass).ok_or("pass 1")?;
     assert_eq!(rt; book.draw(&rt, &mut seat.pass, 1), Some(1));
     assert_eq!(rt; book.draw(&rt, &mut seat.pass, 1), None);
     assert_eq!(rt; book.draw(&rt, &mut seat.pass, 1), None);

@@ -1,3 +1,5 @@
+//! Do the links agree with three plain maps? One test compares both under random calls. Another makes the same
+//! calls at two `Links`, and repeats each call in which an allocation failed.
 ghost use Rattle.std.specs.Prelude.{◌≡◌, ◌<◌, ◌↔◌, IsTrue, true, length};
 ghost use Rattle.lt_links.specs.Maps.{HasNode, IsEmpty, has_record as is_record};
 
@@ -19,7 +21,7 @@ fn has_record(links: &Links, id: RecordId) -> bool
     links.heads.contains(id.key())
 }
 
-/// Whether a record's three queues are empty.
+/// Whether all three queues of a record are empty.
 fn is_empty(links: &Links, id: RecordId) -> bool
     requires { is_record links.now id ≡ true }
     ensures { IsTrue result → IsEmpty links.now id }
@@ -53,7 +55,7 @@ fn stand_of(rt: &impl Abort, number: u64, wait: u32) -> Stand {
     }
 }
 
-/// Asks that these nodes are in the queue, in this order, by way of `next` and of `prev`.
+/// Asserts that the queue has exactly these nodes in this order, along `next` and along `prev`.
 fn expect_queue(rt: &impl Abort, links: &Links, queue: &Queue, nodes: &[NodeId]) {
     assert!(rt; has_record(links, queue.id));
     let mut at = links.first(*queue);
@@ -73,7 +75,7 @@ fn expect_queue(rt: &impl Abort, links: &Links, queue: &Queue, nodes: &[NodeId])
     assert_eq!(rt; at, None);
 }
 
-/// Asks that these nodes are in the number's list, in this order.
+/// Asserts that the number's list has exactly these nodes in this order.
 fn expect_owned(rt: &impl Abort, links: &Links, number: u64, nodes: &[NodeId]) {
     let mut at = links.owner_first(number);
     for node in nodes {
@@ -118,7 +120,8 @@ fn nodes_are_found_from_both_ends_and_by_their_number(rt: HostRuntime) -> Result
     Ok(())
 }
 
-/// What the links are to be: three plain maps. A queue's key is that of its record and the place of its kind.
+/// The expected contents of the links, as three plain maps. The key of a queue is the key of its record and the
+/// index of its kind.
 #[derive(Drop)]
 struct Plain {
     alloc: Global,
@@ -236,7 +239,7 @@ impl Plain {
         Ok(())
     }
 
-    /// Asks that the links are these maps.
+    /// Asserts that the links have exactly the contents of these maps.
     fn expect(&self, rt: &impl Abort, links: &Links, records: &[RecordId]) {
         for id in records {
             for place in 0..3 {
@@ -262,11 +265,11 @@ const NUMBERS: u64 = 5;
 
 /// A linear congruential generator.
 #[derive(Drop)]
-struct Random {
+struct Lcg {
     state: u64,
 }
 
-impl Random {
+impl Lcg {
     fn below(&mut self, bound: u64) -> u64
         requires { 0 < bound }
         ensures { result < bound }
@@ -279,7 +282,7 @@ impl Random {
     }
 }
 
-/// The stand, with another wait that is no longer active.
+/// The queue entry, inactive and with another wait number.
 fn idle(stand: &Stand, wait: u32) -> Stand
     ensures { result.number ≡ stand.now.number }
 {
@@ -290,7 +293,7 @@ fn idle(stand: &Stand, wait: u32) -> Stand
     }
 }
 
-/// The links, what they are to be, and the nodes that are left.
+/// The links, their expected contents, and the nodes that are left.
 #[derive(Drop)]
 struct Both {
     links: Links,
@@ -347,7 +350,7 @@ impl Both {
         Ok(())
     }
 
-    /// Takes every node of a record out, drops the record, and adds one in its place.
+    /// Removes every node of a record, drops the record, and adds another one.
     fn renew(&mut self, rt: &impl Abort, id: RecordId) -> Result<RecordId, AllocError> {
         for place in (0..self.nodes.len()).rev() {
             if place < self.nodes.len() {
@@ -364,11 +367,11 @@ impl Both {
         self.links.add_record()
     }
 
-    /// One random call.
+    /// Makes one random call.
     fn call(
         &mut self,
         rt: &impl Abort,
-        random: &mut Random,
+        random: &mut Lcg,
         to: &Queue,
         turn: u32,
     ) -> Result<(), AllocError> {
@@ -397,7 +400,7 @@ fn random_calls_do_what_three_plain_maps_do(rt: HostRuntime) -> Result<(), Fail>
         plain: Plain::new(alloc),
         nodes: Vec::new(alloc),
     };
-    let mut random = Random { state: 1 };
+    let mut random = Lcg { state: 1 };
     for turn in 0..600 {
         let to = Queue {
             id: records[random.below(2) as usize],
@@ -413,7 +416,8 @@ fn random_calls_do_what_three_plain_maps_do(rt: HostRuntime) -> Result<(), Fail>
     Ok(())
 }
 
-/// Who stands in a queue and who is the first of each number, in an array, so that looking takes no memory.
+/// The nodes of a queue, their wait numbers, and the first node of each number. They are in an array, so that a
+/// look allocates nothing.
 fn seen(rt: &impl Abort, links: &Links, queue: &Queue) -> [usize; 48] {
     let mut seen = [usize::MAX; 48];
     assert!(rt; has_record(links, queue.id));
@@ -432,8 +436,8 @@ fn seen(rt: &impl Abort, links: &Links, queue: &Queue) -> [usize; 48] {
     seen
 }
 
-/// Puts a stand into a queue, behind a node or at the front. Where memory is refused, nothing has changed, and the
-/// call is made again.
+/// Puts an entry into a queue, after a node or at the front. If an allocation fails, checks that nothing has
+/// changed and repeats the call once.
 fn put(
     rt: &impl Abort,
     links: &mut Links,
@@ -459,7 +463,7 @@ fn put(
     Err(AllocError)
 }
 
-/// Adds a record. Where memory is refused, nothing has changed, and the call is made again.
+/// Adds a record. If an allocation fails, checks that nothing has changed and repeats the call once.
 fn add_record(rt: &impl Abort, links: &mut Links, known: &[Queue]) -> Result<RecordId, AllocError> {
     for _ in 0..2 {
         let records = links.heads.len();
@@ -479,7 +483,7 @@ fn add_record(rt: &impl Abort, links: &mut Links, known: &[Queue]) -> Result<Rec
     Err(AllocError)
 }
 
-/// Makes the same two calls at both links, which then look alike, and gives the new node.
+/// Makes the same two calls at both links, checks that they then look the same, and returns the new node.
 fn grow_both(
     rt: &impl Abort,
     one: &mut Links,
@@ -500,7 +504,7 @@ fn grow_both(
     Ok(node)
 }
 
-/// Fourteen turns at both links, in a queue of their first record.
+/// Makes fourteen rounds of calls at both links, in a queue of their first record.
 fn grow_fourteen_times(
     rt: &impl Abort,
     one: &mut Links,
@@ -520,8 +524,8 @@ fn grow_fourteen_times(
     Ok(())
 }
 
-// Beside the calls of the links nothing here takes memory. So whichever one allocation is refused, this test sees a call
-// refused, made again, and answered as in the other links.
+// Only the calls of the links allocate here. So whichever single allocation fails, this test sees one call fail,
+// repeats it, and gets the same answer from both links.
 #[test]
 fn after_refused_memory_the_same_call_answers_as_ever(rt: HostRuntime) -> Result<(), Fail> {
     let mut one = Links::new(rt.alloc());

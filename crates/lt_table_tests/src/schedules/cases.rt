@@ -1,14 +1,16 @@
-//! What came about in the schedules, counted, so that the test can tell that it met each kind of answer.
-use crate::schedules::standing::{Standing, Wanted};
-use crate::schedules::steps::{Asked, Step};
+//! Do the random schedules meet every kind of answer?
+//! [`ScheduleCase`] lists the kinds. They are counted while a schedule is made, and the test fails if one of them
+//! never occurred. Read next `schedule`, which makes the schedules.
+use crate::schedules::standing::{ExpectedAnswer, Standing};
+use crate::schedules::steps::{AskedCall, PlainStep};
 use lt_plain::Reply;
 use lt_table::{EnterError, Poll, Scan, ScanError, StepError};
-use lt_test_kit::command::{Command, Told};
-use lt_test_kit::desk::Line;
+use lt_test_kit::command::{CallOutcome, TableCommand};
+use lt_test_kit::play::PlayedCommand;
 
-/// A kind of answer, or something that happens on the way.
+/// A kind of answer, or another event that the schedules must meet.
 #[derive(Clone, Copy, Debug, PartialEq, Eq)]
-pub enum Case {
+pub enum ScheduleCase {
     Entered,
     NoKeys,
     NumbersOut,
@@ -72,101 +74,101 @@ pub enum Case {
     AskedForKeys,
 }
 
-/// All of them.
-pub const CASES: [Case; 61] = [
-    Case::Entered,
-    Case::NoKeys,
-    Case::NumbersOut,
-    Case::Proceed,
-    Case::Rescan,
-    Case::WaitingAtTheFirstKey,
-    Case::WaitingAtALaterKey,
-    Case::TooLongAtTheFirstKey,
-    Case::TooLongAtALaterKey,
-    Case::TooLongAfterALet,
-    Case::ScanWhileLeaving,
-    Case::ScanWhileWaiting,
-    Case::WaitsOut,
-    Case::WaitsOutAfterALet,
-    Case::FullAtTheFirstVisit,
-    Case::FullAtALaterVisit,
-    Case::PollThrough,
-    Case::PollWaiting,
-    Case::PollIdle,
-    Case::CallByAPass,
-    Case::CallByARequest,
-    Case::Look,
-    Case::FullAtACallByAPass,
-    Case::FullAtACallByARequest,
-    Case::FullAtALook,
-    Case::Left,
-    Case::FullAtTheFirstLeaveStep,
-    Case::FullAtALaterLeaveStep,
-    Case::FullAgainAtALeave,
-    Case::NoCall,
-    Case::ALet,
-    Case::ScanOfSeveralKeysGoesOnAfterALet,
-    Case::WriteWithoutATransactionPasses,
-    Case::WriteWithoutATransactionWaits,
-    Case::RepliedPassed,
-    Case::RepliedMustWait,
-    Case::RepliedTooLong,
-    Case::RepliedTaken,
-    Case::RepliedKept,
-    Case::RepliedRaised,
-    Case::RepliedOther,
-    Case::RepliedFreed,
-    Case::RepliedLeft,
-    Case::RepliedAbsent,
-    Case::RepliedNothing,
-    Case::RepliedReserved,
-    Case::RepliedIdle,
-    Case::RepliedWaitForAHolder,
-    Case::RepliedWaitForAReservation,
-    Case::RepliedWaitFirstForAHolder,
-    Case::RepliedWaitFirstForAReservation,
-    Case::RepliedWaitOwn,
-    Case::AskedEmpty,
-    Case::AskedHeld,
-    Case::AskedReserved,
-    Case::AskedWriters,
-    Case::AskedIdleWriter,
-    Case::AskedReaders,
-    Case::AskedDistinguished,
-    Case::AskedForNoKeys,
-    Case::AskedForKeys,
+/// All cases.
+pub const CASES: [ScheduleCase; 61] = [
+    ScheduleCase::Entered,
+    ScheduleCase::NoKeys,
+    ScheduleCase::NumbersOut,
+    ScheduleCase::Proceed,
+    ScheduleCase::Rescan,
+    ScheduleCase::WaitingAtTheFirstKey,
+    ScheduleCase::WaitingAtALaterKey,
+    ScheduleCase::TooLongAtTheFirstKey,
+    ScheduleCase::TooLongAtALaterKey,
+    ScheduleCase::TooLongAfterALet,
+    ScheduleCase::ScanWhileLeaving,
+    ScheduleCase::ScanWhileWaiting,
+    ScheduleCase::WaitsOut,
+    ScheduleCase::WaitsOutAfterALet,
+    ScheduleCase::FullAtTheFirstVisit,
+    ScheduleCase::FullAtALaterVisit,
+    ScheduleCase::PollThrough,
+    ScheduleCase::PollWaiting,
+    ScheduleCase::PollIdle,
+    ScheduleCase::CallByAPass,
+    ScheduleCase::CallByARequest,
+    ScheduleCase::Look,
+    ScheduleCase::FullAtACallByAPass,
+    ScheduleCase::FullAtACallByARequest,
+    ScheduleCase::FullAtALook,
+    ScheduleCase::Left,
+    ScheduleCase::FullAtTheFirstLeaveStep,
+    ScheduleCase::FullAtALaterLeaveStep,
+    ScheduleCase::FullAgainAtALeave,
+    ScheduleCase::NoCall,
+    ScheduleCase::ALet,
+    ScheduleCase::ScanOfSeveralKeysGoesOnAfterALet,
+    ScheduleCase::WriteWithoutATransactionPasses,
+    ScheduleCase::WriteWithoutATransactionWaits,
+    ScheduleCase::RepliedPassed,
+    ScheduleCase::RepliedMustWait,
+    ScheduleCase::RepliedTooLong,
+    ScheduleCase::RepliedTaken,
+    ScheduleCase::RepliedKept,
+    ScheduleCase::RepliedRaised,
+    ScheduleCase::RepliedOther,
+    ScheduleCase::RepliedFreed,
+    ScheduleCase::RepliedLeft,
+    ScheduleCase::RepliedAbsent,
+    ScheduleCase::RepliedNothing,
+    ScheduleCase::RepliedReserved,
+    ScheduleCase::RepliedIdle,
+    ScheduleCase::RepliedWaitForAHolder,
+    ScheduleCase::RepliedWaitForAReservation,
+    ScheduleCase::RepliedWaitFirstForAHolder,
+    ScheduleCase::RepliedWaitFirstForAReservation,
+    ScheduleCase::RepliedWaitOwn,
+    ScheduleCase::AskedEmpty,
+    ScheduleCase::AskedHeld,
+    ScheduleCase::AskedReserved,
+    ScheduleCase::AskedWriters,
+    ScheduleCase::AskedIdleWriter,
+    ScheduleCase::AskedReaders,
+    ScheduleCase::AskedDistinguished,
+    ScheduleCase::AskedForNoKeys,
+    ScheduleCase::AskedForKeys,
 ];
 
-/// How often each case came about.
+/// How often each case occurred.
 #[derive(Drop)]
-pub struct Counts {
+pub struct ScheduleCaseCounts {
     counts: [u64; 61],
 }
 
-/// How a request stood before a command.
+/// The state of a pass and its request before a command.
 #[derive(Clone, Copy, Debug, PartialEq, Eq)]
 pub struct Before {
     /// The pass had a request.
     pub is_open: bool,
-    /// Its request was let through, and a further key comes next.
+    /// Its request was let through and has another key to visit.
     pub goes_on: bool,
-    /// Its request was on its way to leave.
+    /// Its request had begun to leave.
     pub is_leaving: bool,
 }
 
-impl Counts {
+impl ScheduleCaseCounts {
     pub fn new() -> Self {
-        Counts { counts: [0; 61] }
+        ScheduleCaseCounts { counts: [0; 61] }
     }
 
-    pub fn add(&mut self, case: Case) {
+    pub fn add(&mut self, case: ScheduleCase) {
         if let Some(count) = self.counts.get_mut(case as usize) {
             *count = count.wrapping_add(1);
         }
     }
 
-    /// A case that never came about.
-    pub fn missing(&self) -> Option<Case> {
+    /// A case that never occurred, if any.
+    pub fn missing(&self) -> Option<ScheduleCase> {
         for case in &CASES {
             if self.counts.get(*case as usize) == Some(&0) {
                 return Some(*case);
@@ -175,155 +177,167 @@ impl Counts {
         None
     }
 
-    /// What this command was told.
-    pub fn add_line(&mut self, before: Before, command: &Command, line: &Line) {
+    /// Counts the outcome of a command.
+    pub fn add_line(&mut self, before: Before, command: &TableCommand, line: &PlayedCommand) {
         let has_steps = !line.replies.is_empty();
         if let Some(case) = told_case(before, command, line.told, has_steps) {
             self.add(case);
         }
-        if before.goes_on && matches!(line.told, Told::Scanned(_)) {
-            self.add(Case::ScanOfSeveralKeysGoesOnAfterALet);
+        if before.goes_on && matches!(line.told, CallOutcome::Scanned(_)) {
+            self.add(ScheduleCase::ScanOfSeveralKeysGoesOnAfterALet);
         }
-        if before.goes_on && matches!(line.told, Told::Scanned(Scan::TooLong(_))) {
-            self.add(Case::TooLongAfterALet);
+        if before.goes_on && matches!(line.told, CallOutcome::Scanned(Scan::TooLong(_))) {
+            self.add(ScheduleCase::TooLongAfterALet);
         }
     }
 
-    /// The case, where it is so.
-    fn add_if(&mut self, case: Case, is_so: bool) {
+    /// Counts the case if `is_so`.
+    fn add_if(&mut self, case: ScheduleCase, is_so: bool) {
         if is_so {
             self.add(case);
         }
     }
 
-    /// What was to be answered to a question.
-    pub fn add_wanted(&mut self, wanted: &Wanted) {
+    /// Counts the expected answer to a question.
+    pub fn add_wanted(&mut self, wanted: &ExpectedAnswer) {
         match wanted {
-            Wanted::State(standing) => self.add_standing(standing),
-            Wanted::Keys(keys) => {
-                self.add_if(Case::AskedForNoKeys, keys.is_empty());
-                self.add_if(Case::AskedForKeys, keys.len() > 1);
+            ExpectedAnswer::State(standing) => self.add_standing(standing),
+            ExpectedAnswer::Keys(keys) => {
+                self.add_if(ScheduleCase::AskedForNoKeys, keys.is_empty());
+                self.add_if(ScheduleCase::AskedForKeys, keys.len() > 1);
             }
         }
     }
 
-    /// How a key stood that was asked for.
+    /// Counts what the expected state of a key shows.
     fn add_standing(&mut self, standing: &Standing) {
         let is_held = standing.holder.is_some();
         let is_reserved = standing.reserved.is_some();
         let has_idle = standing.writers.iter().any(|writer| !writer.active);
-        self.add_if(Case::AskedEmpty, !is_held && !is_reserved);
-        self.add_if(Case::AskedHeld, is_held);
-        self.add_if(Case::AskedReserved, is_reserved);
-        self.add_if(Case::AskedWriters, standing.writers.len() > 1);
-        self.add_if(Case::AskedIdleWriter, has_idle);
-        self.add_if(Case::AskedReaders, standing.readers.len() > 1);
-        self.add_if(Case::AskedDistinguished, standing.distinguished.is_some());
+        self.add_if(ScheduleCase::AskedEmpty, !is_held && !is_reserved);
+        self.add_if(ScheduleCase::AskedHeld, is_held);
+        self.add_if(ScheduleCase::AskedReserved, is_reserved);
+        self.add_if(ScheduleCase::AskedWriters, standing.writers.len() > 1);
+        self.add_if(ScheduleCase::AskedIdleWriter, has_idle);
+        self.add_if(ScheduleCase::AskedReaders, standing.readers.len() > 1);
+        self.add_if(
+            ScheduleCase::AskedDistinguished,
+            standing.distinguished.is_some(),
+        );
     }
 
-    /// What this step was.
-    pub fn add_step(&mut self, step: &Step) {
+    /// Counts what a step shows.
+    pub fn add_step(&mut self, step: &PlainStep) {
         self.add(reply_case(step.reply));
         if let Some(case) = owner_case(step) {
             self.add(case);
         }
         if !step.lets.is_empty() {
-            self.add(Case::ALet);
+            self.add(ScheduleCase::ALet);
         }
     }
 }
 
-fn scan_case(scan: Scan) -> Case {
+fn scan_case(scan: Scan) -> ScheduleCase {
     match scan {
-        Scan::Proceed => Case::Proceed,
-        Scan::Rescan => Case::Rescan,
-        Scan::Waiting(0) => Case::WaitingAtTheFirstKey,
-        Scan::Waiting(_) => Case::WaitingAtALaterKey,
-        Scan::TooLong(0) => Case::TooLongAtTheFirstKey,
-        Scan::TooLong(_) => Case::TooLongAtALaterKey,
+        Scan::Proceed => ScheduleCase::Proceed,
+        Scan::Rescan => ScheduleCase::Rescan,
+        Scan::Waiting(0) => ScheduleCase::WaitingAtTheFirstKey,
+        Scan::Waiting(_) => ScheduleCase::WaitingAtALaterKey,
+        Scan::TooLong(0) => ScheduleCase::TooLongAtTheFirstKey,
+        Scan::TooLong(_) => ScheduleCase::TooLongAtALaterKey,
     }
 }
 
-/// A write of a request without a transaction.
-fn owner_case(step: &Step) -> Option<Case> {
+/// The case of a write by a request without a transaction.
+fn owner_case(step: &PlainStep) -> Option<ScheduleCase> {
     match step.asked {
-        Asked::Visit {
+        AskedCall::Visit {
             txn: None,
             is_write: true,
             ..
         } => match step.reply {
-            Reply::Passed => Some(Case::WriteWithoutATransactionPasses),
-            Reply::MustWait => Some(Case::WriteWithoutATransactionWaits),
+            Reply::Passed => Some(ScheduleCase::WriteWithoutATransactionPasses),
+            Reply::MustWait => Some(ScheduleCase::WriteWithoutATransactionWaits),
             _ => None,
         },
         _ => None,
     }
 }
 
-fn refused_scan_case(before: Before, error: ScanError, has_steps: bool) -> Option<Case> {
+fn refused_scan_case(before: Before, error: ScanError, has_steps: bool) -> Option<ScheduleCase> {
     match error {
-        ScanError::Leaving => Some(Case::ScanWhileLeaving),
-        ScanError::StillWaiting => Some(Case::ScanWhileWaiting),
-        ScanError::WaitsOut if before.goes_on => Some(Case::WaitsOutAfterALet),
-        ScanError::WaitsOut => Some(Case::WaitsOut),
-        ScanError::HistoryFull if has_steps => Some(Case::FullAtALaterVisit),
-        ScanError::HistoryFull => Some(Case::FullAtTheFirstVisit),
+        ScanError::Leaving => Some(ScheduleCase::ScanWhileLeaving),
+        ScanError::StillWaiting => Some(ScheduleCase::ScanWhileWaiting),
+        ScanError::WaitsOut if before.goes_on => Some(ScheduleCase::WaitsOutAfterALet),
+        ScanError::WaitsOut => Some(ScheduleCase::WaitsOut),
+        ScanError::HistoryFull if has_steps => Some(ScheduleCase::FullAtALaterVisit),
+        ScanError::HistoryFull => Some(ScheduleCase::FullAtTheFirstVisit),
         ScanError::Memory => None,
     }
 }
 
-fn call_case(before: Before, command: &Command, is_full: bool) -> Case {
+fn call_case(before: Before, command: &TableCommand, is_full: bool) -> ScheduleCase {
     match (command, before.is_open, is_full) {
-        (Command::Look { .. }, _, false) => Case::Look,
-        (Command::Look { .. }, _, true) => Case::FullAtALook,
-        (_, false, false) => Case::CallByAPass,
-        (_, false, true) => Case::FullAtACallByAPass,
-        (_, true, false) => Case::CallByARequest,
-        (_, true, true) => Case::FullAtACallByARequest,
+        (TableCommand::Look { .. }, _, false) => ScheduleCase::Look,
+        (TableCommand::Look { .. }, _, true) => ScheduleCase::FullAtALook,
+        (_, false, false) => ScheduleCase::CallByAPass,
+        (_, false, true) => ScheduleCase::FullAtACallByAPass,
+        (_, true, false) => ScheduleCase::CallByARequest,
+        (_, true, true) => ScheduleCase::FullAtACallByARequest,
     }
 }
 
-/// Which case it is that a command was told this; the latest scan or leave made some steps or none.
-fn told_case(before: Before, command: &Command, told: Told, has_steps: bool) -> Option<Case> {
+/// The case of a command's outcome. `has_steps` says whether the latest scan or leave made any steps.
+fn told_case(
+    before: Before,
+    command: &TableCommand,
+    told: CallOutcome,
+    has_steps: bool,
+) -> Option<ScheduleCase> {
     match told {
-        Told::Entered(_) => Some(Case::Entered),
-        Told::NotEntered(EnterError::NoKeys) => Some(Case::NoKeys),
-        Told::NotEntered(EnterError::NumbersOut) => Some(Case::NumbersOut),
-        Told::Scanned(scan) => Some(scan_case(scan)),
-        Told::NotScanned(error) => refused_scan_case(before, error, has_steps),
-        Told::Polled(Poll::Through) => Some(Case::PollThrough),
-        Told::Polled(Poll::Waiting) => Some(Case::PollWaiting),
-        Told::Polled(Poll::Idle) => Some(Case::PollIdle),
-        Told::Stepped(_) => Some(call_case(before, command, false)),
-        Told::NotStepped(StepError::HistoryFull) => Some(call_case(before, command, true)),
-        Told::Left => Some(Case::Left),
-        Told::NotLeft(StepError::HistoryFull) if before.is_leaving => Some(Case::FullAgainAtALeave),
-        Told::NotLeft(StepError::HistoryFull) if has_steps => Some(Case::FullAtALaterLeaveStep),
-        Told::NotLeft(StepError::HistoryFull) => Some(Case::FullAtTheFirstLeaveStep),
-        Told::Nothing => Some(Case::NoCall),
+        CallOutcome::Entered(_) => Some(ScheduleCase::Entered),
+        CallOutcome::NotEntered(EnterError::NoKeys) => Some(ScheduleCase::NoKeys),
+        CallOutcome::NotEntered(EnterError::NumbersOut) => Some(ScheduleCase::NumbersOut),
+        CallOutcome::Scanned(scan) => Some(scan_case(scan)),
+        CallOutcome::NotScanned(error) => refused_scan_case(before, error, has_steps),
+        CallOutcome::Polled(Poll::Through) => Some(ScheduleCase::PollThrough),
+        CallOutcome::Polled(Poll::Waiting) => Some(ScheduleCase::PollWaiting),
+        CallOutcome::Polled(Poll::Idle) => Some(ScheduleCase::PollIdle),
+        CallOutcome::Stepped(_) => Some(call_case(before, command, false)),
+        CallOutcome::NotStepped(StepError::HistoryFull) => Some(call_case(before, command, true)),
+        CallOutcome::Left => Some(ScheduleCase::Left),
+        CallOutcome::NotLeft(StepError::HistoryFull) if before.is_leaving => Some(
+            ScheduleCase::FullAgainAtALeave,
+        ),
+        CallOutcome::NotLeft(StepError::HistoryFull) if has_steps => Some(
+            ScheduleCase::FullAtALaterLeaveStep,
+        ),
+        CallOutcome::NotLeft(StepError::HistoryFull) => Some(ScheduleCase::FullAtTheFirstLeaveStep),
+        CallOutcome::Nothing => Some(ScheduleCase::NoCall),
         _ => None,
     }
 }
 
-fn reply_case(reply: Reply) -> Case {
+fn reply_case(reply: Reply) -> ScheduleCase {
     match reply {
-        Reply::Passed => Case::RepliedPassed,
-        Reply::MustWait => Case::RepliedMustWait,
-        Reply::TooLong => Case::RepliedTooLong,
-        Reply::Taken => Case::RepliedTaken,
-        Reply::Kept => Case::RepliedKept,
-        Reply::Raised => Case::RepliedRaised,
-        Reply::Other => Case::RepliedOther,
-        Reply::Freed => Case::RepliedFreed,
-        Reply::Left => Case::RepliedLeft,
-        Reply::Absent => Case::RepliedAbsent,
-        Reply::Nothing => Case::RepliedNothing,
-        Reply::Reserved => Case::RepliedReserved,
-        Reply::Idle => Case::RepliedIdle,
-        Reply::WaitFor(_, true) => Case::RepliedWaitForAHolder,
-        Reply::WaitFor(_, false) => Case::RepliedWaitForAReservation,
-        Reply::WaitFirst(_, true) => Case::RepliedWaitFirstForAHolder,
-        Reply::WaitFirst(_, false) => Case::RepliedWaitFirstForAReservation,
-        Reply::WaitOwn(_) => Case::RepliedWaitOwn,
+        Reply::Passed => ScheduleCase::RepliedPassed,
+        Reply::MustWait => ScheduleCase::RepliedMustWait,
+        Reply::TooLong => ScheduleCase::RepliedTooLong,
+        Reply::Taken => ScheduleCase::RepliedTaken,
+        Reply::Kept => ScheduleCase::RepliedKept,
+        Reply::Raised => ScheduleCase::RepliedRaised,
+        Reply::Other => ScheduleCase::RepliedOther,
+        Reply::Freed => ScheduleCase::RepliedFreed,
+        Reply::Left => ScheduleCase::RepliedLeft,
+        Reply::Absent => ScheduleCase::RepliedAbsent,
+        Reply::Nothing => ScheduleCase::RepliedNothing,
+        Reply::Reserved => ScheduleCase::RepliedReserved,
+        Reply::Idle => ScheduleCase::RepliedIdle,
+        Reply::WaitFor(_, true) => ScheduleCase::RepliedWaitForAHolder,
+        Reply::WaitFor(_, false) => ScheduleCase::RepliedWaitForAReservation,
+        Reply::WaitFirst(_, true) => ScheduleCase::RepliedWaitFirstForAHolder,
+        Reply::WaitFirst(_, false) => ScheduleCase::RepliedWaitFirstForAReservation,
+        Reply::WaitOwn(_) => ScheduleCase::RepliedWaitOwn,
     }
 }

@@ -1,4 +1,4 @@
-//! Runs over plain tables.
+//! Plays commands and questions on a table over plain key tables.
 ghost use Rattle.std.specs.Prelude.{◌≡◌, length};
 ghost use Rattle.std.specs.List.{All};
 ghost use Rattle.std.specs.FinMap as finmap;
@@ -6,9 +6,9 @@ ghost use Rattle.std.specs.FinMap as finmap;
 use lt_plain::PlainTable;
 use lt_table::{Config, Ready, open_with, prepare};
 use lt_test_kit::asking::Question;
-use lt_test_kit::command::{Row, TableCall};
+use lt_test_kit::command::{CommandRow, TableCall};
 use lt_test_kit::plain::plain_tables;
-use lt_test_kit::run::{Ran, play_all};
+use lt_test_kit::run::{TableRun, play_all};
 use lt_words::Name;
 use std::alloc::Global;
 use std::marker::Brand;
@@ -19,9 +19,9 @@ fn run_named<N: Name, R: Wait>(
     alloc: Global,
     ready: Ready,
     tables: Vec<PlainTable>,
-    rows: &[Row],
+    rows: &[CommandRow],
     questions: &[Option<Question>],
-) -> Result<Ran, TableCall>
+) -> Result<TableRun, TableCall>
     requires named { ready.of ≡ N.of }
     requires many { length tables.items ≡ N.of.shards }
     requires empty { All (λ t. t ≡ finmap.empty) tables.items }
@@ -34,14 +34,15 @@ fn run_named<N: Name, R: Wait>(
     }
 }
 
-/// A run over plain tables. An error is what was refused: `Prepare`, `OpenWith` or `Beside`.
+/// Opens a table over plain key tables, plays the rows with their questions, and closes the table. An error names
+/// what was refused: `Prepare`, `OpenWith` or `Beside`.
 pub fn run_plain<R: Wait>(
     rt: &R,
     alloc: Global,
     config: Config,
-    rows: &[Row],
+    rows: &[CommandRow],
     questions: &[Option<Question>],
-) -> Result<Ran, TableCall> {
+) -> Result<TableRun, TableCall> {
     let Ok(ready) = prepare(alloc, config) else {
         return Err(TableCall::Prepare);
     };

@@ -1,14 +1,17 @@
-use crate::schedules::steps::{Asked, Steps};
+//! What does a request do, by a second reading of the rules?
+//! [`PlainRequest`] is written from `docs/RULES.md`, "A request". Read next `steps`, which makes its key steps,
+//! and `table`, which holds the requests of all passes.
+use crate::schedules::steps::{AskedCall, Steps};
 use lt_ids::Access;
 use lt_plain::Reply;
 use lt_table::{Poll, Scan, ScanError, StepError};
-use lt_test_kit::command::Told;
+use lt_test_kit::command::CallOutcome;
 use lt_test_kit::second::Time;
 use std::alloc::{AllocError, Global};
 
-/// What a request does.
+/// What a request does between its calls.
 #[derive(Clone, Copy, Debug, PartialEq, Eq)]
-pub enum Mode {
+pub enum PlainMode {
     Free,
     Waiting,
     Let,
@@ -17,27 +20,28 @@ pub enum Mode {
 
 /// A request that has entered and not left.
 #[derive(Drop)]
-pub struct Request {
+pub struct PlainRequest {
     pass: u32,
     number: u64,
     txn: Option<u64>,
     time: Time,
-    /// So many may wait to write at a key before it would not join them; 0 is no bound.
+    /// The bound: the request does not join a queue of this many writers or more. 0 is no bound.
     longest: u32,
-    /// Its keys, each with whether it is to be written.
+    /// Its key list, each key with whether it is to be written.
     list: Vec<(u8, bool)>,
-    /// The place in the list of the key that comes next, or at which it waits.
+    /// The position in the key list of the next key, or of the key at which it waits.
     place: usize,
     /// How many waits it has begun.
     waits: u32,
-    /// Whether it had to wait since it was last told to proceed, to scan once more, or that a queue is too long.
+    /// Whether it had to wait since a scan last answered that it proceeds, must scan again, or met a queue that is
+    /// too long.
     waited: bool,
-    mode: Mode,
+    mode: PlainMode,
     /// The replies of its latest scan, or of its leave.
     replies: Vec<Reply>,
 }
 
-/// Whether one of the accesses is to this key, and is such an access.
+/// Whether the accesses include this access to this key.
 fn has_access(accesses: &[(u8, Access)], key: u8, access: Access) -> bool {
     let mut found = false;
     for (named, how) in accesses {
@@ -46,8 +50,8 @@ fn has_access(accesses: &[(u8, Access)], key: u8, access: Access) -> bool {
     found
 }
 
-/// Each key once, to write it if any of its accesses is to write: those to write in byte order, then the others in byte
-/// order.
+/// The key list: each key once, as a write if any of its accesses is a write. Writes come first in byte order,
+/// then reads in byte order.
 fn list_of(alloc: Global, accesses: &[(u8, Access)]) -> Result<Vec<(u8, bool)>, AllocError> {
     let mut list = Vec::new(alloc);
     for key in 0..=255 {
@@ -63,8 +67,8 @@ fn list_of(alloc: Global, accesses: &[(u8, Access)]) -> Result<Vec<(u8, bool)>, 
     Ok(list)
 }
 
-impl Request {
-    /// It is free, at the first key of its list, and has not waited.
+impl PlainRequest {
+    /// A new request: free, at the first key of its list, without a wait.
     pub fn new(
         alloc: Global,
         pass: u32,
@@ -74,7 +78,7 @@ impl Request {
         accesses: &[(u8, Access)],
         longest: u32,
     ) -> Result<Self, AllocError> {
-        Ok(Request {
+        Ok(PlainRequest {
             pass,
             number,
             txn,
@@ -84,7 +88,7 @@ impl Request {
             place: 0,
             waits: 0,
             waited: false,
-            mode: Mode::Free,
+            mode: PlainMode::Free,
             replies: Vec::new(alloc),
         })
     }
@@ -93,54 +97,55 @@ impl Request {
         self.replies.as_slice()
     }
 
-    /// The key at a place of its list, and the look at it.
-    pub fn look_call(&self, place: usize) -> Option<(u8, Asked)> {
+    /// The key at a position of its list, and the look at it.
+    pub fn look_call(&self, place: usize) -> Option<(u8, AskedCall)> {
         let (key, _) = self.list.get(place)?;
         let number = self.number;
-        Some((*key, Asked::Look { number }))
+        Some((*key, AskedCall::Look { number }))
     }
 
     pub fn is_leaving(&self) -> bool {
-        self.mode == Mode::Leaving
+        self.mode == PlainMode::Leaving
     }
 
-    /// Whether a scan would now go on after a let, with a further key to visit.
+    /// Whether a scan would now continue after a let, with another key to visit.
     pub fn goes_on(&self, steps: &Steps) -> bool {
         self.is_let(steps) && self.place.wrapping_add(1) < self.list.len()
     }
 
-    /// Whether it was let through: it found so before, or the status word of its pass is the ticket of this very wait.
+    /// Whether it was let through: an earlier poll found so, or the status word of its pass is the ticket of this
+    /// very wait.
     fn is_let(&self, steps: &Steps) -> bool {
         match self.mode {
-            Mode::Let => true,
-            Mode::Waiting => steps.word(self.pass) == Some((self.number, self.waits)),
-            Mode::Free | Mode::Leaving => false,
+            PlainMode::Let => true,
+            PlainMode::Waiting => steps.word(self.pass) == Some((self.number, self.waits)),
+            PlainMode::Free | PlainMode::Leaving => false,
         }
     }
 
-    /// Who is let stays so until its next scan or leave.
+    /// Checks whether the wait is over. A request that was let through stays so until its next scan or leave.
     pub fn poll(&mut self, steps: &Steps) -> Poll {
         if self.is_let(steps) {
-            self.mode = Mode::Let;
+            self.mode = PlainMode::Let;
             return Poll::Through;
         }
-        if self.mode == Mode::Waiting {
+        if self.mode == PlainMode::Waiting {
             return Poll::Waiting;
         }
         Poll::Idle
     }
 
-    /// Visits key after key from its place on. Who leaves, or waits and was not let through, is refused, and nothing
-    /// changes; who was let through goes on at the next place.
-    pub fn scan(&mut self, steps: &mut Steps, max_waits: u32) -> Result<Told, AllocError> {
+    /// Visits key after key from its position on. A request that is leaving, or that waits and was not let
+    /// through, is refused, and nothing changes. One that was let through continues at the next position.
+    pub fn scan(&mut self, steps: &mut Steps, max_waits: u32) -> Result<CallOutcome, AllocError> {
         if self.is_let(steps) {
             self.place = self.place.wrapping_add(1);
-            self.mode = Mode::Free;
+            self.mode = PlainMode::Free;
         }
         match self.mode {
-            Mode::Leaving => return Ok(Told::NotScanned(ScanError::Leaving)),
-            Mode::Waiting => return Ok(Told::NotScanned(ScanError::StillWaiting)),
-            Mode::Free | Mode::Let => {}
+            PlainMode::Leaving => return Ok(CallOutcome::NotScanned(ScanError::Leaving)),
+            PlainMode::Waiting => return Ok(CallOutcome::NotScanned(ScanError::StillWaiting)),
+            PlainMode::Free | PlainMode::Let => {}
         }
         self.replies.clear();
         let list = self.list.clone()?;
@@ -150,24 +155,24 @@ impl Request {
             }
             self.place = self.place.wrapping_add(1);
         }
-        Ok(Told::Scanned(self.end_scan()))
+        Ok(CallOutcome::Scanned(self.end_scan()))
     }
 
-    /// Visits the key at its place; what the scan is told, where it ends here. Before the visit a request that has
-    /// begun as many waits as it may is refused; then comes a full history. A visit carries the number of the wait that
-    /// it would begin.
+    /// Visits the key at its position. Returns the outcome of the scan if the scan ends here. The refusals come in
+    /// this order: the request has begun as many waits as it may; the history is full. A visit carries the number
+    /// of the wait that it would begin.
     fn visit(
         &mut self,
         steps: &mut Steps,
         max_waits: u32,
         key: u8,
         is_write: bool,
-    ) -> Result<Option<Told>, AllocError> {
+    ) -> Result<Option<CallOutcome>, AllocError> {
         if self.waits >= max_waits {
-            return Ok(Some(Told::NotScanned(ScanError::WaitsOut)));
+            return Ok(Some(CallOutcome::NotScanned(ScanError::WaitsOut)));
         }
         let wait = self.waits + 1;
-        let asked = Asked::Visit {
+        let asked = AskedCall::Visit {
             number: self.number,
             wait,
             txn: self.txn,
@@ -176,54 +181,56 @@ impl Request {
             longest: self.longest,
         };
         let Some(made) = steps.make(self.pass, key, asked)? else {
-            return Ok(Some(Told::NotScanned(ScanError::HistoryFull)));
+            return Ok(Some(CallOutcome::NotScanned(ScanError::HistoryFull)));
         };
         self.replies.push(made.reply)?;
         if made.reply == Reply::TooLong {
             let place = self.place;
             self.begin_anew();
-            return Ok(Some(Told::Scanned(Scan::TooLong(place))));
+            return Ok(Some(CallOutcome::Scanned(Scan::TooLong(place))));
         }
         if made.reply != Reply::MustWait {
             return Ok(None);
         }
         self.waits = wait;
         self.waited = true;
-        self.mode = Mode::Waiting;
-        Ok(Some(Told::Scanned(Scan::Waiting(self.place))))
+        self.mode = PlainMode::Waiting;
+        Ok(Some(CallOutcome::Scanned(Scan::Waiting(self.place))))
     }
 
-    /// The place is the first again, and what was waited for is forgotten.
+    /// Goes back to the first position, and forgets that the request had to wait.
     fn begin_anew(&mut self) {
         self.place = 0;
         self.waited = false;
     }
 
-    /// At the list's end it begins anew. Who waited on the way is to scan once more.
+    /// Ends a scan that reached the end of the list, and goes back to the first position. A request that had to
+    /// wait on the way must scan once more.
     fn end_scan(&mut self) -> Scan {
         let waited = self.waited;
         self.begin_anew();
         if waited { Scan::Rescan } else { Scan::Proceed }
     }
 
-    /// One leave step at each key, in order; a leave that was refused goes on where it stopped.
-    pub fn leave(&mut self, steps: &mut Steps) -> Result<Told, AllocError> {
-        if self.mode != Mode::Leaving {
-            self.mode = Mode::Leaving;
+    /// Makes one leave step at each key, in order. After a refusal, the next leave continues where this one
+    /// stopped.
+    pub fn leave(&mut self, steps: &mut Steps) -> Result<CallOutcome, AllocError> {
+        if self.mode != PlainMode::Leaving {
+            self.mode = PlainMode::Leaving;
             self.place = 0;
             self.replies.clear();
         }
-        let asked = Asked::Leave {
+        let asked = AskedCall::Leave {
             number: self.number,
         };
         let list = self.list.clone()?;
         for (key, _) in list.iter().skip(self.place) {
             let Some(made) = steps.make(self.pass, *key, asked)? else {
-                return Ok(Told::NotLeft(StepError::HistoryFull));
+                return Ok(CallOutcome::NotLeft(StepError::HistoryFull));
             };
             self.replies.push(made.reply)?;
             self.place = self.place.wrapping_add(1);
         }
-        Ok(Told::Left)
+        Ok(CallOutcome::Left)
     }
 }

@@ -1,34 +1,38 @@
+//! Which commands does a random schedule have, and what does it expect of each?
+//! [`random_schedule`] draws commands and questions of several passes and evaluates each at once (`table`).
+//! Limits, keys and transactions are few, so that requests meet and limits are reached. Read next `tests`, which
+//! plays the schedules.
 ghost use Rattle.std.specs.Prelude.{◌<◌, ◌≤◌};
 
-use crate::schedules::cases::Counts;
-use crate::schedules::standing::Wanted;
+use crate::schedules::cases::ScheduleCaseCounts;
+use crate::schedules::standing::ExpectedAnswer;
 use crate::schedules::table::SecondTable;
 use lt_ids::Access;
 use lt_table::Config;
 use lt_test_kit::asking::Question;
-use lt_test_kit::command::{Command, Row};
-use lt_test_kit::desk::Line;
+use lt_test_kit::command::{CommandRow, TableCommand};
+use lt_test_kit::play::PlayedCommand;
 use lt_test_kit::random::Random;
 use std::alloc::Global;
 
 /// How many commands a schedule has.
 const COMMANDS: usize = 80;
 
-/// A schedule: the numbers of its table, commands with what each is to be told, what is asked behind some of them, and what
-/// the rules give in full.
+/// A schedule: the limits of its table, the commands with their expected outcomes, the questions after some of
+/// them, and the table that evaluated the rules.
 #[derive(Drop)]
 pub struct Schedule {
     pub config: Config,
-    pub rows: Vec<Row>,
-    pub lines: Vec<Line>,
-    /// What is asked behind the command at the same place.
+    pub rows: Vec<CommandRow>,
+    pub lines: Vec<PlayedCommand>,
+    /// The question after the command at the same index.
     pub questions: Vec<Option<Question>>,
-    /// What is to be answered, question after question.
-    pub wanted: Vec<Wanted>,
+    /// The expected answers, question after question.
+    pub wanted: Vec<ExpectedAnswer>,
     pub second: SecondTable,
 }
 
-/// Up to `few` in one of two cases, so that the limit is often met.
+/// A limit of 1 to `few` in half of the cases, so that it is often met; else 1000.
 fn random_limit(random: &mut Random, few: u64) -> u64
     requires some { 0 < few }
     requires small { few ≤ 1000 }
@@ -41,7 +45,8 @@ fn random_limit(random: &mut Random, few: u64) -> u64
     }
 }
 
-/// 1 to 4 passes, and more often 4: it takes three to wait in a queue behind another.
+/// 1 to 4 passes, and 4 more often than the others: one request waits behind another only with three passes or
+/// more.
 fn random_passes(random: &mut Random) -> usize
     ensures { 0 < result }
 {
@@ -65,8 +70,8 @@ fn random_config(random: &mut Random) -> Config
     }
 }
 
-/// A number below 5, and the more often the smaller it is, so that requests meet at few keys.
-fn random_place(random: &mut Random) -> u64
+/// A number below 5. Smaller ones are more frequent, so that requests meet at few keys.
+fn random_index(random: &mut Random) -> u64
     ensures { result < 5 }
 {
     let mut limit = 5;
@@ -76,10 +81,10 @@ fn random_place(random: &mut Random) -> u64
     limit - 1
 }
 
-/// A letter that names a key: A, b, C, d or E. The keys of capital letters lie on the heap, so that each call that stores a
-/// step of one takes memory.
+/// A letter that names a key: A, b, C, d or E. The keys of capital letters are stored on the heap, so that each
+/// call that stores a step of one allocates.
 fn random_key(random: &mut Random) -> u8 {
-    match random_place(random) {
+    match random_index(random) {
         0 => b'A',
         1 => b'b',
         2 => b'C',
@@ -114,7 +119,7 @@ fn random_owner(random: &mut Random) -> Option<u64> {
     }
 }
 
-/// A bound of 1 or 2 in one of two cases, and else none.
+/// A bound of 1 or 2 in half of the cases, and else none.
 fn random_bound(random: &mut Random) -> u32 {
     if random.below(2) == 0 {
         1 + random.below(2) as u32
@@ -123,8 +128,8 @@ fn random_bound(random: &mut Random) -> u32 {
     }
 }
 
-fn random_entry(alloc: Global, random: &mut Random) -> Option<Command> {
-    Some(Command::Enter {
+fn random_entry(alloc: Global, random: &mut Random) -> Option<TableCommand> {
+    Some(TableCommand::Enter {
         txn: random_owner(random),
         wall: random.below(4),
         accesses: random_accesses(alloc, random)?,
@@ -133,7 +138,7 @@ fn random_entry(alloc: Global, random: &mut Random) -> Option<Command> {
 }
 
 /// A call on the lock of a key, often by the transaction that holds it.
-fn random_lock_call(random: &mut Random, second: &SecondTable) -> Command {
+fn random_lock_call(random: &mut Random, second: &SecondTable) -> TableCommand {
     let key = random_key(random);
     let wall = random.below(4);
     let mut txn = 1 + random.below(4);
@@ -143,32 +148,33 @@ fn random_lock_call(random: &mut Random, second: &SecondTable) -> Command {
         }
     }
     match random.below(6) {
-        0 | 1 => Command::Acquire { txn, wall, key },
-        2 => Command::Update { txn, wall, key },
-        _ => Command::Finish { txn, key },
+        0 | 1 => TableCommand::Acquire { txn, wall, key },
+        2 => TableCommand::Update { txn, wall, key },
+        _ => TableCommand::Finish { txn, key },
     }
 }
 
 /// A call of a request that has entered.
-fn random_call(random: &mut Random, second: &SecondTable) -> Command {
+fn random_call(random: &mut Random, second: &SecondTable) -> TableCommand {
     match random.below(20) {
-        0..=6 => Command::Scan,
-        7 | 8 => Command::Poll,
-        9..=12 => Command::Look {
-            index: random_place(random) as usize,
+        0..=6 => TableCommand::Scan,
+        7 | 8 => TableCommand::Poll,
+        9..=12 => TableCommand::Look {
+            index: random_index(random) as usize,
         },
-        13 | 14 => Command::Leave,
+        13 | 14 => TableCommand::Leave,
         _ => random_lock_call(random, second),
     }
 }
 
-/// A command that a pass with a request can make, or one without; and now and then one that it can not.
+/// A command that the pass can make, with a request or without one. In one of 25 cases it is a command of the
+/// other kind.
 fn random_command(
     alloc: Global,
     random: &mut Random,
     second: &SecondTable,
     is_open: bool,
-) -> Option<Command> {
+) -> Option<TableCommand> {
     let is_reversed = random.below(25) == 0;
     if is_open != is_reversed {
         return Some(random_call(random, second));
@@ -179,7 +185,7 @@ fn random_command(
     random_entry(alloc, random)
 }
 
-/// A new table, and no command.
+/// A schedule for a new table, without commands.
 fn random_start(alloc: Global, random: &mut Random) -> Schedule
     ensures { 0 < result.config.passes }
 {
@@ -194,7 +200,8 @@ fn random_start(alloc: Global, random: &mut Random) -> Schedule
     }
 }
 
-/// Asks in one of four cases how a key stands, and now and then which keys of a shard have a record, if the pass can.
+/// A question for the state of a key in one of four cases. In one of eight it is for the keys of a shard that have
+/// a record, if the pass has no request.
 fn random_question(random: &mut Random, is_open: bool) -> Option<Question> {
     match random.below(8) {
         0 | 1 => Some(Question::State(random_key(random))),
@@ -203,20 +210,20 @@ fn random_question(random: &mut Random, is_open: bool) -> Option<Question> {
     }
 }
 
-/// What the rules give for a question.
-fn wanted_of(second: &SecondTable, question: Question) -> Option<Wanted> {
+/// The answer that the rules give to a question.
+fn wanted_of(second: &SecondTable, question: Question) -> Option<ExpectedAnswer> {
     match question {
-        Question::State(key) => Some(Wanted::State(second.standing(key)?)),
-        Question::Keys(key) => Some(Wanted::Keys(second.keys_beside(key)?)),
+        Question::State(key) => Some(ExpectedAnswer::State(second.standing(key)?)),
+        Question::Keys(key) => Some(ExpectedAnswer::Keys(second.keys_beside(key)?)),
     }
 }
 
-/// Adds what the pass at this place asks behind its latest command, and what the rules give for it.
+/// Adds the question, if any, that the pass at this index asks after its latest command, and the expected answer.
 fn add_question(
     random: &mut Random,
     place: usize,
     schedule: &mut Schedule,
-    counts: &mut Counts,
+    counts: &mut ScheduleCaseCounts,
 ) -> Option<()> {
     let question = random_question(random, schedule.second.stands(place).is_open);
     if let Some(question) = question {
@@ -228,13 +235,13 @@ fn add_question(
     Some(())
 }
 
-/// Adds a command by the pass at this place, and what the rules give for it.
+/// Adds a command by the pass at this index, and its expected outcome.
 fn add_command(
     alloc: Global,
     random: &mut Random,
     place: usize,
     schedule: &mut Schedule,
-    counts: &mut Counts,
+    counts: &mut ScheduleCaseCounts,
 ) -> Option<()> {
     let before = schedule.second.stands(place);
     let command = random_command(alloc, random, &schedule.second, before.is_open)?;
@@ -245,8 +252,12 @@ fn add_command(
     Some(())
 }
 
-/// The schedule of this seed. None where memory is refused.
-pub fn random_schedule(alloc: Global, seed: u64, counts: &mut Counts) -> Option<Schedule> {
+/// The schedule of this seed. `None` if an allocation fails.
+pub fn random_schedule(
+    alloc: Global,
+    seed: u64,
+    counts: &mut ScheduleCaseCounts,
+) -> Option<Schedule> {
     let mut random = Random::new(seed);
     let mut schedule = random_start(alloc, &mut random);
     let passes = schedule.config.passes as u64;

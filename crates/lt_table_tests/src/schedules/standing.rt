@@ -1,31 +1,31 @@
-//! How a key stands, by plain numbers: as the rules give it when they are read a second time, and as a table tells it.
+//! The state of a key in plain numbers: as a second reading of the rules gives it, and as a table reports it.
 use lt_plain::{QueuedRequest, QueuedWriter};
 use lt_table::KeyState;
-use lt_test_kit::second::{Stand, Time};
+use lt_test_kit::second::{PlainStand, Time};
 use std::alloc::{AllocError, Global};
 
-/// How a key stands. A stand that is not among the writers is always active here.
+/// The state of a key. A queue entry outside the writers always counts as active here.
 #[derive(Debug, PartialEq, Eq, Drop)]
 pub struct Standing {
     pub holder: Option<(u64, Time)>,
-    pub reserved: Option<Stand>,
-    /// By number.
-    pub writers: Vec<Stand>,
+    pub reserved: Option<PlainStand>,
+    /// Ordered by number.
+    pub writers: Vec<PlainStand>,
     /// The latest first.
-    pub readers: Vec<Stand>,
+    pub readers: Vec<PlainStand>,
     pub distinguished: Option<u64>,
 }
 
-/// What a table is to answer to a question.
+/// The expected answer to a question.
 #[derive(Debug, PartialEq, Eq, Drop)]
-pub enum Wanted {
+pub enum ExpectedAnswer {
     State(Standing),
     /// The letters that name the keys.
     Keys(Vec<u8>),
 }
 
 impl Standing {
-    /// Nobody holds the key, and nobody waits there.
+    /// The state of a key that has no holder, no reservation and no queued request.
     pub fn empty(alloc: Global) -> Self {
         Standing {
             holder: None,
@@ -37,8 +37,8 @@ impl Standing {
     }
 }
 
-fn stand_of(request: &QueuedRequest, active: bool) -> Stand {
-    Stand {
+fn stand_of(request: &QueuedRequest, active: bool) -> PlainStand {
+    PlainStand {
         number: request.ticket.number(),
         txn: request.txn.map(|txn| txn.number()),
         time: (request.ts.wall, request.ts.logical),
@@ -48,7 +48,7 @@ fn stand_of(request: &QueuedRequest, active: bool) -> Stand {
     }
 }
 
-fn writers_of(alloc: Global, writers: &[QueuedWriter]) -> Result<Vec<Stand>, AllocError> {
+fn writers_of(alloc: Global, writers: &[QueuedWriter]) -> Result<Vec<PlainStand>, AllocError> {
     let mut stands = Vec::new(alloc);
     for writer in writers {
         stands.push(stand_of(&writer.request, writer.active))?;
@@ -56,7 +56,7 @@ fn writers_of(alloc: Global, writers: &[QueuedWriter]) -> Result<Vec<Stand>, All
     Ok(stands)
 }
 
-fn readers_of(alloc: Global, readers: &[QueuedRequest]) -> Result<Vec<Stand>, AllocError> {
+fn readers_of(alloc: Global, readers: &[QueuedRequest]) -> Result<Vec<PlainStand>, AllocError> {
     let mut stands = Vec::new(alloc);
     for reader in readers {
         stands.push(stand_of(reader, true))?;
@@ -64,7 +64,7 @@ fn readers_of(alloc: Global, readers: &[QueuedRequest]) -> Result<Vec<Stand>, Al
     Ok(stands)
 }
 
-/// What the table tells.
+/// The state that a table reports.
 pub fn standing_of(alloc: Global, state: &KeyState) -> Result<Standing, AllocError> {
     Ok(Standing {
         holder: state

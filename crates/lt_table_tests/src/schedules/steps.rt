@@ -1,14 +1,17 @@
+//! Which key steps are made, and what is the state of the keys, by a second reading of the rules?
+//! [`Steps`] has the record of each key (`lt_test_kit::second::Second`) and every step that was made. It computes
+//! status words, queues and shards from them. Read next `request`, which makes the steps of a request.
 ghost use Rattle.std.specs.Prelude.{◌<◌};
 
 use crate::schedules::standing::Standing;
 use lt_plain::Reply;
-use lt_test_kit::second::{Let, Second, Stand, Time};
+use lt_test_kit::second::{Let, PlainStand, Second, Time};
 use std::alloc::{AllocError, Global};
 use std::collections::BTreeMap;
 
-/// What is asked of a key, by plain numbers.
+/// A call of a key, in plain numbers.
 #[derive(Clone, Copy, Debug, PartialEq, Eq)]
-pub enum Asked {
+pub enum AskedCall {
     Visit {
         number: u64,
         wait: u32,
@@ -36,33 +39,33 @@ pub enum Asked {
     },
 }
 
-/// One step of a key, by plain numbers. A key is named by a byte.
+/// One key step, in plain numbers. A key is named by a byte.
 #[derive(Drop)]
-pub struct Step {
+pub struct PlainStep {
     pub pass: u32,
     pub key: u8,
-    pub asked: Asked,
+    pub asked: AskedCall,
     pub reply: Reply,
     pub lets: Vec<Let>,
 }
 
-/// What a step answered: its reply, and how many steps its shard had made before.
+/// The answer of a step: its reply, and how many steps its shard had made before.
 #[derive(Clone, Copy)]
-pub struct Made {
+pub struct PlainAnswer {
     pub reply: Reply,
     pub at: u64,
 }
 
-/// The stand that a visit comes with.
-fn stand_of(pass: u32, asked: Asked) -> Option<Stand> {
+/// The queue entry that a visit brings. `None` for any other call.
+fn stand_of(pass: u32, asked: AskedCall) -> Option<PlainStand> {
     match asked {
-        Asked::Visit {
+        AskedCall::Visit {
             number,
             wait,
             txn,
             time,
             ..
-        } => Some(Stand {
+        } => Some(PlainStand {
             number,
             txn,
             time,
@@ -74,15 +77,15 @@ fn stand_of(pass: u32, asked: Asked) -> Option<Stand> {
     }
 }
 
-/// What the record of a key answers.
+/// Makes the call on the record of a key, and returns its reply.
 fn answer(
     record: &mut Second,
     alloc: Global,
     pass: u32,
-    asked: Asked,
+    asked: AskedCall,
 ) -> Result<Reply, AllocError> {
     match asked {
-        Asked::Visit {
+        AskedCall::Visit {
             number,
             wait,
             txn,
@@ -90,7 +93,7 @@ fn answer(
             is_write,
             longest,
         } => {
-            let stand = Stand {
+            let stand = PlainStand {
                 number,
                 txn,
                 time,
@@ -100,24 +103,25 @@ fn answer(
             };
             record.visit(alloc, &stand, longest, is_write)
         }
-        Asked::Acquire { txn, time } => record.acquire(alloc, txn, time),
-        Asked::Update { txn, time } => record.update(alloc, txn, time),
-        Asked::Finish { txn } => record.finish(alloc, txn),
-        Asked::Leave { number } => record.leave(alloc, number),
-        Asked::Look { number } => Ok(record.look(number)),
+        AskedCall::Acquire { txn, time } => record.acquire(alloc, txn, time),
+        AskedCall::Update { txn, time } => record.update(alloc, txn, time),
+        AskedCall::Finish { txn } => record.finish(alloc, txn),
+        AskedCall::Leave { number } => record.leave(alloc, number),
+        AskedCall::Look { number } => Ok(record.look(number)),
     }
 }
 
-/// The keys, and each step that was made of them, in order.
+/// The records of all keys, and each step that was made, in order.
 #[derive(Drop)]
 pub struct Steps {
     alloc: Global,
     shards: u64,
     max_steps: u64,
     keys: BTreeMap<u8, Second>,
-    made: Vec<Step>,
-    /// Of each key and number the visit that last had to wait or got the reservation, the latest last.
-    stood: Vec<(u8, Stand)>,
+    made: Vec<PlainStep>,
+    /// For each key and number, the entry of the last visit that had to wait or got the reservation. The latest is
+    /// last.
+    stood: Vec<(u8, PlainStand)>,
     ghost some_shards: { 0 < shards },
 }
 
@@ -135,25 +139,25 @@ impl Steps {
         }
     }
 
-    /// All of them.
-    pub fn all(&self) -> &[Step] {
+    /// All steps, in order.
+    pub fn all(&self) -> &[PlainStep] {
         self.made.as_slice()
     }
 
-    /// The shard of a key: the sum of its bytes modulo the number of shards. The key of a capital letter has that 61 times, any
-    /// other once.
+    /// The shard of a key: the sum of its bytes modulo the number of shards. The key of a capital letter has that
+    /// byte 61 times, any other key has its byte once.
     pub fn shard_of(&self, key: u8) -> u64 {
         let times = if key.is_ascii_uppercase() { 61 } else { 1 };
         u64::from(key).wrapping_mul(times) % self.shards
     }
 
-    /// The transaction that holds the lock of this key.
+    /// The transaction that holds the lock of this key, if any.
     pub fn holder(&self, key: u8) -> Option<u64> {
         let (txn, _) = self.keys.get(&key)?.lock().holder?;
         Some(txn)
     }
 
-    /// The status word of a pass: the request number and the wait of the last let for that pass.
+    /// The status word of a pass: the request number and the wait number of the last let for that pass.
     pub fn word(&self, pass: u32) -> Option<(u64, u32)> {
         let mut last = None;
         for step in &self.made {
@@ -178,8 +182,8 @@ impl Steps {
         count
     }
 
-    /// The request stands at the key as it came.
-    fn note(&mut self, key: u8, stand: Stand) -> Result<(), AllocError> {
+    /// Notes the entry of a request at the key. It replaces an earlier one.
+    fn note(&mut self, key: u8, stand: PlainStand) -> Result<(), AllocError> {
         let number = stand.number;
         self.stood
             .retain(|(at, old)| *at != key || old.number != number);
@@ -187,8 +191,8 @@ impl Steps {
         Ok(())
     }
 
-    /// How the request of this number stands at the key, if it does.
-    fn stand(&self, key: u8, number: u64) -> Option<Stand> {
+    /// The latest noted entry of the request of this number at the key, if any.
+    fn stand(&self, key: u8, number: u64) -> Option<PlainStand> {
         let mut found = None;
         for (at, stand) in &self.stood {
             if *at == key && stand.number == number {
@@ -198,7 +202,7 @@ impl Steps {
         found
     }
 
-    /// The numbers of all that stood at the key, the latest last.
+    /// The numbers of all requests that had an entry at the key, the latest last.
     fn numbers(&self, key: u8) -> Result<Vec<u64>, AllocError> {
         let mut numbers = Vec::new(self.alloc);
         for (at, stand) in &self.stood {
@@ -209,8 +213,8 @@ impl Steps {
         Ok(numbers)
     }
 
-    /// Who stands among the writers, by number.
-    fn writers(&self, key: u8, record: &Second) -> Result<Vec<Stand>, AllocError> {
+    /// The entries of the queued writers, ordered by number.
+    fn writers(&self, key: u8, record: &Second) -> Result<Vec<PlainStand>, AllocError> {
         let mut numbers = self.numbers(key)?;
         numbers.sort()?;
         let mut writers = Vec::new(self.alloc);
@@ -225,8 +229,9 @@ impl Steps {
         Ok(writers)
     }
 
-    /// Who waits to read, the latest first: who stands there and neither has the reservation nor is among the writers.
-    fn readers(&self, key: u8, record: &Second) -> Result<Vec<Stand>, AllocError> {
+    /// The entries of the queued readers, the latest first: the requests at the key that neither hold the
+    /// reservation nor are among the writers.
+    fn readers(&self, key: u8, record: &Second) -> Result<Vec<PlainStand>, AllocError> {
         let numbers = self.numbers(key)?;
         let mut readers = Vec::new(self.alloc);
         for number in numbers.iter().rev() {
@@ -241,7 +246,7 @@ impl Steps {
         Ok(readers)
     }
 
-    /// Who finds that it is the first to wait for the lock.
+    /// The distinguished waiter: the request whose look finds that it is the first to wait for the lock.
     fn distinguished(&self, key: u8, record: &Second) -> Option<u64> {
         let mut found = None;
         for (at, stand) in &self.stood {
@@ -254,7 +259,7 @@ impl Steps {
         found
     }
 
-    /// How the key stands.
+    /// The state of the key.
     pub fn standing(&self, key: u8) -> Result<Standing, AllocError> {
         let Some(record) = self.keys.get(&key) else {
             return Ok(Standing::empty(self.alloc));
@@ -269,7 +274,7 @@ impl Steps {
         })
     }
 
-    /// Whether somebody holds the key, or it is reserved, or somebody waits there.
+    /// Whether the key has a holder, a reservation or a queued request.
     fn has_record(&self, key: u8) -> bool {
         let Some(record) = self.keys.get(&key) else {
             return false;
@@ -279,7 +284,7 @@ impl Steps {
         lock.holder.is_some() || lock.reserved.is_some() || is_waited_for
     }
 
-    /// The letters that name keys of this key's shard that have a record, in byte order.
+    /// The letters of the keys in this key's shard that have a record, in byte order.
     pub fn keys_beside(&self, key: u8) -> Result<Vec<u8>, AllocError> {
         let shard = self.shard_of(key);
         let mut keys = Vec::new(self.alloc);
@@ -291,8 +296,9 @@ impl Steps {
         Ok(keys)
     }
 
-    /// The step that the key's record makes. A visit that has to wait, or gets the reservation, stands there from then on.
-    fn step(&mut self, pass: u32, key: u8, asked: Asked) -> Result<Step, AllocError> {
+    /// Makes the step on the key's record. The entry of a visit that must wait, or that gets the reservation, is
+    /// noted.
+    fn step(&mut self, pass: u32, key: u8, asked: AskedCall) -> Result<PlainStep, AllocError> {
         let alloc = self.alloc;
         let record = self.keys.entry(key)?.or_insert(Second::new(alloc));
         record.lets.clear();
@@ -305,7 +311,7 @@ impl Steps {
                 self.note(key, stand)?;
             }
         }
-        Ok(Step {
+        Ok(PlainStep {
             pass,
             key,
             asked,
@@ -314,8 +320,13 @@ impl Steps {
         })
     }
 
-    /// Makes the step. None, and nothing changes, where the key's shard has made as many steps as it may.
-    pub fn make(&mut self, pass: u32, key: u8, asked: Asked) -> Result<Option<Made>, AllocError> {
+    /// Makes the step. `None`, and nothing changes, if the key's shard has made as many steps as it may.
+    pub fn make(
+        &mut self,
+        pass: u32,
+        key: u8,
+        asked: AskedCall,
+    ) -> Result<Option<PlainAnswer>, AllocError> {
         let at = self.count_beside(key);
         if at >= self.max_steps {
             return Ok(None);
@@ -323,6 +334,6 @@ impl Steps {
         let step = self.step(pass, key, asked)?;
         let reply = step.reply;
         self.made.push(step)?;
-        Ok(Some(Made { reply, at }))
+        Ok(Some(PlainAnswer { reply, at }))
     }
 }

@@ -1,19 +1,22 @@
+//! What does a table answer to each call, by a second reading of the rules?
+//! [`SecondTable`] plays the commands of several passes, with none of the code of `lt_table`. Read next `request`,
+//! which has the rules of a request, and `steps`, which makes the key steps.
 ghost use Rattle.std.specs.Prelude.{◌<◌};
 
 use crate::schedules::cases::Before;
-use crate::schedules::request::Request;
+use crate::schedules::request::PlainRequest;
 use crate::schedules::standing::Standing;
-use crate::schedules::steps::{Asked, Step, Steps};
+use crate::schedules::steps::{AskedCall, PlainStep, Steps};
 use lt_ids::Access;
 use lt_plain::Reply;
 use lt_table::{Config, EnterError, StepError};
-use lt_test_kit::command::{Command, Told};
-use lt_test_kit::desk::Line;
+use lt_test_kit::command::{CallOutcome, TableCommand};
+use lt_test_kit::play::PlayedCommand;
 use lt_test_kit::second::Time;
 use std::alloc::Global;
 use std::collections::BTreeMap;
 
-/// A table of several keys and passes, by plain numbers.
+/// A table of several keys and passes, in plain numbers.
 #[derive(Drop)]
 pub struct SecondTable {
     alloc: Global,
@@ -21,30 +24,31 @@ pub struct SecondTable {
     max_waits: u32,
     draws: u64,
     steps: Steps,
-    /// The request of each pass that has one, by the place of the pass, from 0.
-    requests: BTreeMap<usize, Request>,
+    /// The request of each pass that has one, by the index of the pass, from 0.
+    requests: BTreeMap<usize, PlainRequest>,
 }
 
-/// What a call was told, and the place of its step.
-type Said = (Told, Option<u64>);
+/// The outcome of a call, and the index of its step.
+type ToldAndIndex = (CallOutcome, Option<u64>);
 
-/// The number of the pass at a place.
+/// The number of the pass at an index.
 fn pass_at(place: usize) -> Option<u32> {
     u32::try_from(place).ok()?.checked_add(1)
 }
 
-/// The key of a call on the lock of a transaction, and what is asked of it. A command's times have the logical part 0.
-fn lock_call(command: &Command) -> Option<(u8, Asked)> {
+/// The key and the call of a command that acquires, updates or finishes a lock. A command's times have the logical
+/// part 0.
+fn lock_call(command: &TableCommand) -> Option<(u8, AskedCall)> {
     match command {
-        Command::Acquire { txn, wall, key } => {
+        TableCommand::Acquire { txn, wall, key } => {
             let time = (*wall, 0);
-            Some((*key, Asked::Acquire { txn: *txn, time }))
+            Some((*key, AskedCall::Acquire { txn: *txn, time }))
         }
-        Command::Update { txn, wall, key } => {
+        TableCommand::Update { txn, wall, key } => {
             let time = (*wall, 0);
-            Some((*key, Asked::Update { txn: *txn, time }))
+            Some((*key, AskedCall::Update { txn: *txn, time }))
         }
-        Command::Finish { txn, key } => Some((*key, Asked::Finish { txn: *txn })),
+        TableCommand::Finish { txn, key } => Some((*key, AskedCall::Finish { txn: *txn })),
         _ => None,
     }
 }
@@ -63,13 +67,13 @@ impl SecondTable {
         }
     }
 
-    /// How many numbers were drawn.
+    /// How many request numbers were drawn.
     pub fn draws(&self) -> u64 {
         self.draws
     }
 
-    /// All steps, of all shards, in order.
-    pub fn steps(&self) -> &[Step] {
+    /// The steps of all shards, in order.
+    pub fn steps(&self) -> &[PlainStep] {
         self.steps.all()
     }
 
@@ -78,22 +82,23 @@ impl SecondTable {
         self.steps.shard_of(key)
     }
 
-    /// The transaction that holds the lock of this key.
+    /// The transaction that holds the lock of this key, if any.
     pub fn holder(&self, key: u8) -> Option<u64> {
         self.steps.holder(key)
     }
 
-    /// How this key stands. None where memory is refused.
+    /// The state of this key. `None` if an allocation fails.
     pub fn standing(&self, key: u8) -> Option<Standing> {
         self.steps.standing(key).ok()
     }
 
-    /// The letters of the keys of this key's shard that have a record, in byte order. None where memory is refused.
+    /// The letters of the keys in this key's shard that have a record, in byte order. `None` if an allocation
+    /// fails.
     pub fn keys_beside(&self, key: u8) -> Option<Vec<u8>> {
         self.steps.keys_beside(key).ok()
     }
 
-    /// How the pass at this place and its request stand.
+    /// The state of the pass at this index and of its request.
     pub fn stands(&self, place: usize) -> Before {
         match self.requests.get(&place) {
             Some(request) => Before {
@@ -110,14 +115,15 @@ impl SecondTable {
     }
 
     /// Makes one step.
-    fn step(&mut self, pass: u32, key: u8, asked: Asked) -> Option<Said> {
+    fn step(&mut self, pass: u32, key: u8, asked: AskedCall) -> Option<ToldAndIndex> {
         match self.steps.make(pass, key, asked).ok()? {
-            Some(made) => Some((Told::Stepped(made.reply), Some(made.at))),
-            None => Some((Told::NotStepped(StepError::HistoryFull), None)),
+            Some(made) => Some((CallOutcome::Stepped(made.reply), Some(made.at))),
+            None => Some((CallOutcome::NotStepped(StepError::HistoryFull), None)),
         }
     }
 
-    /// A request enters. One without keys is refused; then one for which no number is left. Numbers are 1, 2 and so on.
+    /// A request enters. The refusals come in this order: the request has no keys; no number is left. Numbers are
+    /// 1, 2 and so on.
     fn enter(
         &mut self,
         place: usize,
@@ -125,25 +131,27 @@ impl SecondTable {
         time: Time,
         accesses: &[(u8, Access)],
         longest: u32,
-    ) -> Option<Told> {
+    ) -> Option<CallOutcome> {
         if accesses.is_empty() {
-            return Some(Told::NotEntered(EnterError::NoKeys));
+            return Some(CallOutcome::NotEntered(EnterError::NoKeys));
         }
         if self.draws >= self.max_requests {
-            return Some(Told::NotEntered(EnterError::NumbersOut));
+            return Some(CallOutcome::NotEntered(EnterError::NumbersOut));
         }
         self.draws += 1;
         let number = self.draws;
         let pass = pass_at(place)?;
-        let request = Request::new(self.alloc, pass, number, txn, time, accesses, longest).ok()?;
+        let request = PlainRequest::new(
+            self.alloc, pass, number, txn, time, accesses, longest,
+        ).ok()?;
         self.requests.insert(place, request).ok()?;
-        Some(Told::Entered(number))
+        Some(CallOutcome::Entered(number))
     }
 
     /// A call of a pass without a request.
-    fn by_pass(&mut self, place: usize, command: &Command) -> Option<Said> {
+    fn by_pass(&mut self, place: usize, command: &TableCommand) -> Option<ToldAndIndex> {
         match command {
-            Command::Enter {
+            TableCommand::Enter {
                 txn,
                 wall,
                 accesses,
@@ -152,10 +160,10 @@ impl SecondTable {
                 self.enter(place, *txn, (*wall, 0), accesses, *longest)?,
                 None,
             )),
-            Command::EnterMany { .. } => None,
+            TableCommand::EnterMany { .. } => None,
             _ => match lock_call(command) {
                 Some((key, asked)) => self.step(pass_at(place)?, key, asked),
-                None => Some((Told::Nothing, None)),
+                None => Some((CallOutcome::Nothing, None)),
             },
         }
     }
@@ -164,37 +172,40 @@ impl SecondTable {
     fn by_request(
         &mut self,
         place: usize,
-        request: &mut Request,
-        command: &Command,
-    ) -> Option<Said> {
+        request: &mut PlainRequest,
+        command: &TableCommand,
+    ) -> Option<ToldAndIndex> {
         let call = match command {
-            Command::Scan => {
+            TableCommand::Scan => {
                 return Some((request.scan(&mut self.steps, self.max_waits).ok()?, None));
             }
-            Command::Poll => return Some((Told::Polled(request.poll(&self.steps)), None)),
-            Command::Leave => return Some((request.leave(&mut self.steps).ok()?, None)),
-            Command::Look { index } => request.look_call(*index),
+            TableCommand::Poll => return Some((
+                CallOutcome::Polled(request.poll(&self.steps)),
+                None,
+            )),
+            TableCommand::Leave => return Some((request.leave(&mut self.steps).ok()?, None)),
+            TableCommand::Look { index } => request.look_call(*index),
             _ => lock_call(command),
         };
         match call {
             Some((key, asked)) => self.step(pass_at(place)?, key, asked),
-            None => Some((Told::Nothing, None)),
+            None => Some((CallOutcome::Nothing, None)),
         }
     }
 
-    /// Plays a command by the pass at this place, from 0. None where memory is refused, or for a command that no
+    /// Plays a command by the pass at this index, from 0. `None` if an allocation fails, or for a command that no
     /// schedule has.
-    pub fn play(&mut self, place: usize, command: &Command) -> Option<Line> {
+    pub fn play(&mut self, place: usize, command: &TableCommand) -> Option<PlayedCommand> {
         let Some(mut request) = self.requests.remove(&place) else {
             let (told, at) = self.by_pass(place, command)?;
             let replies: Vec<Reply> = Vec::new(self.alloc);
-            return Some(Line { told, replies, at });
+            return Some(PlayedCommand { told, replies, at });
         };
         let (told, at) = self.by_request(place, &mut request, command)?;
         let replies = Vec::from_slice(self.alloc, request.replies()).ok()?;
-        if told != Told::Left {
+        if told != CallOutcome::Left {
             self.requests.insert(place, request).ok()?;
         }
-        Some(Line { told, replies, at })
+        Some(PlayedCommand { told, replies, at })
     }
 }

@@ -1,18 +1,21 @@
+//! Do both tables agree with a second reading of the rules, also when an allocation fails?
+//! Each seed gives one schedule. It is played on a linked and on a plain table, and every outcome, answer and
+//! history is compared with what the schedule expects. Read next `schedule`.
 use crate::linked::run;
-use crate::schedules::cases::Counts;
+use crate::schedules::cases::ScheduleCaseCounts;
 use crate::schedules::plain::run_plain;
 use crate::schedules::schedule::{Schedule, random_schedule};
-use crate::schedules::standing::{Standing, Wanted, standing_of};
-use crate::schedules::steps::{Asked, Step};
+use crate::schedules::standing::{ExpectedAnswer, Standing, standing_of};
+use crate::schedules::steps::{AskedCall, PlainStep};
 use lt_entry::Entry;
 use lt_ids::{Access, Key, Timestamp, TxnId};
 use lt_plain::{Call, Reply};
 use lt_table::{KeyState, ScanError};
-use lt_test_kit::asking::Sight;
-use lt_test_kit::command::{TableCall, Told};
-use lt_test_kit::desk::Line;
+use lt_test_kit::asking::TableAnswer;
+use lt_test_kit::command::{CallOutcome, TableCall};
 use lt_test_kit::key::key_length;
-use lt_test_kit::run::Ran;
+use lt_test_kit::play::PlayedCommand;
+use lt_test_kit::run::TableRun;
 use lt_test_kit::second::{Let, Time};
 use std::alloc::{AllocError, Global};
 use std::io::Write;
@@ -28,7 +31,7 @@ fn number_of(txn: Option<TxnId>) -> Option<u64> {
     Some(txn?.number())
 }
 
-fn asked_of(call: &Call) -> Asked {
+fn asked_of(call: &Call) -> AskedCall {
     match *call {
         Call::Visit {
             ticket,
@@ -36,7 +39,7 @@ fn asked_of(call: &Call) -> Asked {
             ts,
             access,
             longest,
-        } => Asked::Visit {
+        } => AskedCall::Visit {
             number: ticket.number(),
             wait: ticket.wait(),
             txn: number_of(txn),
@@ -44,17 +47,17 @@ fn asked_of(call: &Call) -> Asked {
             is_write: access == Access::Write,
             longest,
         },
-        Call::Acquire { txn, ts } => Asked::Acquire {
+        Call::Acquire { txn, ts } => AskedCall::Acquire {
             txn: txn.number(),
             time: time_of(ts),
         },
-        Call::Update { txn, ts } => Asked::Update {
+        Call::Update { txn, ts } => AskedCall::Update {
             txn: txn.number(),
             time: time_of(ts),
         },
-        Call::Finish { txn } => Asked::Finish { txn: txn.number() },
-        Call::Leave { number } => Asked::Leave { number },
-        Call::Look { number } => Asked::Look { number },
+        Call::Finish { txn } => AskedCall::Finish { txn: txn.number() },
+        Call::Leave { number } => AskedCall::Leave { number },
+        Call::Look { number } => AskedCall::Look { number },
     }
 }
 
@@ -66,20 +69,27 @@ fn lets_of(alloc: Global, entry: &Entry) -> Result<Vec<Let>, AllocError> {
     Ok(lets)
 }
 
-/// Whether the line has these replies. After a scan that was refused memory and made again, the guard tells those of the
-/// further one alone, until it scans again or leaves.
-fn has_replies(ran: &Ran, line: &Line, wanted: &[Reply]) -> bool {
+/// Whether the line has these replies. After a scan that ran out of memory and was made again, the guard has only
+/// the replies of the second scan, until it scans again or leaves.
+fn has_replies(ran: &TableRun, line: &PlayedCommand, wanted: &[Reply]) -> bool {
     let is_aside = match line.told {
-        Told::Scanned(_) | Told::NotScanned(ScanError::HistoryFull) => false,
-        Told::NotScanned(ScanError::WaitsOut) | Told::Left | Told::NotLeft(_) => false,
+        CallOutcome::Scanned(_) | CallOutcome::NotScanned(ScanError::HistoryFull) => false,
+        CallOutcome::NotScanned(ScanError::WaitsOut)
+        | CallOutcome::Left
+        | CallOutcome::NotLeft(_) => false,
         _ => true,
     };
     let replies = line.replies.as_slice();
     replies == wanted || ran.refused.len() == 1 && is_aside && wanted.ends_with(replies)
 }
 
-/// Each command was told what the rules give, with the same replies and at the same place.
-fn compare_lines<R: Abort>(rt: &R, seed: u64, schedule: &Schedule, ran: &Ran) -> Result<(), Fail> {
+/// Asserts that each command has the expected outcome, replies and index.
+fn compare_lines<R: Abort>(
+    rt: &R,
+    seed: u64,
+    schedule: &Schedule,
+    ran: &TableRun,
+) -> Result<(), Fail> {
     assert_eq!(rt; ran.lines.len(), schedule.lines.len());
     let mut number = 0u64;
     for (line, wanted) in ran.lines.iter().zip(&schedule.lines) {
@@ -98,19 +108,19 @@ fn compare_lines<R: Abort>(rt: &R, seed: u64, schedule: &Schedule, ran: &Ran) ->
     Ok(())
 }
 
-/// The key is the one that the letter names.
+/// Whether the letter names this key.
 fn is_key(key: &Key, letter: u8) -> bool {
     let bytes = key.as_bytes();
     bytes.len() == key_length(letter) && bytes.iter().all(|byte| *byte == letter)
 }
 
-/// The entry is this step.
+/// Asserts that the history entry is this step.
 fn compare_entry<R: Abort>(
     rt: &R,
     alloc: Global,
     seed: u64,
     entry: &Entry,
-    step: &Step,
+    step: &PlainStep,
 ) -> Result<(), Fail> {
     assert!(rt; is_key(entry.key(), step.key), "the key, seed {seed}");
     assert_eq!(rt; entry.pass(), step.pass, "the pass, seed {seed}");
@@ -128,7 +138,7 @@ fn compare_entry<R: Abort>(
     Ok(())
 }
 
-/// The history is that of the shard at this place, from 0.
+/// Asserts that the history has the expected steps of the shard at this index, from 0.
 fn compare_history<R: Abort>(
     rt: &R,
     alloc: Global,
@@ -148,7 +158,7 @@ fn compare_history<R: Abort>(
     Ok(())
 }
 
-/// The key stands so.
+/// Asserts that the key has the expected state.
 fn compare_standing<R: Abort>(
     rt: &R,
     alloc: Global,
@@ -164,7 +174,7 @@ fn compare_standing<R: Abort>(
     Ok(())
 }
 
-/// The keys are those that the letters name, in their order.
+/// Whether the letters name these keys, in this order.
 fn are_keys(keys: &[Key], letters: &[u8]) -> bool {
     keys.len() == letters.len()
         && keys
@@ -173,19 +183,19 @@ fn are_keys(keys: &[Key], letters: &[u8]) -> bool {
             .all(|(key, letter)| is_key(key, *letter))
 }
 
-/// The table answered as the rules give.
+/// Asserts that the table gave the expected answer.
 fn compare_sight<R: Abort>(
     rt: &R,
     alloc: Global,
     seed: u64,
-    sight: &Sight,
-    wanted: &Wanted,
+    sight: &TableAnswer,
+    wanted: &ExpectedAnswer,
 ) -> Result<(), Fail> {
     match (sight, wanted) {
-        (Sight::State(state), Wanted::State(standing)) => {
+        (TableAnswer::State(state), ExpectedAnswer::State(standing)) => {
             compare_standing(rt, alloc, seed, state, standing)
         }
-        (Sight::Keys(keys), Wanted::Keys(letters)) => {
+        (TableAnswer::Keys(keys), ExpectedAnswer::Keys(letters)) => {
             assert!(rt; are_keys(keys, letters), "the keys of a shard, seed {seed}");
             Ok(())
         }
@@ -193,13 +203,13 @@ fn compare_sight<R: Abort>(
     }
 }
 
-/// Each question was answered as the rules give.
+/// Asserts that each question got the expected answer.
 fn compare_sights<R: Abort>(
     rt: &R,
     alloc: Global,
     seed: u64,
     schedule: &Schedule,
-    ran: &Ran,
+    ran: &TableRun,
 ) -> Result<(), Fail> {
     assert_eq!(rt; ran.sights.len(), schedule.wanted.len(), "seed {seed}");
     for (sight, wanted) in ran.sights.iter().zip(&schedule.wanted) {
@@ -208,13 +218,13 @@ fn compare_sights<R: Abort>(
     Ok(())
 }
 
-/// The run came out as the rules give, and no more than one call was refused memory.
+/// Asserts that the run has the expected results, and that at most one call ran out of memory.
 fn compare<R: Abort>(
     rt: &R,
     alloc: Global,
     seed: u64,
     schedule: &Schedule,
-    ran: &Ran,
+    ran: &TableRun,
 ) -> Result<(), Fail> {
     compare_lines(rt, seed, schedule, ran)?;
     compare_sights(rt, alloc, seed, schedule, ran)?;
@@ -237,9 +247,9 @@ fn compare<R: Abort>(
     Ok(())
 }
 
-/// The schedule, run by `make`, and once more where memory was refused outside of its rows. It tells the call that was
-/// refused.
-fn compare_run<R: Abort, F: Fn() -> Result<Ran, TableCall>>(
+/// Runs the schedule by `make`, and once more if an allocation failed outside its rows. Asserts the expected
+/// results, and returns the call that ran out of memory, if any.
+fn compare_run<R: Abort, F: Fn() -> Result<TableRun, TableCall>>(
     rt: &R,
     alloc: Global,
     seed: u64,
@@ -261,13 +271,13 @@ fn compare_run<R: Abort, F: Fn() -> Result<Ran, TableCall>>(
     }
 }
 
-/// One schedule on both tables. What was refused memory beside a call is done again. It tells the call of the linked table
-/// and that of the plain one that was refused.
+/// Plays one schedule on both tables. What runs out of memory outside a call is done again. Returns the call that
+/// ran out of memory on the linked table, and on the plain one.
 fn compare_both<R: Abort + Wait>(
     rt: &R,
     alloc: Global,
     seed: u64,
-    counts: &mut Counts,
+    counts: &mut ScheduleCaseCounts,
 ) -> Result<[Option<TableCall>; 2], Fail> {
     let mut schedule = random_schedule(alloc, seed, counts);
     if schedule.is_none() {
@@ -294,7 +304,7 @@ fn compare_both<R: Abort + Wait>(
     Ok([linked, plain])
 }
 
-/// Says which call of which table was refused, if one was.
+/// Prints which call of which table ran out of memory, if any.
 fn tell<W: Write>(
     alloc: Global,
     writer: &mut W,
@@ -310,7 +320,7 @@ fn tell<W: Write>(
 
 #[test]
 fn both_tables_agree_with_the_rules_read_a_second_time(rt: HostRuntime) -> Result<(), Fail> {
-    let mut counts = Counts::new();
+    let mut counts = ScheduleCaseCounts::new();
     for seed in 0..1_000 {
         compare_both(&rt, rt.alloc(), seed, &mut counts)?;
     }
@@ -318,11 +328,12 @@ fn both_tables_agree_with_the_rules_read_a_second_time(rt: HostRuntime) -> Resul
     Ok(())
 }
 
-/// Few schedules, for whoever refuses each of their allocations in turn: a call that was refused is made again, and all
-/// comes out as ever. It prints which call of which table was refused.
+/// Few schedules, for fault injection, which makes each of their allocations fail in turn. The call that ran out
+/// of memory is made again, and the results are the same as without a failure. The test prints which call of which
+/// table it was.
 #[test]
 fn schedules_come_out_alike_whatever_is_refused(rt: HostRuntime) -> Result<(), Fail> {
-    let mut counts = Counts::new();
+    let mut counts = ScheduleCaseCounts::new();
     for seed in 0..5 {
         let [linked, plain] = compare_both(&rt, rt.alloc(), seed, &mut counts)?;
         tell(rt.alloc(), &mut rt.stdout(), "linked", linked).ok_or("a line")?;

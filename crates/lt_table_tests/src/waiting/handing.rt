@@ -1,4 +1,6 @@
-//! Two threads hand a key to one another: the one that holds its lock frees it as soon as the other has begun to wait.
+//! Is a let missed if it comes just before its request goes to sleep?
+//! Two threads take turns at the lock of one key. The thread that holds it frees it as soon as the other thread
+//! has begun to wait. Read next `tests`, which says how many turns they take.
 ghost use Rattle.std.specs.Prelude.{◌≡◌, IfSome};
 
 use crate::waiting::queue::{Caller, TIME, enter, hold, leave};
@@ -15,7 +17,7 @@ use std::sync::Wait;
 use std::sync::atomic::{AtomicU64, Ordering};
 use std::thread::{Threads, join, yield_now};
 
-/// How often a thread looks at most whether the other has come.
+/// How often a thread checks at most whether the other one has begun to wait.
 const LOOKS: u32 = 100_000_000;
 
 /// The key, and how many waits have begun at it.
@@ -25,8 +27,8 @@ struct Post {
     waits: AtomicU64,
 }
 
-/// Looks until so many waits have begun, and then lets a moment go by, which is another each time: up to 63 turns of a loop.
-/// Whether they have.
+/// Spins until `many` waits have begun, and then for a moment more, whose length varies from wait to wait: up to
+/// 63 turns of a loop. False if the waits do not begin within `LOOKS` checks.
 fn await_waits(post: &Post, many: u64) -> bool {
     for look in 0..LOOKS {
         if post.waits.load(Ordering::SeqCst) >= many {
@@ -42,7 +44,8 @@ fn await_waits(post: &Post, many: u64) -> bool {
     false
 }
 
-/// The request has to wait, tells so, and sleeps until it is let through. Whether it was.
+/// Scans, announces that this wait has begun, and sleeps until the request is let through. False if the request
+/// need not wait or is not let through.
 fn wait_at<N: Name, T: KeyTable, R: Wait>(
     rt: &R,
     table: &Table<N, T>,
@@ -60,7 +63,7 @@ fn wait_at<N: Name, T: KeyTable, R: Wait>(
     table.wait(rt, guard) == Poll::Through
 }
 
-/// A request comes to write the key, waits, takes the lock, and leaves. It is the wait of this number.
+/// A request enters to write the key, waits, takes the lock and leaves. `number` counts the waits of both threads.
 fn come<N: Name, T: KeyTable, R: Wait>(
     rt: &R,
     alloc: Global,
@@ -83,7 +86,7 @@ fn come<N: Name, T: KeyTable, R: Wait>(
     }
 }
 
-/// Frees the lock once so many waits have begun.
+/// Frees the lock once `many` waits have begun.
 fn free<N: Name, T: KeyTable, R: Wait>(
     rt: &R,
     table: &Table<N, T>,
@@ -103,7 +106,7 @@ fn free<N: Name, T: KeyTable, R: Wait>(
     }
 }
 
-/// The thread that holds the lock first: it frees it and comes again, so many times.
+/// The thread that holds the lock first. It frees the lock and then waits for it again, `turns` times.
 fn free_and_come<N: Name, T: KeyTable, R: Wait>(
     rt: &R,
     alloc: Global,
@@ -122,7 +125,7 @@ fn free_and_come<N: Name, T: KeyTable, R: Wait>(
     Some(waits)
 }
 
-/// The other one: it comes and frees the lock, so many times.
+/// The other thread. It waits for the lock and then frees it, `turns` times.
 fn come_and_free<N: Name, T: KeyTable, R: Wait>(
     rt: &R,
     alloc: Global,
@@ -141,8 +144,8 @@ fn come_and_free<N: Name, T: KeyTable, R: Wait>(
     Some(waits)
 }
 
-/// Both threads at once; transaction 1 holds the lock first.
-fn hand_on<N: Name + Send + Sync, T: KeyTable + Send, R: Threads + Wait + Sync>(
+/// Runs both threads at once. Transaction 1 holds the lock first.
+fn run_both<N: Name + Send + Sync, T: KeyTable + Send, R: Threads + Wait + Sync>(
     rt: &R,
     alloc: Global,
     table: &Table<N, T>,
@@ -175,10 +178,11 @@ fn hand_named<N: Name + Send + Sync, R: Threads + Wait + Sync>(
     requires { ready.of ≡ N.of }
 {
     let (table, passes) = open::<N>(alloc, ready).ok()?;
-    hand_on(rt, alloc, &table, seated::<N>(alloc, passes)?, turns)
+    run_both(rt, alloc, &table, seated::<N>(alloc, passes)?, turns)
 }
 
-/// Two threads take so many turns each at one key; how many waits each of them saw. The table records no steps.
+/// Two threads take `turns` turns each at one key. Returns how many waits each of them counted. The table records
+/// no steps.
 pub fn hand_over<R: Threads + Wait + Sync>(
     rt: &R,
     alloc: Global,

@@ -1,4 +1,7 @@
-//! Passes are lent to threads, in a holder that may be dropped.
+//! How can a program lend passes to threads, although a pass may not be dropped?
+//! A [`LentSeat`] holds a pass and may be dropped; its pass is then given up. Two threads work with the seats that
+//! they are lent, and then the table is closed with both passes. Read next `queue`, which moves its seats into the
+//! threads.
 ghost use Rattle.std.specs.Prelude.{◌≡◌, IfSome};
 ghost use Rattle.std.specs.Option.{ForSome};
 ghost use Rattle.std.specs.List.{All};
@@ -15,16 +18,17 @@ use std::mem;
 use std::sync::Wait;
 use std::thread::{Threads, join};
 
-/// A thread's place at the table that `N` names. Unlike a pass it may be dropped: its pass is then given up.
-pub struct Seat<N: Name> {
+/// Holds a thread's pass for the table that `N` names. Unlike a pass, it may be dropped: its pass is then given
+/// up.
+pub struct LentSeat<N: Name> {
     pass: Option<Pass>,
     name: PhantomData<N>,
     pub ghost of: { ForSome pass (λ p. p.of ≡ N.of) },
 }
 
-impl<N: Name> Drop for Seat<N> {
+impl<N: Name> Drop for LentSeat<N> {
     fn drop(self) {
-        let Seat { pass, name: _ } = self;
+        let LentSeat { pass, name: _ } = self;
         give_up(pass);
     }
 }
@@ -35,24 +39,24 @@ fn give_up(pass: Option<Pass>) {
     }
 }
 
-impl<N: Name> Seat<N> {
-    pub fn new(pass: Pass) -> Seat<N>
+impl<N: Name> LentSeat<N> {
+    pub fn new(pass: Pass) -> LentSeat<N>
         requires { pass.of ≡ N.of }
     {
-        Seat {
+        LentSeat {
             pass: Some(pass),
             name: PhantomData,
         }
     }
 
-    /// Takes the pass out, if it is there.
+    /// Takes the pass out, if the seat holds one.
     pub fn take(&mut self) -> Option<Pass>
         ensures { IfSome result (λ pass. pass.of ≡ N.of) }
     {
         self.pass.take()
     }
 
-    /// Puts the pass back.
+    /// Puts the pass back. A pass that the seat still holds is given up.
     pub fn put(&mut self, pass: Pass)
         requires { pass.of ≡ N.of }
     {
@@ -60,12 +64,12 @@ impl<N: Name> Seat<N> {
     }
 }
 
-/// The request enters to write the key. Where it is refused, the pass is back in the seat.
+/// A request enters to write the key. If it is refused, the pass goes back into the seat.
 fn enter<N: Name, T: KeyTable, R: Wait>(
     rt: &R,
     alloc: Global,
     table: &Table<N, T>,
-    seat: &mut Seat<N>,
+    seat: &mut LentSeat<N>,
     key: &Key,
     txn: TxnId,
 ) -> Option<Guard>
@@ -83,8 +87,8 @@ fn enter<N: Name, T: KeyTable, R: Wait>(
     }
 }
 
-/// Whether the transaction holds the lock that it asked for. It may not: of two requests that met no lock, both proceeded,
-/// and the other one's transaction came first.
+/// Whether the transaction got the lock. It may not: if two requests meet no lock, both proceed, and the other
+/// transaction may take the lock first.
 fn is_ours(answered: Result<Answer, StepError>) -> bool {
     match answered {
         Ok(answer) => matches!(&answer.reply, Reply::Taken | Reply::Raised | Reply::Kept),
@@ -92,13 +96,13 @@ fn is_ours(answered: Result<Answer, StepError>) -> bool {
     }
 }
 
-/// A thread's work: its request enters, waits for its turn, locks the key and leaves, whatever came before; then the lock
-/// comes free, and the pass goes back into the seat.
+/// A thread's work. Its request enters, waits for its turn, takes the lock and leaves. It leaves also if an
+/// earlier call failed. Then the lock is freed, and the pass goes back into the seat.
 fn work<N: Name, T: KeyTable, R: Wait>(
     rt: &R,
     alloc: Global,
     table: &Table<N, T>,
-    seat: &mut Seat<N>,
+    seat: &mut LentSeat<N>,
     key: &Key,
     txn: TxnId,
 ) -> Option<()> {
@@ -115,13 +119,13 @@ fn work<N: Name, T: KeyTable, R: Wait>(
     }
 }
 
-/// Two threads work at a key each, with the seats that they are lent.
+/// Two threads work at one key each, with the seats that they are lent.
 fn work_on_two<N: Name + Send + Sync, T: KeyTable + Send, R: Threads + Wait + Sync>(
     rt: &R,
     alloc: Global,
     table: &Table<N, T>,
-    one: &mut Seat<N>,
-    other: &mut Seat<N>,
+    one: &mut LentSeat<N>,
+    other: &mut LentSeat<N>,
 ) -> Option<()> {
     let (key, other_key) = (
         Key::from_bytes(alloc, b"a").ok()?,
@@ -138,11 +142,11 @@ fn work_on_two<N: Name + Send + Sync, T: KeyTable + Send, R: Threads + Wait + Sy
     also_done
 }
 
-/// Puts the passes of both seats among those that a close takes.
+/// Moves the passes of both seats into the seats that a close takes.
 fn back<N: Name>(
     alloc: Global,
-    mut one: Seat<N>,
-    mut other: Seat<N>,
+    mut one: LentSeat<N>,
+    mut other: LentSeat<N>,
 ) -> Option<Vec<lt_test_kit::seat::Seat<N>>> {
     let mut seats = Vec::new(alloc);
     seats.push(lt_test_kit::seat::Seat::free(one.take()?)).ok()?;
@@ -152,16 +156,16 @@ fn back<N: Name>(
     Some(seats)
 }
 
-/// The seat of one of the passes.
-fn seat_of<N: Name>(passes: &mut Vec<Pass>) -> Option<Seat<N>>
+/// A seat for the last of the passes.
+fn seat_of<N: Name>(passes: &mut Vec<Pass>) -> Option<LentSeat<N>>
     requires { All (λ p. p.of ≡ N.of) passes.old.items }
     ensures { All (λ p. p.of ≡ N.of) passes.new.items }
 {
-    Some(Seat::new(passes.pop()?))
+    Some(LentSeat::new(passes.pop()?))
 }
 
 /// A seat for each of two passes.
-fn seats_of<N: Name>(mut passes: Vec<Pass>) -> Option<(Seat<N>, Seat<N>)>
+fn seats_of<N: Name>(mut passes: Vec<Pass>) -> Option<(LentSeat<N>, LentSeat<N>)>
     requires { All (λ p. p.of ≡ N.of) passes.items }
 {
     let one = seat_of(&mut passes);
@@ -184,7 +188,7 @@ fn lent_named<N: Name + Send + Sync, R: Threads + Wait + Sync>(
     Some(histories.shards.first()?.len())
 }
 
-/// Two threads that are lent a pass each work at one key. The answer is how many steps were made.
+/// Two threads, each of which is lent a pass, work at one key each. Returns how many steps were made.
 pub fn lend_to_two<R: Threads + Wait + Sync>(rt: &R, alloc: Global) -> Option<usize> {
     let config = Config {
         shards: 1,

@@ -1,4 +1,6 @@
-//! Threads wait at one key, and take their turns.
+//! Do threads that wait at one key sleep, and then take their turns in order?
+//! [`take_turns`] has threads wait at a key that is held, and then frees its lock. It reports the order in which
+//! the requests took the lock, and how much processor time the process used while they waited. Read next `tests`.
 ghost use Rattle.std.specs.Prelude.{◌≡◌, ◌<◌, IfSome};
 
 use lt_ids::{Access, Key, Timestamp, TxnId};
@@ -20,15 +22,15 @@ pub const TIME: Timestamp = Timestamp {
     logical: 0,
 };
 
-/// How many milliseconds the holder keeps the lock once all wait.
+/// How many milliseconds the holder keeps the lock after all requests have begun to wait.
 const HELD: u64 = 200;
 
-/// What came of the turns.
+/// The results of a run.
 #[derive(Drop)]
 pub struct Turns {
     /// The numbers of the requests, in the order in which they took the lock.
     pub numbers: Vec<u64>,
-    /// How much processor time all threads took while all waited and the holder slept.
+    /// How much processor time the process used while all requests waited and the holder slept.
     pub processor: Duration,
     /// How many steps were made.
     pub steps: usize,
@@ -41,7 +43,7 @@ pub struct Caller<N: Name> {
     pub txn: TxnId,
 }
 
-/// The request enters to write the key.
+/// A request enters to write the key.
 pub fn enter<N: Name, T: KeyTable, W: Waker, R: Wait>(
     rt: &R,
     alloc: Global,
@@ -64,7 +66,8 @@ pub fn enter<N: Name, T: KeyTable, W: Waker, R: Wait>(
     }
 }
 
-/// Scans until the request proceeds, and sleeps where it has to wait. Whether all went well.
+/// Scans until the request proceeds, and sleeps whenever it must wait. False if a call has any other answer, or
+/// after 1000 scans.
 pub fn proceed<N: Name, T: KeyTable, R: Wait>(
     rt: &R,
     table: &Table<N, T>,
@@ -88,7 +91,7 @@ pub fn proceed<N: Name, T: KeyTable, R: Wait>(
     false
 }
 
-/// Notes its number, and takes the lock. Whether all went well.
+/// Notes the request's number and takes the lock. Whether both succeeded.
 fn take<N: Name, T: KeyTable, R: Wait>(
     rt: &R,
     table: &Table<N, T>,
@@ -105,7 +108,7 @@ fn take<N: Name, T: KeyTable, R: Wait>(
     table.acquire_in(rt, guard, key, txn, TIME).is_ok() && is_noted
 }
 
-/// The guard leaves.
+/// The request leaves.
 pub fn leave<N: Name, T: KeyTable, W: Waker, R: Wait>(
     rt: &R,
     table: &Table<N, T, W>,
@@ -123,7 +126,7 @@ pub fn leave<N: Name, T: KeyTable, W: Waker, R: Wait>(
     }
 }
 
-/// A thread's turn: it enters, waits, takes the lock, leaves and frees the lock.
+/// A thread's turn: its request enters, waits, takes the lock and leaves, and then the lock is freed.
 fn turn<N: Name, T: KeyTable, R: Wait>(
     rt: &R,
     alloc: Global,
@@ -145,7 +148,7 @@ fn turn<N: Name, T: KeyTable, R: Wait>(
     }
 }
 
-/// Waits until so many stand among the writers of the key. Whether they came.
+/// Waits until `many` requests are queued to write the key. False if a check fails, or after 10,000 checks.
 fn await_writers<N: Name, T: KeyTable, R: Wait + Clock>(
     rt: &R,
     table: &Table<N, T>,
@@ -170,7 +173,7 @@ fn await_writers<N: Name, T: KeyTable, R: Wait + Clock>(
     false
 }
 
-/// Frees the lock once so many wait, and tells how much processor time all took while they waited.
+/// Frees the lock once `many` requests wait. Returns how much processor time the process used while they waited.
 fn free_when<N: Name, T: KeyTable, R: Wait + Clock + CpuClock>(
     rt: &R,
     table: &Table<N, T>,
@@ -282,7 +285,8 @@ fn turns_named<N: Name + Send + Sync, R: Threads + Wait + Clock + CpuClock + Syn
     })
 }
 
-/// So many threads wait at one key that is held, sleep until it comes free, and take their turns.
+/// As many threads as `threads` says wait at one key that is held, sleep until it comes free, and take their
+/// turns.
 pub fn take_turns<R: Threads + Wait + Clock + CpuClock + Sync>(
     rt: &R,
     alloc: Global,

@@ -1,3 +1,4 @@
+//! Callers sleep, wake in order, miss no let, and stop waiting when their time is up.
 use crate::waiting::handing::hand_over;
 use crate::waiting::lent::lend_to_two;
 use crate::waiting::queue::take_turns;
@@ -7,14 +8,14 @@ use lt_table::{Keeping, Poll};
 use std::test::Fail;
 use std::time::Duration;
 
-/// How many turns each of two threads takes. In each turn both wait once: these are 100,000 waits.
+/// How many turns each of two threads takes. Both wait once in each turn, which makes 100,000 waits.
 const TURNS: u64 = 50_000;
 
 /// How many threads wait at one key.
 const THREADS: usize = 64;
 
-/// So many threads wait at one key for 200 milliseconds. They take next to no processor time meanwhile, and then go on in the
-/// order of their numbers.
+/// `THREADS` threads wait at one key for 200 milliseconds. Meanwhile they use less than 10 milliseconds of
+/// processor time, and then they take the lock in the order of their numbers.
 #[test]
 fn threads_sleep_and_go_in_order(rt: HostRuntime) -> Result<(), Fail> {
     let turns = take_turns(&rt, rt.alloc(), THREADS).ok_or("the turns")?;
@@ -32,8 +33,8 @@ fn threads_sleep_and_go_in_order(rt: HostRuntime) -> Result<(), Fail> {
     Ok(())
 }
 
-/// A thread begins to wait and tells so, and the other one lets it through at once, mostly between its last poll and its
-/// sleep. If that let were missed, it would sleep for ever, and the test would not end.
+/// A thread begins to wait and announces it. The other thread lets it through at once, mostly between its last
+/// poll and its sleep. If that let were missed, the thread would sleep forever and the test would not end.
 #[test]
 fn a_let_before_the_sleep_is_not_missed(rt: HostRuntime) -> Result<(), Fail> {
     let waits = hand_over(&rt, rt.alloc(), TURNS).ok_or("the turns")?;
@@ -41,8 +42,8 @@ fn a_let_before_the_sleep_is_not_missed(rt: HostRuntime) -> Result<(), Fail> {
     Ok(())
 }
 
-/// A step lets a writer and two readers through: the waker is told of each once, with its pass, its number and its wait, and
-/// each poll after that hears it.
+/// One step lets a writer and two readers through. The waker is told of each let once, with its pass, request
+/// number and wait number, and each poll after that reports the let.
 #[test]
 fn a_waker_is_told_of_each_let_once(rt: HostRuntime) -> Result<(), Fail> {
     let woken = wake_three(&rt, rt.alloc()).ok_or("the lets")?;
@@ -54,7 +55,7 @@ fn a_waker_is_told_of_each_let_once(rt: HostRuntime) -> Result<(), Fail> {
     Ok(())
 }
 
-/// A wait ends at its time, and a later one where the request is let through.
+/// A wait ends at its time, and a later wait ends when the request is let through.
 #[test]
 fn a_wait_ends_at_its_time(rt: HostRuntime) -> Result<(), Fail> {
     let timed = wait_twice(&rt, rt.alloc(), Keeping::Whole).ok_or("the waits")?;
@@ -64,7 +65,7 @@ fn a_wait_ends_at_its_time(rt: HostRuntime) -> Result<(), Fail> {
     Ok(())
 }
 
-/// So does a wait of a table whose steps can be taken out.
+/// The same on a table whose steps can be taken out.
 #[test]
 fn a_wait_of_a_streamed_table_ends_at_its_time(rt: HostRuntime) -> Result<(), Fail> {
     let timed = wait_twice(&rt, rt.alloc(), Keeping::Streamed).ok_or("the waits")?;
@@ -74,7 +75,7 @@ fn a_wait_of_a_streamed_table_ends_at_its_time(rt: HostRuntime) -> Result<(), Fa
     Ok(())
 }
 
-/// So does a wait of a table that stores no steps.
+/// The same on a table that stores no steps.
 #[test]
 fn a_wait_of_an_unrecorded_table_ends_at_its_time(rt: HostRuntime) -> Result<(), Fail> {
     let timed = wait_twice(&rt, rt.alloc(), Keeping::Unrecorded).ok_or("the waits")?;
@@ -84,7 +85,8 @@ fn a_wait_of_an_unrecorded_table_ends_at_its_time(rt: HostRuntime) -> Result<(),
     Ok(())
 }
 
-/// Two threads that are lent a pass each lock a key each: each visits it, locks it, leaves and frees it.
+/// Two threads, each of which is lent a pass, work at one key each. A visit, an acquire, a leave and a finish are
+/// four steps at each key.
 #[test]
 fn two_threads_are_lent_their_passes(rt: HostRuntime) -> Result<(), Fail> {
     let steps = lend_to_two(&rt, rt.alloc()).ok_or("the threads")?;

@@ -1,4 +1,5 @@
-//! A wait that ends at a time.
+//! Does a wait with a deadline end there, and a later wait when the request is let through?
+//! A request waits at a held key until a deadline, and then until the lock comes free. Read next `tests`.
 ghost use Rattle.std.specs.Prelude.{◌≡◌};
 
 use crate::waiting::queue::{enter, hold, leave};
@@ -13,7 +14,7 @@ use std::marker::Brand;
 use std::sync::Wait;
 use std::time::{Clock, Duration, Instant};
 
-/// What came of a wait with a time, and of one after the lock was freed.
+/// The answer of a wait with a deadline and how long it took, and the answer of a wait after the lock was freed.
 #[derive(Drop)]
 pub struct Timed {
     pub first: Poll,
@@ -36,7 +37,7 @@ fn wait_for<N: Name, T: KeyTable, R: Wait + Clock>(
     Some((found, start.elapsed(rt).ok()?))
 }
 
-/// The waits of a request that has scanned.
+/// Scans, waits until a deadline, frees the lock by the holder's pass, and waits again.
 fn both<N: Name, T: KeyTable, R: Wait + Clock>(
     rt: &R,
     table: &Table<N, T>,
@@ -92,8 +93,8 @@ fn timed_named<N: Name, R: Wait + Clock>(rt: &R, alloc: Global, ready: Ready) ->
     timed_on(rt, alloc, &table, seated::<N>(alloc, passes)?)
 }
 
-/// A request waits at a key that is held: for a time, and then until it is let through. The table keeps its steps in this
-/// way.
+/// A request waits at a key that is held: for 30 milliseconds, and then until it is let through. The table keeps
+/// its steps in the way of `keeping`.
 pub fn wait_twice<R: Wait + Clock>(rt: &R, alloc: Global, keeping: Keeping) -> Option<Timed> {
     let config = Config {
         shards: 1,

@@ -1,4 +1,6 @@
-//! A waker is told of each let.
+//! Is a waker told of each let once?
+//! [`wake_three`] opens a table with a waker that notes what it is told. Three requests wait at a key, and one
+//! step lets all of them through. Read next `tests`.
 ghost use Rattle.std.specs.Prelude.{◌≡◌};
 
 use crate::waiting::queue::{TIME, hold};
@@ -13,18 +15,18 @@ use std::marker::Brand;
 use std::sync::Wait;
 use std::sync::atomic::{AtomicU64, AtomicUsize, Ordering};
 
-/// What a waker was told: how often, and the first four times the pass, the number and the wait, as one number of three
-/// digits.
+/// What a waker was told: how often, and for the first four times the pass, the request number and the wait
+/// number, as one number of three digits.
 #[derive(Drop)]
-pub struct Notes {
+pub struct WakerNotes {
     count: AtomicUsize,
     told: [AtomicU64; 4],
 }
 
-/// Notes what it is told.
+/// A waker that notes what it is told.
 #[derive(Drop)]
 struct Noting<'a> {
-    notes: &'a Notes,
+    notes: &'a WakerNotes,
 }
 
 impl<'a> Waker for Noting<'a> {
@@ -36,7 +38,7 @@ impl<'a> Waker for Noting<'a> {
     }
 }
 
-/// The pass, the number and the wait, one digit each.
+/// The pass, the request number and the wait number, one digit each.
 fn digits_of(pass: u32, ticket: Ticket) -> u64 {
     let first = u64::from(pass).wrapping_mul(100);
     let second = ticket.number().wrapping_mul(10);
@@ -45,9 +47,9 @@ fn digits_of(pass: u32, ticket: Ticket) -> u64 {
         .wrapping_add(u64::from(ticket.wait()))
 }
 
-impl Notes {
+impl WakerNotes {
     fn new() -> Self {
-        Notes {
+        WakerNotes {
             count: AtomicUsize::new(0),
             told: [
                 AtomicU64::new(0),
@@ -58,7 +60,7 @@ impl Notes {
         }
     }
 
-    /// All that it was told, the smallest first.
+    /// All that the waker was told, the smallest first.
     fn all(&self, alloc: Global) -> Option<Vec<u64>> {
         let mut all = Vec::new(alloc);
         for told in self.told.iter().take(self.count.load(Ordering::SeqCst)) {
@@ -69,17 +71,17 @@ impl Notes {
     }
 }
 
-/// What came of it: how often the waker was called before the lock was freed, what it was told afterwards, and what the
-/// requests then polled.
+/// The results of a run: how often the waker was called before the lock was freed, what it was told by the end and
+/// how often, and what the requests then polled.
 #[derive(Drop)]
-pub struct Woken {
+pub struct WokenCallers {
     pub early: usize,
     pub told: Vec<u64>,
     pub count: usize,
     pub polls: Vec<Poll>,
 }
 
-/// A request of this transaction comes and has to wait.
+/// A request of this transaction enters and must wait.
 fn come<N: Name, T: KeyTable, W: Waker, R: Wait>(
     rt: &R,
     alloc: Global,
@@ -107,7 +109,7 @@ fn come<N: Name, T: KeyTable, W: Waker, R: Wait>(
     }
 }
 
-/// Each seat's request comes: the first to write, the others to read.
+/// A request enters by each seat: the first to write, the others to read.
 fn come_all<N: Name, T: KeyTable, W: Waker, R: Wait>(
     rt: &R,
     alloc: Global,
@@ -146,7 +148,7 @@ fn poll_all<N: Name, T: KeyTable, W: Waker>(
     Some(polls)
 }
 
-/// The lock is freed.
+/// Frees the lock.
 fn free<N: Name, T: KeyTable, W: Waker, R: Wait>(
     rt: &R,
     table: &Table<N, T, W>,
@@ -161,21 +163,21 @@ fn free<N: Name, T: KeyTable, W: Waker, R: Wait>(
     Some(())
 }
 
-/// The last pass takes the lock of a key, the others come and wait for it, and it is freed.
+/// The last pass takes the lock of a key, requests of the other passes wait for it, and the lock is freed.
 fn wake_on<N: Name, T: KeyTable, W: Waker, R: Wait>(
     rt: &R,
     alloc: Global,
     table: &Table<N, T, W>,
     mut seats: Vec<Seat<N>>,
-    notes: &Notes,
-) -> Option<Woken> {
+    notes: &WakerNotes,
+) -> Option<WokenCallers> {
     let key = Key::from_bytes(alloc, b"key").ok()?;
     let txn = TxnId::new(9)?;
     let holder = hold(rt, table, seats.pop()?, &key, txn)?;
     let waiting = come_all(rt, alloc, table, seats, &key)?;
     let early = notes.count.load(Ordering::SeqCst);
     free(rt, table, holder, &key, txn)?;
-    Some(Woken {
+    Some(WokenCallers {
         early,
         told: notes.all(alloc)?,
         count: notes.count.load(Ordering::SeqCst),
@@ -183,17 +185,17 @@ fn wake_on<N: Name, T: KeyTable, W: Waker, R: Wait>(
     })
 }
 
-fn wake_named<N: Name, R: Wait>(rt: &R, alloc: Global, ready: Ready) -> Option<Woken>
+fn wake_named<N: Name, R: Wait>(rt: &R, alloc: Global, ready: Ready) -> Option<WokenCallers>
     requires { ready.of ≡ N.of }
 {
-    let notes = Notes::new();
+    let notes = WakerNotes::new();
     let waker = Noting { notes: &notes };
     let (table, passes) = open_waking::<N, Noting<'_>>(alloc, ready, waker).ok()?;
     wake_on(rt, alloc, &table, seated::<N>(alloc, passes)?, &notes)
 }
 
-/// One step lets a writer and two readers through, by passes 1, 2 and 3.
-pub fn wake_three<R: Wait>(rt: &R, alloc: Global) -> Option<Woken> {
+/// One step lets a writer and two readers through, which wait by passes 1, 2 and 3.
+pub fn wake_three<R: Wait>(rt: &R, alloc: Global) -> Option<WokenCallers> {
     let config = Config {
         shards: 1,
         passes: 4,

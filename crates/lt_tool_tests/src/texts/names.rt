@@ -1,3 +1,6 @@
+//! Do the names of the texts keep their values and their ranges?
+//! A row is a name at or just outside the limits of its range, and what `lt_ids` makes of it: keys, tickets,
+//! transactions and requests. Read next `scripts` and `histories`, the texts in which the names occur.
 use lt_ids::{IdError, Key, Request, Ticket, Timestamp, TxnId};
 use std::alloc::Global;
 use std::test::Fail;
@@ -24,7 +27,7 @@ fn keys_are_up_to_64_printable_bytes(rt: HostRuntime) -> Result<(), Fail> {
     Ok(())
 }
 
-/// The key, and a copy of it, each by a second call where the first one was refused memory.
+/// The key and a copy of it, each from a second call if the first runs out of memory.
 fn key_and_copy(alloc: Global, bytes: &[u8]) -> Result<(Key, Key), Fail> {
     let key = match Key::from_bytes(alloc, bytes) {
         Err(IdError::Memory) => Key::from_bytes(alloc, bytes)?,
@@ -37,7 +40,7 @@ fn key_and_copy(alloc: Global, bytes: &[u8]) -> Result<(Key, Key), Fail> {
     Ok((key, copy))
 }
 
-/// Up to 22 bytes lie in the key, and more elsewhere.
+/// A key stores up to 22 bytes in itself, and more elsewhere.
 #[test]
 fn a_short_key_and_a_long_one_keep_their_bytes(rt: HostRuntime) -> Result<(), Fail> {
     for (bytes, shorter) in [
@@ -74,7 +77,7 @@ fn a_ticket_is_a_number_and_a_wait_in_one_word(rt: HostRuntime) -> Result<(), Fa
     Ok(())
 }
 
-/// A ticket is shown as its number and its wait, with a dot between them.
+/// A ticket is shown as its request number and its wait number, with a dot between them.
 #[test]
 fn a_ticket_is_shown_as_its_number_and_its_wait(rt: HostRuntime) -> Result<(), Fail> {
     for (number, wait, text) in [

@@ -1,5 +1,10 @@
+//! Is a script read as its commands, or refused with its first faulty line and that line's first fault?
+//! A row is a text and what `read_script` gives for it. A call that runs out of memory is made again. Read next
+//! `docs/FORMATS.md`, which has the lines and the order of the faults.
 use lt_ids::{Access, Key, Timestamp, TxnId};
-use lt_script::{Accesses, Action, Command, Fault, Script, ScriptError, ScriptPass, read_script};
+use lt_script::{
+    Accesses, Action, Command, Script, ScriptError, ScriptFault, ScriptPass, read_script,
+};
 use std::alloc::{AllocError, Global};
 use std::test::*;
 
@@ -52,7 +57,7 @@ fn mixed(alloc: Global) -> Option<Vec<Command>> {
     Some(commands)
 }
 
-/// What is read, at the second call where the first one was refused memory.
+/// What the text is read as, by a second call if the first runs out of memory.
 fn read_bytes(rt: &HostRuntime, text: &[u8]) -> Result<Script, ScriptError> {
     match read_script(rt.alloc(), text) {
         Err(ScriptError::Memory) => read_script(rt.alloc(), text),
@@ -64,7 +69,7 @@ fn read(rt: &HostRuntime, text: &str) -> Result<Script, ScriptError> {
     read_bytes(rt, text.as_bytes())
 }
 
-/// Skipped lines count, each line may end in either way, and spaces may stand around words.
+/// Skipped lines count in the numbers of lines, a line may end with LF or CR LF, and spaces may surround words.
 #[test]
 fn lines_are_counted_and_words_are_cut(rt: HostRuntime) -> Result<(), Fail> {
     let script = read(&rt, MIXED)?;
@@ -87,7 +92,7 @@ fn many_lines(alloc: Global) -> Result<Vec<u8>, AllocError> {
     Ok(text)
 }
 
-/// A script may have any number of lines.
+/// The number of lines in a script is not limited.
 #[test]
 fn a_script_of_5000_lines_is_read_whole(rt: HostRuntime) -> Result<(), Fail> {
     let text = match many_lines(rt.alloc()) {
@@ -101,7 +106,7 @@ fn a_script_of_5000_lines_is_read_whole(rt: HostRuntime) -> Result<(), Fail> {
     Ok(())
 }
 
-/// The keys that the first line asks for, if it opens a request.
+/// The accesses of the first line, if it opens a request.
 fn opened(script: &Script) -> Option<&[(Key, Access)]> {
     match &script.as_slice().first()?.action {
         Action::Open { accesses, .. } => Some(accesses.as_slice()),
@@ -114,7 +119,7 @@ fn named(script: &Script, place: usize) -> Option<(&[u8], Access)> {
     Some((key.as_bytes(), *access))
 }
 
-/// A request names no key, or several, in the order of its line, and one may stand there twice.
+/// A request names no keys or several, in the order of its line. A key may occur twice.
 #[test]
 fn a_request_names_any_number_of_keys(rt: HostRuntime) -> Result<(), Fail> {
     let none = read(&rt, "1 open 7 1.0")?;
@@ -127,7 +132,7 @@ fn a_request_names_any_number_of_keys(rt: HostRuntime) -> Result<(), Fail> {
     Ok(())
 }
 
-/// The bound that the first line gives its request, and how many keys that has.
+/// The bound that the first line gives its request, and how many accesses the request has.
 fn bounded(script: &Script) -> Option<(u32, usize)> {
     match &script.as_slice().first()?.action {
         Action::Open {
@@ -139,7 +144,7 @@ fn bounded(script: &Script) -> Option<(u32, usize)> {
     }
 }
 
-/// A bound is the fifth word alone, and not where that is a key with its access.
+/// Only the fifth word can be a bound, and only if it is not a key with its access.
 #[test]
 fn a_bound_stands_before_the_keys(rt: HostRuntime) -> Result<(), Fail> {
     for (text, longest, keys) in [
@@ -167,78 +172,82 @@ fn a_bound_stands_before_the_keys(rt: HostRuntime) -> Result<(), Fail> {
     Ok(())
 }
 
-fn first_fault(read: Result<Script, ScriptError>) -> Option<(usize, Fault)> {
+fn first_fault(read: Result<Script, ScriptError>) -> Option<(usize, ScriptFault)> {
     match read {
         Err(ScriptError::Fault { line, fault }) => Some((line, fault)),
         _ => None,
     }
 }
 
-/// The first fault of each line, in the order of the faults.
+/// Each row is a text, its first faulty line, and the first fault of that line in the order of the faults.
 #[test]
 fn each_fault_is_told_with_its_line(rt: HostRuntime) {
     for (text, line, fault) in [
-        ("0 scan", 1, Fault::BadPass),
-        ("65 scan", 1, Fault::BadPass),
-        ("01 scan", 1, Fault::BadPass),
-        ("\t1 scan", 1, Fault::BadPass),
-        (" # no comment", 1, Fault::BadPass),
-        ("1 jump", 1, Fault::BadCall),
-        ("1", 1, Fault::BadCall),
-        ("1 scan\r", 1, Fault::BadCall),
-        ("1 scan now", 1, Fault::BadWords),
-        ("1 open", 1, Fault::BadWords),
-        ("1 open 0", 1, Fault::BadWords),
-        ("1 open 0 1.0", 1, Fault::BadTxn),
-        ("1 open 0 01.0 a b", 1, Fault::BadTxn),
-        ("1 open 7 a:r b:r", 1, Fault::BadTime),
-        ("1 open - 01.0 max=0 a", 1, Fault::BadTime),
-        ("1 open -- 1.0 a:r", 1, Fault::BadTxn),
-        ("1 open 0 1.0 max=0 a", 1, Fault::BadTxn),
-        ("1 acquire - 1.0 a", 1, Fault::BadTxn),
-        ("1 update - 1.0 a", 1, Fault::BadTxn),
-        ("1 finish - a", 1, Fault::BadTxn),
-        ("1 open 7 1.0 max=0 a:r", 1, Fault::BadMax),
-        ("1 open 7 1.0 max=0 a", 1, Fault::BadMax),
-        ("1 open 7 1.0 max=01 a:r", 1, Fault::BadMax),
-        ("1 open 7 1.0 max=4294967296 a:r", 1, Fault::BadMax),
-        ("1 open 7 1.0 max=", 1, Fault::BadMax),
-        ("1 open 7 1.0 max=+5", 1, Fault::BadMax),
-        ("1 open 7 1.0 max=5: a:r", 1, Fault::BadMax),
-        ("1 open 7 1.0 max=5:x", 1, Fault::BadMax),
-        ("1 open 7 1.0 max=5 max=5", 1, Fault::BadAccess),
-        ("1 open 7 1.0 a:r max=5", 1, Fault::BadAccess),
-        ("1 open 7 1.0 max", 1, Fault::BadAccess),
-        ("1 open 7 1.0 max5 a:r", 1, Fault::BadAccess),
-        ("1 open 7 1.0 MAX=5 a:r", 1, Fault::BadAccess),
-        ("1 open 7 1.0 max=5 :r", 1, Fault::BadKey),
-        ("1 open 7 1.0 a:r b", 1, Fault::BadAccess),
-        ("1 open 7 1.0 a:r :w", 1, Fault::BadKey),
-        ("1 open 7 1.0 a:r b:x :r", 1, Fault::BadAccess),
-        ("1 open 7 1.0 a:r :r b:x", 1, Fault::BadKey),
-        ("1 acquire 7 01.0 a", 1, Fault::BadTime),
-        ("1 acquire 7 1.4294967296 a", 1, Fault::BadTime),
-        ("1 open 7 1.0 :r", 1, Fault::BadKey),
-        ("1 open 7 1.0 a", 1, Fault::BadAccess),
-        ("1 finish 18446744073709551616 k", 1, Fault::BadTxn),
-        ("1 acq", 1, Fault::BadCall),
-        ("1 acquire 7 20", 1, Fault::BadWords),
+        ("0 scan", 1, ScriptFault::BadPass),
+        ("65 scan", 1, ScriptFault::BadPass),
+        ("01 scan", 1, ScriptFault::BadPass),
+        ("\t1 scan", 1, ScriptFault::BadPass),
+        (" # no comment", 1, ScriptFault::BadPass),
+        ("1 jump", 1, ScriptFault::BadCall),
+        ("1", 1, ScriptFault::BadCall),
+        ("1 scan\r", 1, ScriptFault::BadCall),
+        ("1 scan now", 1, ScriptFault::BadWords),
+        ("1 open", 1, ScriptFault::BadWords),
+        ("1 open 0", 1, ScriptFault::BadWords),
+        ("1 open 0 1.0", 1, ScriptFault::BadTxn),
+        ("1 open 0 01.0 a b", 1, ScriptFault::BadTxn),
+        ("1 open 7 a:r b:r", 1, ScriptFault::BadTime),
+        ("1 open - 01.0 max=0 a", 1, ScriptFault::BadTime),
+        ("1 open -- 1.0 a:r", 1, ScriptFault::BadTxn),
+        ("1 open 0 1.0 max=0 a", 1, ScriptFault::BadTxn),
+        ("1 acquire - 1.0 a", 1, ScriptFault::BadTxn),
+        ("1 update - 1.0 a", 1, ScriptFault::BadTxn),
+        ("1 finish - a", 1, ScriptFault::BadTxn),
+        ("1 open 7 1.0 max=0 a:r", 1, ScriptFault::BadMax),
+        ("1 open 7 1.0 max=0 a", 1, ScriptFault::BadMax),
+        ("1 open 7 1.0 max=01 a:r", 1, ScriptFault::BadMax),
+        ("1 open 7 1.0 max=4294967296 a:r", 1, ScriptFault::BadMax),
+        ("1 open 7 1.0 max=", 1, ScriptFault::BadMax),
+        ("1 open 7 1.0 max=+5", 1, ScriptFault::BadMax),
+        ("1 open 7 1.0 max=5: a:r", 1, ScriptFault::BadMax),
+        ("1 open 7 1.0 max=5:x", 1, ScriptFault::BadMax),
+        ("1 open 7 1.0 max=5 max=5", 1, ScriptFault::BadAccess),
+        ("1 open 7 1.0 a:r max=5", 1, ScriptFault::BadAccess),
+        ("1 open 7 1.0 max", 1, ScriptFault::BadAccess),
+        ("1 open 7 1.0 max5 a:r", 1, ScriptFault::BadAccess),
+        ("1 open 7 1.0 MAX=5 a:r", 1, ScriptFault::BadAccess),
+        ("1 open 7 1.0 max=5 :r", 1, ScriptFault::BadKey),
+        ("1 open 7 1.0 a:r b", 1, ScriptFault::BadAccess),
+        ("1 open 7 1.0 a:r :w", 1, ScriptFault::BadKey),
+        ("1 open 7 1.0 a:r b:x :r", 1, ScriptFault::BadAccess),
+        ("1 open 7 1.0 a:r :r b:x", 1, ScriptFault::BadKey),
+        ("1 acquire 7 01.0 a", 1, ScriptFault::BadTime),
+        ("1 acquire 7 1.4294967296 a", 1, ScriptFault::BadTime),
+        ("1 open 7 1.0 :r", 1, ScriptFault::BadKey),
+        ("1 open 7 1.0 a", 1, ScriptFault::BadAccess),
+        ("1 finish 18446744073709551616 k", 1, ScriptFault::BadTxn),
+        ("1 acq", 1, ScriptFault::BadCall),
+        ("1 acquire 7 20", 1, ScriptFault::BadWords),
         (
             "1 acquire 7 20.0 a\n2 open 8 19.4294967295 a",
             2,
-            Fault::BadAccess,
+            ScriptFault::BadAccess,
         ),
         (
             "1 acquire 7 20.0 a\n2 open 8 19.4294967295 a:",
             2,
-            Fault::BadAccess,
+            ScriptFault::BadAccess,
         ),
         (
             "1 open 1 1.0 kkkkkkkkkkkkkkkkkkkkkkkkkkkkkkkkkkkkkkkkkkkkkkkkkkkkkkkkkkkkkkkkk:r",
             1,
-            Fault::BadKey,
+            ScriptFault::BadKey,
         ),
-        ("# 0\n\n1 leave\r\n1 look \x7f\n0 scan", 4, Fault::BadKey),
+        (
+            "# 0\n\n1 leave\r\n1 look \x7f\n0 scan",
+            4,
+            ScriptFault::BadKey,
+        ),
     ] {
         assert_eq!(rt; first_fault(read(&rt, text)), Some((line, fault)), "{text}");
     }

@@ -1,4 +1,8 @@
-//! Steps of one key on one thread: the lock is taken, a request waits to write, and the lock is freed.
+//! What do the steps of one shard answer and show, on one thread? [`run`] makes three steps at one key;
+//! [`let_two`] makes one step that lets two requests of one pass through.
+//!
+//! In [`run`] transaction 9 takes the lock, a request of another pass waits to write, and the lock is freed. The
+//! shard may make three steps, so a fourth is refused. [`crate::shard::tests`] compares the results.
 ghost use Rattle.std.specs.Prelude.{◌≡◌, ◌<◌, ◌≤◌, IfSome};
 ghost use Rattle.std.specs.FinMap as finmap;
 ghost use Rattle.lt_entry.specs.Ranges.{NamesNumber};
@@ -12,27 +16,27 @@ use std::alloc::Global;
 use std::marker::Brand;
 use std::sync::Wait;
 
-/// A step that was made, and whether one was refused before, for want of memory.
+/// The answer of a step, and whether its first attempt ran out of memory.
 #[derive(Drop)]
-pub struct Made {
+pub struct StepTried {
     pub answer: Answer,
     pub was_refused: bool,
 }
 
-/// What came of the steps.
+/// The results of [`run`].
 #[derive(Drop)]
-pub struct Ran {
-    pub taken: Made,
-    pub waits: Made,
-    pub freed: Made,
+pub struct ShardRun {
+    pub taken: StepTried,
+    pub waits: StepTried,
+    pub freed: StepTried,
     pub full: Result<Answer, StepError>,
-    /// How many steps the two passes counted.
+    /// How many steps each of the two passes counts at the shard.
     pub counts: (u64, u64),
     pub shown: u64,
     pub stored: usize,
 }
 
-/// The calls, in order.
+/// The calls of [`run`], in order.
 #[derive(Drop)]
 pub struct Calls {
     pub acquire: Call,
@@ -40,7 +44,7 @@ pub struct Calls {
     pub finish: Call,
 }
 
-/// A visit to read of a transaction with the request's number.
+/// A visit to read, at time 10. The transaction's number is that of the request.
 fn visit(number: u64) -> Option<Call>
     ensures { IfSome result (λ c. NamesNumber c) }
 {
@@ -82,7 +86,8 @@ fn make_calls() -> Option<Calls>
     })
 }
 
-/// Makes a step, once more if memory was refused. A refused step must have left the history and the counts as they were.
+/// Makes a step, and makes it again if it runs out of memory. The failed attempt must have left the history and
+/// the pass's count unchanged; otherwise the result is an error.
 fn make<N: Name, T: KeyTable, R: Wait>(
     rt: &R,
     book: &Book,
@@ -90,7 +95,7 @@ fn make<N: Name, T: KeyTable, R: Wait>(
     pass: &mut Pass,
     key: &Key,
     call: &Call,
-) -> Result<Made, StepError>
+) -> Result<StepTried, StepError>
     requires book { book.now ≡ N.of }
     requires pass { pass.old.of ≡ N.of }
     requires home { shard.old.index ≡ shard_of key.now N.of.shards }
@@ -103,7 +108,7 @@ fn make<N: Name, T: KeyTable, R: Wait>(
     let stored = shard.history().len();
     let count = pass.count(place);
     match shard.step(rt, book, pass, key, call) {
-        Ok(answer) => Ok(Made {
+        Ok(answer) => Ok(StepTried {
             answer,
             was_refused: false,
         }),
@@ -113,7 +118,7 @@ fn make<N: Name, T: KeyTable, R: Wait>(
                 return Err(StepError::Memory);
             }
             let answer = shard.step(rt, book, pass, key, call)?;
-            Ok(Made {
+            Ok(StepTried {
                 answer,
                 was_refused: true,
             })
@@ -131,7 +136,7 @@ fn run_named<N: Name, T: KeyTable + Drop, R: Wait>(
     two: &mut Pass,
     key: &Key,
     calls: &Calls,
-) -> Result<Ran, StepError>
+) -> Result<ShardRun, StepError>
     requires book { book.now ≡ N.of }
     requires shards { N.of.shards ≡ shards }
     requires some { 0 < shards }
@@ -150,7 +155,7 @@ fn run_named<N: Name, T: KeyTable + Drop, R: Wait>(
     let counts = (one.count(place), two.count(place));
     let shown = book.read(two);
     let stored = shard.into_history().len();
-    Ok(Ran {
+    Ok(ShardRun {
         taken,
         waits,
         freed,
@@ -161,7 +166,7 @@ fn run_named<N: Name, T: KeyTable + Drop, R: Wait>(
     })
 }
 
-/// A new book, and its two passes.
+/// Opens a book with two passes. None if an allocation fails.
 fn open_two(alloc: Global, shards: usize) -> Option<(Book, Pass, Pass)>
     requires some { 0 < shards }
     requires few { shards ≤ 64 }
@@ -183,8 +188,8 @@ fn open_two(alloc: Global, shards: usize) -> Option<(Book, Pass, Pass)>
     Some((book, one, two))
 }
 
-/// The steps of a book that is opened for them. None where memory was refused outside the steps.
-pub fn run<R: Wait>(rt: &R, alloc: Global) -> Option<Ran> {
+/// Opens a book with two shards, and makes the steps of a shard. None if an allocation outside the steps fails.
+pub fn run<R: Wait>(rt: &R, alloc: Global) -> Option<ShardRun> {
     let key = Key::from_bytes(alloc, b"a").ok()?;
     let calls = make_calls()?;
     let (book, mut one, mut two) = open_two(alloc, 2)?;
@@ -226,8 +231,9 @@ fn let_two_named<N: Name, T: KeyTable + Drop, R: Wait>(
     Ok((before, book.read(two)))
 }
 
-/// The second pass waits to read with two requests of these numbers, in this order, and one step lets both through: what it
-/// reads before and after that step. None where memory was refused outside the steps.
+/// Two requests with these numbers, both of the second pass, wait to read, in this order. One step lets both
+/// through. The result is the pass's status word before and after that step. None if an allocation outside the
+/// steps fails.
 pub fn let_two<R: Wait>(rt: &R, alloc: Global, first: u64, second: u64) -> Option<(u64, u64)> {
     let key = Key::from_bytes(alloc, b"a").ok()?;
     let calls = make_calls()?;

@@ -1,3 +1,4 @@
+//! The tests of a shard's steps. [`crate::shard::run`] makes the steps; the tests compare the answers and the words.
 use crate::shard::run::{let_two, run};
 use lt_ids::Ticket;
 use lt_plain::Reply;
@@ -31,8 +32,8 @@ fn a_shard_steps_shows_a_let_and_fills_up(rt: HostRuntime) -> Result<(), Fail> {
     Ok(())
 }
 
-/// One step lets two tickets of a pass through: the word of that pass is then the higher one, 2.1, a number times 2^24, and
-/// the wait, in whichever order they came.
+/// One step lets two tickets of a pass through. The pass's status word is then the greater ticket, whichever
+/// request came first: request 2, wait 1, which is 2 * 2^24 + 1.
 #[test]
 fn of_two_lets_of_a_pass_its_word_is_the_higher(rt: HostRuntime) -> Result<(), Fail> {
     for (first, second) in [(1, 2), (2, 1)] {

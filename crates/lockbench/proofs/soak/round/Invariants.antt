@@ -1,5 +1,5 @@
 use Rattle.lockbench.proofs.soak.round.Given as goal
 
--- the name of the book that was just opened
+-- Instantiates the name with the book that was prepared for this round.
 abbrev pub ghosts-play_named : goal.ghosts-play_named
 ghosts-play_named g a = record { of = a.ready.of }

@@ -17,13 +17,13 @@ pub put_request-requires : goal.put_request-requires
 put_request-requires c =
     let here = rw c.in-Some.is at c.loop-at.invariant in
     subst IsNamed (stand_is c.args.links.now c.in-Some.node c.stand-stand.result c.stand-stand.ensures.stand)
-    (all_at IsNamed c.args.links.now c.in-Some.node (queue c.args.links.now c.args.queue.now) here.place c.requires.named)
+    (all_at IsNamed c.args.links.now c.in-Some.node (queue c.args.links.now c.args.queue.now) here.position c.requires.named)
 
 pub loop-at-smaller : goal.loop-at-smaller
 loop-at-smaller c =
     let here = rw c.in-Some.is at c.loop-at.invariant in
     let l : List ℕ = queue c.args.links.now c.args.queue.now in
-    rw c.in-Some.is (rest_falls c.in-Some.node c.next-at.result l here.place (c.first-at.ensures.sound.queues_distinct c.args.queue.now) (c.next-at.ensures.next c.args.queue.now))
+    rw c.in-Some.is (rest_falls c.in-Some.node c.next-at.result l here.position (c.first-at.ensures.sound.queues_distinct c.args.queue.now) (c.next-at.ensures.next c.args.queue.now))
 
 pub loop-at-preserved : goal.loop-at-preserved
 loop-at-preserved c =

@@ -17,7 +17,7 @@ returns-then-eq-clause-found c =
 pub loop-at-smaller : goal.loop-at-smaller
 loop-at-smaller c =
     let here = rw c.in-Some.is at c.loop-at.invariant in
-    rw c.in-Some.is (rest_falls c.in-Some.node c.owner_next-at.result (owned c.args.links.now c.args.number) here.place (c.owner_first-at.ensures.sound.numbers_distinct c.args.number) (c.owner_next-at.ensures.next c.args.number))
+    rw c.in-Some.is (rest_falls c.in-Some.node c.owner_next-at.result (owned c.args.links.now c.args.number) here.position (c.owner_first-at.ensures.sound.numbers_distinct c.args.number) (c.owner_next-at.ensures.next c.args.number))
 
 pub loop-at-preserved : goal.loop-at-preserved
 loop-at-preserved c =

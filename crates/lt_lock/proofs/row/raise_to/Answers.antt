@@ -4,7 +4,7 @@ use Rattle.std.specs.Prelude.{nat_eq, not}
 use Rattle.lt_plain.specs.Rules.{Record, through_of, settle}
 use Rattle.lt_plain.specs.Lawful.{numbers}
 use Rattle.lt_links.specs.declared.ids.QueueKind.TheVariants.{Readers}
-use Rattle.lt_lock.specs.declared.walk.Who.TheVariants.{Below}
+use Rattle.lt_lock.specs.declared.queue_walk.Selection.TheVariants.{Below}
 use Rattle.lt_lock.specs.Found.{leaves, goes_on}
 use Rattle.lt_lock.specs.Linked.{request_of, line, queue_at}
 use Rattle.std.proofs.Common.{Some}
@@ -28,7 +28,7 @@ returns-clause-ok c =
       is_outcome = record {
         moved = c.settle.ensures.record ∙ ap (λ (r : Record). settle (record r { holder = Some (record { txn = c.args.holder.now.txn; ts = c.args.ts }) })) left;
         replied = refl;
-        let_through = put_behind_none (λ l. map (λ s. through_of (request_of s)) (filter (goes_on (Below c.args.ts)) l)) m _ (queue_at c.args.row.now.id Readers) _ _ c.requires.lets c.queue-readers.ensures c.in_ok-let_through.ensures.ok ∙ lets_below c.args.ts (line m (queue_at c.args.row.now.id Readers));
+        let_through = put_behind_none (λ l. map (λ s. through_of (request_of s)) (filter (goes_on (Below c.args.ts)) l)) m _ (queue_at c.args.row.now.id Readers) _ _ c.requires.lets c.queue-readers.ensures c.in_ok-collect_selected.ensures.ok ∙ lets_below c.args.ts (line m (queue_at c.args.row.now.id Readers));
       };
       linked = left_linked _ _ c.args.row.now Readers (λ e. cc) (λ s. not (leaves (Below c.args.ts) s)) _ c.queue-readers.ensures c.drop_where.ensures c.requires.linked;
       others = left_others _ _ c.args.row.now Readers (λ e. cc) (λ s. not (leaves (Below c.args.ts) s)) _ c.queue-readers.ensures c.drop_where.ensures;

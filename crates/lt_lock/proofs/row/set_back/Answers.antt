@@ -13,5 +13,5 @@ pub returns : goal.returns
 returns c =
     let m = c.args.links.now in
     let cut = first_cut m c.requires.sound _ c.in-Some.node c.in-Some.ensures.first in
-    other_set_back m c.args.row.now c.args.txn c.requires c.bring_first.new.links _ c.queue.ensures c.in-Some.node cut.0 cut.1 c.stand-stand.result c.stand-stand.ensures.stand c.renew.new.links _ _ c.queue-2.ensures (search rules) refl c.renew.ensures.queues
-    (c.renew.ensures.writes _ [] cut.0 cut.1) (c.bring_first.ensures _ [] cut.0 (c.renew.ensures.queues _ ∙ cut.1))
+    other_set_back m c.args.row.now c.args.txn c.requires c.move_to_front.new.links _ c.queue.ensures c.in-Some.node cut.0 cut.1 c.stand-stand.result c.stand-stand.ensures.stand c.replace_stand.new.links _ _ c.queue-2.ensures (search rules) refl c.replace_stand.ensures.queues
+    (c.replace_stand.ensures.writes _ [] cut.0 cut.1) (c.move_to_front.ensures _ [] cut.0 (c.replace_stand.ensures.queues _ ∙ cut.1))

@@ -4,7 +4,7 @@ use Rattle.std.specs.Prelude.{nat_eq, not}
 use Rattle.lt_plain.specs.Rules.{Record, through_of, settle}
 use Rattle.lt_plain.specs.Lawful.{numbers}
 use Rattle.lt_links.specs.declared.ids.QueueKind.TheVariants.{Writers}
-use Rattle.lt_lock.specs.declared.walk.Who.TheVariants.{Of}
+use Rattle.lt_lock.specs.declared.queue_walk.Selection.TheVariants.{Of}
 use Rattle.lt_lock.specs.Found.{leaves, goes_on}
 use Rattle.lt_lock.specs.Linked.{request_of, line, queue_at}
 use Rattle.lt_lock.proofs.Rows.{others_twice}
@@ -28,7 +28,7 @@ returns-clause-ok c =
       is_outcome = record {
         moved = c.settle.ensures.record ∙ ap (λ (r : Record). settle (record r { holder = Some c.args.holder.now })) taken;
         replied = refl;
-        let_through = put_behind_none (λ l. map (λ s. through_of (request_of s)) (filter (goes_on (Of c.args.holder.now.txn)) l)) m _ (queue_at c.args.row.now.id Writers) _ _ c.requires.lets c.queue-writers.ensures c.in_ok-let_through.ensures.ok ∙ lets_own c.args.holder.now.txn (line m (queue_at c.args.row.now.id Writers));
+        let_through = put_behind_none (λ l. map (λ s. through_of (request_of s)) (filter (goes_on (Of c.args.holder.now.txn)) l)) m _ (queue_at c.args.row.now.id Writers) _ _ c.requires.lets c.queue-writers.ensures c.in_ok-collect_selected.ensures.ok ∙ lets_own c.args.holder.now.txn (line m (queue_at c.args.row.now.id Writers));
       };
       linked = c.set_back.ensures.linked;
       others = others_twice _ _ _ c.args.row.now.id (left_others _ _ c.args.row.now Writers (λ e. cc) (λ s. not (leaves (Of c.args.holder.now.txn) s)) _ c.queue-writers.ensures c.drop_where.ensures) c.set_back.ensures.others;

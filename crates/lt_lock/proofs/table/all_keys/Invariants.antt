@@ -2,6 +2,6 @@ use Rattle.std.proofs.Common.{◌≡◌, ◌++◌}
 use Rattle.std.specs.BTreeMap.{keys}
 use Rattle.lt_lock.proofs.table.all_keys.Given as goal
 
--- the copies, and then what is left, are the keys
+-- the copies made so far, followed by the remaining keys, are all keys
 abbrev pub invariant-loop-key : goal.invariant-loop-key
 invariant-loop-key l = l.all.items ++ l.key-iterator ≡ keys l.rows

@@ -1,5 +1,5 @@
 use Rattle.lt_table_core.specs.Closed.{passes_of, AreCounted}
 use Rattle.lt_table_core.proofs.closing.count_fault.Given as goal
 
-abbrev pub invariant-loop-place : goal.invariant-loop-place
-invariant-loop-place g l = AreCounted l.wanted (passes_of l.passes l.guards) l.shards l.place
+abbrev pub invariant-loop-index : goal.invariant-loop-index
+invariant-loop-index g l = AreCounted l.wanted (passes_of l.passes l.guards) l.shards l.index

@@ -1,7 +1,7 @@
 use Rattle.std.proofs.Common.{◌≡◌, ◌++◌, ◌∷◌, [], ◌∙◌, subst, ap, rules}
 use Rattle.std.specs.List.{AllByRecursion}
 use mathlib.Core.List.{IsPrefix}
-use Rattle.lt_words.specs.Row.{Seer}
+use Rattle.lt_words.specs.Row.{PassState}
 use Rattle.lt_words.specs.History.{IsLegalHistory}
 use Rattle.lt_shard.specs.Shards.{new_shard}
 use Rattle.lt_table_core.proofs.Ends.{ends, ends_whole, ends_short, all_and_last, of_last}
@@ -9,9 +9,9 @@ use Rattle.lt_table_core.proofs.closing.end.Goals as goal
 
 pub returns-clause-closed : goal.returns-clause-closed
 returns-clause-closed g c =
-    let one : Seer = c.learn_all.new.last in
-    let two : Seer = c.end_shards-rests.new.last in
-    let three : Seer = c.drawn-draws.new.pass in
+    let one : PassState = c.learn_all.new.last in
+    let two : PassState = c.end_shards-rests.new.last in
+    let three : PassState = c.drawn-draws.new.pass in
     let joined : c.args.passes.items ≡ c.pop.new.self.items ++ c.in-Some.last ∷ [] = search rules in
     let seen : AllByRecursion (λ p. IsPrefix p.seen one.seen) c.args.passes.items = rw joined (all_and_last (λ p. p.seen) c.pop.new.self.items c.in-Some.last one.seen (rw (← c.deref.ensures.value) c.learn_all.ensures.all) c.learn_all.ensures.more.seen) in
     let shown : AllByRecursion (λ p. IsPrefix p.shown one.shown) c.args.passes.items = rw joined (all_and_last (λ p. p.shown) c.pop.new.self.items c.in-Some.last one.shown (rw (← c.deref.ensures.value) c.learn_all.ensures.shown) c.learn_all.ensures.more.shown) in

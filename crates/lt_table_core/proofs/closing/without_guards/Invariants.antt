@@ -3,4 +3,4 @@ use Rattle.lt_table_core.specs.Closed.{counts_at}
 use Rattle.lt_table_core.proofs.closing.without_guards.Given as goal
 
 abbrev pub invariant-loop-guard : goal.invariant-loop-guard
-invariant-loop-guard l = l.left + counts_at l.place (map (λ g. g.pass) (take l.guard-index l.guards)) ≡ l.steps
+invariant-loop-guard l = l.left + counts_at l.index (map (λ g. g.pass) (take l.guard-index l.guards)) ≡ l.steps

@@ -1,5 +1,5 @@
 use Rattle.std.proofs.Common.{◌≡◌}
 use Rattle.lt_table_core.proofs.opening.noting_each.Given as goal
 
-abbrev pub invariant-loop-place : goal.invariant-loop-place
-invariant-loop-place l = l.noting.items ≡ l.initial.noting.items
+abbrev pub invariant-loop-index : goal.invariant-loop-index
+invariant-loop-index l = l.noting.items ≡ l.initial.noting.items

@@ -1,7 +1,7 @@
 use Rattle.std.proofs.Common.{◌≡◌, ◌+◌, ◌++◌, [], ◌∷◌, ℕ, List, length, take, sym, ap, ◌∙◌, append_assoc, arith, length-take-le}
 use Rattle.std.specs.Global.{Vec}
 use Rattle.std.proofs.lemmas.List.{take_more}
-use Rattle.lt_desk.specs.declared.answer.AnswerLine.{AnswerLine}
+use Rattle.lt_runner.specs.declared.answer.AnswerLine.{AnswerLine}
 use Rattle.lt_tool.specs.Answers.{answers_text, pass_text}
 use Rattle.lt_tool.proofs.Appended.{texts_more}
 use Rattle.lt_tool.proofs.answer.put_answers.Goals as goal

@@ -6,7 +6,7 @@ use Rattle.lt_plain.proofs.Maps.{act_alike}
 use Rattle.lt_lock.specs.Linked.{records_of, request_of}
 use Rattle.lt_lock.proofs.table.LinkedTableKeyTable.visit.Goals as goal
 
--- the stand is that of the request
+-- the queue entry is that of the request
 pub returns-clause-ok : goal.returns-clause-ok
 returns-clause-ok c =
     let old = records_of c.self.inside.links c.self.inside.rows in

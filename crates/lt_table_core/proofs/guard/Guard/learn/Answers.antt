@@ -1,11 +1,11 @@
 use Rattle.std.proofs.Common.{sym, subst}
 use Rattle.lt_words.specs.History.{LetIn}
 use Rattle.lt_words.proofs.Histories.{let_later}
-use Rattle.lt_table_core.specs.Reported.{wait_of}
+use Rattle.lt_table_core.specs.Reported.{current_wait}
 use Rattle.lt_table_core.proofs.guard.Guard.learn.Goals as goal
 
 pub invariant_of-self : goal.invariant_of-self
 invariant_of-self c let_mode =
     let old = c.self.inside.pass in
     let more = c.learn.ensures.more in
-    subst (λ n. LetIn c.learn.new.self.seen n (wait_of c.self.inside.walk)) (sym more.number) (let_later old.seen c.learn.new.self.seen old.number (wait_of c.self.inside.walk) more.seen (c.self.invariant let_mode))
+    subst (λ n. LetIn c.learn.new.self.seen n (current_wait c.self.inside.walk)) (sym more.number) (let_later old.seen c.learn.new.self.seen old.number (current_wait c.self.inside.walk) more.seen (c.self.invariant let_mode))

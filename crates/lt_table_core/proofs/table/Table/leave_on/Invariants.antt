@@ -6,4 +6,4 @@ abbrev pub invariant-loop-guard : goal.invariant-loop-guard
 invariant-loop-guard g l = IsPartingGuard l.fn.guard (record { pass = l.guard-inside.pass; walk = l.guard-inside.walk })
 
 abbrev pub decreases-loop-guard : goal.decreases-loop-guard
-decreases-loop-guard g l = length l.guard-inside.walk.asked.keys - l.guard-inside.walk.progress.place
+decreases-loop-guard g l = length l.guard-inside.walk.asked.keys - l.guard-inside.walk.progress.index

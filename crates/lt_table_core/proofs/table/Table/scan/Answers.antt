@@ -1,12 +1,12 @@
 use Rattle.std.proofs.Common.{length, ap, subst}
 use Rattle.lt_table_core.specs.Machine.{WalkState}
-use Rattle.lt_table_core.specs.Sound.{IsSound}
+use Rattle.lt_table_core.specs.Sound.{IsSoundProgress}
 use Rattle.lt_table_core.proofs.WentOn.{went_on, was_let, scan_stays, waits_inside}
 use Rattle.lt_table_core.proofs.Stopping.{too_long, long_inside}
 use Rattle.lt_table_core.proofs.table.Table.scan.Goals as goal
 
 abbrev IsSoundWalk : WalkState → Type 0
-IsSoundWalk w = IsSound (length w.asked.keys) w.progress (length w.answers)
+IsSoundWalk w = IsSoundProgress (length w.asked.keys) w.progress (length w.answers)
 
 pub returns-clause-went_on : goal.returns-clause-went_on
 returns-clause-went_on g c = went_on c.args.self.now.max_waits c.args.guard.now c.visit_on-result.new.guard c.visit_on-result.result c.visit_on-result.ensures.scan c.visit_on-result.ensures.number c.visit_on-result.ensures.sound
@@ -15,17 +15,17 @@ pub returns-clause-was_let : goal.returns-clause-was_let
 returns-clause-was_let g c = λ held. was_let c.args.self.now.max_waits c.args.guard.now c.visit_on-result.new.guard c.visit_on-result.result c.visit_on-result.ensures.scan (c.let_through.ensures held)
 
 pub returns-clause-waiting : goal.returns-clause-waiting
-returns-clause-waiting g c = λ place.
+returns-clause-waiting g c = λ index.
     let sound : IsSoundWalk c.visit_on-result.new.guard.walk = subst IsSoundWalk (ap (λ s. s.walk) c.guard.view_is) c.sound.ensures.sound in
-    waits_inside c.args.self.now.max_waits c.args.guard.now c.visit_on-result.new.guard c.visit_on-result.result place c.visit_on-result.ensures.scan sound
+    waits_inside c.args.self.now.max_waits c.args.guard.now c.visit_on-result.new.guard c.visit_on-result.result index c.visit_on-result.ensures.scan sound
 
 pub returns-clause-stopped : goal.returns-clause-stopped
-returns-clause-stopped g c = λ place.
-    long_inside c.args.self.now.max_waits c.args.guard.now c.visit_on-result.new.guard c.visit_on-result.result place c.visit_on-result.ensures.scan
+returns-clause-stopped g c = λ index.
+    long_inside c.args.self.now.max_waits c.args.guard.now c.visit_on-result.new.guard c.visit_on-result.result index c.visit_on-result.ensures.scan
     (scan_stays c.args.self.now.max_waits c.args.guard.now c.visit_on-result.new.guard c.visit_on-result.result c.visit_on-result.ensures.scan).asked
 
 pub returns-clause-too_long : goal.returns-clause-too_long
-returns-clause-too_long g c = λ place. too_long c.args.self.now.max_waits c.args.guard.now c.visit_on-result.new.guard c.visit_on-result.result place c.visit_on-result.ensures.scan
+returns-clause-too_long g c = λ index. too_long c.args.self.now.max_waits c.args.guard.now c.visit_on-result.new.guard c.visit_on-result.result index c.visit_on-result.ensures.scan
 
 pub returns-clause-stays : goal.returns-clause-stays
 returns-clause-stays g c = scan_stays c.args.self.now.max_waits c.args.guard.now c.visit_on-result.new.guard c.visit_on-result.result c.visit_on-result.ensures.scan

@@ -1,5 +1,5 @@
 use Rattle.std.proofs.Common.{◌≡◌, rules, subst}
-use Rattle.lt_table_core.specs.declared.scan.Poll.TheVariants.{Waiting}
+use Rattle.lt_table_core.specs.declared.scan_results.Poll.TheVariants.{Waiting}
 use Rattle.lt_table_core.specs.Reported.{IsPoll}
 use Rattle.lt_table_core.proofs.Waits.{poll_then}
 use Rattle.lt_table_core.proofs.table.Table.wait.Goals as goal

@@ -1,17 +1,17 @@
 use Rattle.std.proofs.Common.{ap, arith}
-use Rattle.lt_words.specs.Row.{SightGrows}
+use Rattle.lt_words.specs.Row.{FrontGrows}
 use Rattle.lt_words.proofs.Passes.{grows_on, sight_on, sees_on}
 use Rattle.lt_words.proofs.book.Book.exact.Goals as goal
 
 pub invariant_of-pass : goal.invariant_of-pass
 invariant_of-pass g c =
-    let grew : SightGrows c.pass.inside.seen c.meet.new.self = grows_on c.pass.inside.seen c.learn.new.self c.meet.new.self (record { of = c.learn.ensures.of; seen = c.learn.ensures.this; shown = c.learn.ensures.shown_this }) c.meet.ensures.more in
-    sight_on c.pass.inside.number c.pass.inside.seen c.meet.new.self c.pass.inside.counts.items c.pass.invariant grew
+    let grew : FrontGrows c.pass.inside.seen c.exact.new.self = grows_on c.pass.inside.seen c.learn.new.self c.exact.new.self (record { of = c.learn.ensures.of; seen = c.learn.ensures.this; shown = c.learn.ensures.shown_this }) c.exact.ensures.more in
+    sight_on c.pass.inside.number c.pass.inside.seen c.exact.new.self c.pass.inside.counts.items c.pass.invariant grew
 
-pub meet-requires-clause-shard : goal.meet-requires-clause-shard
-meet-requires-clause-shard g c = omega (arith, c.requires.shard, ap (λ o. o.shards) c.self.view_is, c.self.invariant.0.sizes.few_shards)
+pub exact-requires-clause-shard : goal.exact-requires-clause-shard
+exact-requires-clause-shard g c = omega (arith, c.requires.shard, ap (λ o. o.shards) c.self.view_is, c.self.invariant.0.sizes.few_shards)
 
 pub returns-clause-more : goal.returns-clause-more
 returns-clause-more g c =
-    let grew : SightGrows c.pass.inside.seen c.meet.new.self = grows_on c.pass.inside.seen c.learn.new.self c.meet.new.self (record { of = c.learn.ensures.of; seen = c.learn.ensures.this; shown = c.learn.ensures.shown_this }) c.meet.ensures.more in
-    rw (← c.pass.view_is) (sees_on c.pass.inside.number c.pass.inside.seen c.meet.new.self c.pass.inside.counts.items grew)
+    let grew : FrontGrows c.pass.inside.seen c.exact.new.self = grows_on c.pass.inside.seen c.learn.new.self c.exact.new.self (record { of = c.learn.ensures.of; seen = c.learn.ensures.this; shown = c.learn.ensures.shown_this }) c.exact.ensures.more in
+    rw (← c.pass.view_is) (sees_on c.pass.inside.number c.pass.inside.seen c.exact.new.self c.pass.inside.counts.items grew)

@@ -2,4 +2,4 @@ use Rattle.lt_words.proofs.Passes.{sight_on}
 use Rattle.lt_words.proofs.book.Book.read.Goals as goal
 
 pub invariant_of-pass : goal.invariant_of-pass
-invariant_of-pass c = sight_on c.pass.inside.number c.pass.inside.seen c.status.new.self c.pass.inside.counts.items c.pass.invariant c.status.ensures.more
+invariant_of-pass c = sight_on c.pass.inside.number c.pass.inside.seen c.read.new.self c.pass.inside.counts.items c.pass.invariant c.read.ensures.more

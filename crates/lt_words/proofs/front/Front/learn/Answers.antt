@@ -1,8 +1,8 @@
-use Rattle.lt_words.specs.Row.{SightGrows, sight_of}
+use Rattle.lt_words.specs.Row.{FrontGrows, front_state}
 use Rattle.lt_words.proofs.Logs.{sight_grows, history_prefix, shown_prefix}
 use Rattle.lt_words.proofs.front.Front.learn.Goals as goal
 
-grew : (c : goal.After-learn) → SightGrows (sight_of c.self.inside.seen.book c.self.inside.seen.log) (sight_of c.learn.new.self.book c.learn.new.self.log)
+grew : (c : goal.After-learn) → FrontGrows (front_state c.self.inside.seen.book c.self.inside.seen.log) (front_state c.learn.new.self.book c.learn.new.self.log)
 grew c = sight_grows c.self.inside.seen.book c.learn.new.self.book c.self.inside.seen.log c.learn.new.self.log c.learn.ensures.0 c.self.invariant c.learn.ensures.2
 
 pub returns-clause-of : goal.returns-clause-of

@@ -4,4 +4,4 @@ use Rattle.lt_words.proofs.front.Front.signal.Goals as goal
 
 pub try_signal-requires-clause-through : goal.try_signal-requires-clause-through
 try_signal-requires-clause-through g c =
-    let_later c.args.self.now.seen c.status-old.new.self.seen c.args.pass c.args.ticket (prefix_trans c.args.self.now.seen c.loop.self.seen c.status-old.new.self.seen c.loop.invariant.2.seen c.status-old.ensures.more.seen) c.requires.through
+    let_later c.args.self.now.seen c.read-old.new.self.seen c.args.pass c.args.ticket (prefix_trans c.args.self.now.seen c.loop.self.seen c.read-old.new.self.seen c.loop.invariant.2.seen c.read-old.ensures.more.seen) c.requires.through

@@ -1,5 +1,0 @@
-use Rattle.lt_apart_tests.proofs.out_of_memory.run_scarce.Given as goal
-
--- the name of the book that was just opened
-abbrev pub ghosts-run_named : goal.ghosts-run_named
-ghosts-run_named g a = record { of = a.ready.of }

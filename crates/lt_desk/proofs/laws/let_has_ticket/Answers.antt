@@ -1,5 +1,0 @@
-use Rattle.lt_desk.proofs.Replying.{let_ticket}
-use Rattle.lt_desk.proofs.laws.let_has_ticket.Goals as goal
-
-pub returns : goal.returns
-returns c = let_ticket

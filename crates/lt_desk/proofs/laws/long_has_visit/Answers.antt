@@ -1,5 +1,0 @@
-use Rattle.lt_desk.proofs.Waiting.{long_visit}
-use Rattle.lt_desk.proofs.laws.long_has_visit.Goals as goal
-
-pub returns : goal.returns
-returns c = long_visit

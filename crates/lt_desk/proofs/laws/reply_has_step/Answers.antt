@@ -1,5 +1,0 @@
-use Rattle.lt_desk.proofs.Replying.{reply_step}
-use Rattle.lt_desk.proofs.laws.reply_has_step.Goals as goal
-
-pub returns : goal.returns
-returns c = reply_step

@@ -1,6 +1,0 @@
-use Rattle.std.proofs.Common.{◌≡◌}
-use Rattle.lt_desk.specs.Turns.{somes}
-use Rattle.lt_desk.proofs.running.finish_all.Given as goal
-
-abbrev pub invariant-loop-slot : goal.invariant-loop-slot
-invariant-loop-slot l = l.works.items ≡ somes l.yielded

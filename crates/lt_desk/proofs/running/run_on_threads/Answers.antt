@@ -1,9 +1,0 @@
-use Rattle.std.proofs.lemmas.Result.{IfOk-weaker}
-use Rattle.lt_desk.specs.Machine.{Rules, rules_of}
-use Rattle.lt_desk.proofs.Slots.{worked_all}
-use Rattle.lt_desk.proofs.running.run_on_threads.Goals as goal
-
-pub returns : goal.returns
-returns g c =
-    let rules : Rules = rules_of c.args.table.now c.args.turns in
-    IfOk-weaker c.collect.result _ _ (λ works same. worked_all rules (g.G.Gate.always c.args.gate.now) c.args.commands.now c.args.passes.items c.in_ok-done.done.items works.items c.in_ok-done.ensures same) c.collect.ensures

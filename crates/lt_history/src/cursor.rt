@@ -1,0 +1,147 @@
+//! Does this line follow the lines before it?
+//!
+//! A `Cursor` remembers the key and the index of the latest line and replays that key's calls on a table of its
+//! own. `follow` checks, in this order, that the next line has its key in order, the right index, the reply of
+//! the rules and their lets. Read next: `specs/Text.antt` for these four conditions, and `lt_plain` for the rules.
+ghost use Rattle.std.specs.Prelude.{◌≡◌, ◌<◌, ◌≤◌, ◌↔◌, IfOk, IfErr, IsTrue, map, length};
+ghost use Rattle.lt_plain.specs.Table.{record_at};
+ghost use Rattle.lt_history.specs.Lines.{IsLine, parts_of};
+ghost use Rattle.lt_history.specs.Text.{Follows, IsWrongOr, start, spot_after};
+ghost use Rattle.lt_history.specs.Cursor.{spot, IsAtNewKey, IsNoFirst, IsNext, IsNoNext, FollowsRules, IsNotMade};
+
+use crate::error::{Fault, HistoryLineError};
+use crate::line::{Line, LineStep};
+use lt_ids::{Key, Through, Ticket};
+use lt_lock::LinkedTable;
+use lt_plain::Reply;
+use lt_plain::step::make;
+use std::alloc::{AllocError, Global};
+use std::cmp::Ordering;
+
+/// The position of the check: the key of the latest line, its index, and a table that holds the record of that key
+/// alone. Before the first line there is no key.
+#[derive(Drop)]
+pub(crate) struct Cursor {
+    pub key: Option<Key>,
+    pub index: u64,
+    pub table: LinkedTable,
+}
+
+/// The cursor before the first line.
+#[tactic(auto, using(lt_entry::proofs::OneMore::empty_at))]
+pub(crate) fn start(alloc: Global) -> Cursor
+    ensures { spot result ≡ start }
+{
+    Cursor {
+        key: None,
+        index: 0,
+        table: LinkedTable::new(alloc),
+    }
+}
+
+/// Moves to the first line of a new key.
+fn go_to_first(
+    alloc: Global,
+    cursor: &mut Cursor,
+    key: &Key,
+    index: u64,
+) -> Result<(), HistoryLineError>
+    ensures ok { IfOk result (λ _. IsAtNewKey key.now index cursor.new) }
+    ensures err { IfErr result (λ e. IsNoFirst index e) }
+{
+    if index != 1 {
+        return Err(HistoryLineError::Fault(Fault::Index));
+    }
+    cursor.key = Some(key.copy()?);
+    cursor.index = index;
+    cursor.table = LinkedTable::new(alloc);
+    Ok(())
+}
+
+/// Moves to the line of this key and index, before its call is made.
+#[tactic(auto, using(crate::proofs::Places::first_is_next, crate::proofs::Places::first_is_not_next, crate::proofs::Places::at_start, crate::proofs::Places::later_key))]
+fn go_to(alloc: Global, cursor: &mut Cursor, key: &Key, index: u64) -> Result<(), HistoryLineError>
+    requires key { 0 < length key.now }
+    requires index { 1 ≤ index }
+    ensures ok { IfOk result (λ _. IsNext (spot cursor.old) key.now index cursor.new) }
+    ensures err { IfErr result (λ e. IsNoNext (spot cursor.old) key.now index e) }
+{
+    let Some(latest) = &cursor.key else {
+        return go_to_first(alloc, cursor, key, index);
+    };
+    match key.cmp(latest) {
+        Ordering::Less => Err(HistoryLineError::Fault(Fault::KeyOrder)),
+        Ordering::Greater => go_to_first(alloc, cursor, key, index),
+        Ordering::Equal => {
+            if index - 1 != cursor.index {
+                return Err(HistoryLineError::Fault(Fault::Index));
+            }
+            cursor.index = index;
+            Ok(())
+        }
+    }
+}
+
+fn tickets_of(alloc: Global, lets: &[Through]) -> Result<Vec<Ticket>, AllocError>
+    ensures { IfOk result (λ tickets. tickets.items ≡ map (λ t. t.ticket) lets.now) }
+{
+    lets.iter().map(|t| t.ticket).collect(alloc)
+}
+
+fn are_same(tickets: &[Ticket], expected: &[Ticket]) -> bool
+    ensures { IsTrue result ↔ (tickets.now ≡ expected.now) }
+{
+    tickets == expected
+}
+
+fn is_same_reply(reply: Reply, expected: Reply) -> bool
+    ensures { IsTrue result ↔ (reply ≡ expected) }
+{
+    reply == expected
+}
+
+/// Makes the line's call and compares the reply and the lets with those of the line.
+fn make_step(
+    alloc: Global,
+    table: &mut LinkedTable,
+    key: &Key,
+    step: &LineStep,
+    tickets: &[Ticket],
+) -> Result<(), HistoryLineError>
+    requires pass_low { 1 ≤ step.now.pass }
+    requires pass_high { step.now.pass ≤ 1024 }
+    ensures ok { IfOk result (λ _. FollowsRules (record_at table.old key.now) step.now tickets.now (record_at table.new key.now)) }
+    ensures err { IfErr result (λ e. IsNotMade (record_at table.old key.now) step.now tickets.now e) }
+{
+    let mut lets = Vec::new(alloc);
+    let reply = make(table, key, step.pass, &step.call, &mut lets)?;
+    if !is_same_reply(step.reply, reply) {
+        return Err(HistoryLineError::Fault(Fault::WrongReply));
+    }
+    let expected = tickets_of(alloc, &lets)?;
+    if !are_same(tickets, &expected) {
+        return Err(HistoryLineError::Fault(Fault::WrongLets));
+    }
+    Ok(())
+}
+
+/// Moves over a line, if it follows the lines before it.
+pub(crate) fn follow(
+    alloc: Global,
+    cursor: &mut Cursor,
+    line: &Line,
+) -> Result<(), HistoryLineError>
+    requires { IsLine (parts_of line.now) }
+    ensures follows { IfOk result (λ _. Follows (spot cursor.old) (parts_of line.now)) }
+    ensures leads { IfOk result (λ _. spot cursor.new ≡ spot_after (spot cursor.old) (parts_of line.now)) }
+    ensures err { IfErr result (λ e. IsWrongOr (spot cursor.old) (parts_of line.now) e) }
+{
+    go_to(alloc, cursor, &line.key, line.step.index)?;
+    make_step(
+        alloc,
+        &mut cursor.table,
+        &line.key,
+        &line.step,
+        &line.tickets,
+    )
+}

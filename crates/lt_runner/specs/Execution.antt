@@ -1,0 +1,51 @@
+-- The execution of a line by calls of a table.
+use Rattle.std.specs.Prelude.{ℕ, ◌≡◌, List, [], Option, Some, Result, Ok, Err, IfOk}
+use Rattle.lt_ids.specs.Ids.{Wait}
+use Rattle.lt_shard.specs.declared.answer.Answer.{Answer}
+use Rattle.lt_shard.specs.declared.answer.StepError.{StepError}
+use Rattle.lt_shard.specs.declared.answer.StepError.TheVariants as steps
+use Rattle.lt_table_core.specs.declared.scan_results.Poll.{Poll}
+use Rattle.lt_table_core.specs.Machine.{polled, WalkState, Step}
+use Rattle.lt_table_core.specs.Reported.{GuardState}
+use Rattle.lt_runner.specs.declared.session.Session.{Session}
+use Rattle.lt_runner.specs.declared.session.LineOutcome.{LineOutcome}
+use Rattle.lt_runner.specs.declared.outcome.OutOfMemory.{OutOfMemory}
+use Rattle.lt_runner.specs.declared.answer.LineAnswer.{LineAnswer}
+use Rattle.lt_runner.specs.declared.answer.LineAnswer.TheVariants as answers
+use Rattle.lt_runner.specs.declared.answer.Refusal.TheVariants as refusals
+use Rattle.lt_runner.specs.Outcomes.{OutcomeTells}
+use Rattle.lt_runner.specs.Sessions.{session_request, session_pass}
+use Rattle.lt_runner.specs.Machine.{numbers_of, let_read, state_after_status}
+
+-- A statement about a line: the request before it, the status word that was read, the answer, the steps, and the
+-- request after it.
+abbrev pub Fact : Type 1
+Fact = Option WalkState → ℕ → LineAnswer → List Step → Option WalkState → Type 0
+
+-- The tickets with which a line proceeds, by the request before it and the status word that was read.
+abbrev pub Lets : Type 0
+Lets = Option WalkState → ℕ → List Wait
+
+-- The line does not proceed by a let.
+abbrev pub no_lets : Lets
+no_lets before word = []
+
+-- The fact holds of the line's answer and steps, and what they tell is in what the pass has seen after the line.
+pub record Does (fact : Fact) (lets : Lets) (old : Session) (answer : LineAnswer) (new : Session) : Type 0 where
+  pub word : ℕ
+  pub steps : List Step
+  pub done : fact (session_request old) word answer steps (session_request new)
+  pub tells : OutcomeTells (session_pass old) (session_pass new) steps (numbers_of answer) (lets (session_request old) word)
+
+-- The outcome of a call that makes one step. Out of memory has no answer.
+abbrev pub IsCallOutcome : Result Answer StepError → Session → Result LineOutcome OutOfMemory → Type 0
+IsCallOutcome (Ok a) session told = IfOk told (λ t. (t.answer ≡ answers.Replied a.reply) × (t.session ≡ session))
+IsCallOutcome (Err steps.HistoryFull) session told = IfOk told (λ t. (t.answer ≡ answers.Refused refusals.HistoryFull) × (t.session ≡ session))
+IsCallOutcome (Err steps.Memory) session told = IfOk told (λ t. ⊥)
+
+-- One or more polls, the last of which found this.
+pub record Polls (old : GuardState) (found : Poll) (new : GuardState) : Type 0 where
+  pub word : ℕ
+  pub after : new.walk ≡ state_after_status old.walk word
+  pub answer : found ≡ polled new.walk.progress
+  pub tells : OutcomeTells old.pass new.pass [] [] (let_read (Some old.walk) word)

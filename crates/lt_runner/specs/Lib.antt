@@ -1,0 +1,10 @@
+pub mod Outcomes
+pub mod Sessions
+pub mod Machine
+pub mod Execution
+pub mod Worked
+pub mod Standing
+pub mod Turns
+pub mod Closing
+pub mod Ran
+pub mod Laws

@@ -1,0 +1,87 @@
+//! How does a request visit its keys, and how does it learn that it was let through? Read next `IsScan` and
+//! `IsPoll` in `specs/Reported.antt`, and `src/waiting.rt` for waits that sleep.
+ghost use Rattle.std.specs.Prelude.{◌≡◌, ◌≢◌, ◌<◌, ℕ, length, Ok, Err};
+ghost use Rattle.lt_ids.specs.Ids.{IsNumber};
+ghost use Rattle.lt_words.specs.History.{LetIn};
+ghost use Rattle.lt_table_core.specs.Reported.{IsScan, IsPoll, GuardStays, current_wait};
+ghost use Rattle.lt_table_core.specs.declared.scan_results.Scan.TheVariants.{Waiting, TooLong};
+ghost use Rattle.lt_table_core.specs.Sound.{IsSoundProgress};
+ghost use Rattle.lt_table_core.specs.Laws.{IsTooLong};
+
+use crate::guard::Guard;
+use crate::scan_results::{Poll, Scan, ScanError};
+use crate::table::Table;
+use crate::walk_progress::Mode;
+use lt_plain::KeyTable;
+use lt_words::{Book, Keeping, Name, Waker};
+use std::sync::Wait;
+
+/// Loads the status word of the guard's pass, and compares it with the ticket of the guard's wait. The book has
+/// nothing but words, so no lock can be taken here.
+fn poll_on(book: &Book, guard: &mut Guard) -> Poll
+    requires { guard.old.pass.of ≡ book.now }
+    ensures poll { IsPoll guard.old guard.new result }
+    ensures through { result ≡ Poll.Through → LetIn guard.new.pass.seen guard.new.pass.number (current_wait guard.new.walk) }
+    ensures stays { GuardStays guard.old guard.new }
+{
+    guard.walk.sound();
+    let word = book.read(&mut guard.pass);
+    guard.walk.poll(word)
+}
+
+impl<N: Name, T: KeyTable, W: Waker> Table<N, T, W> {
+    /// Whether the request was let through: one load of the pass's status word, compared with the whole ticket of
+    /// the wait. `poll` never blocks, takes no lock and allocates nothing.
+    pub fn poll(&self, guard: &mut Guard) -> Poll
+        requires pass { guard.old.pass.of ≡ N.of }
+        ensures poll { IsPoll guard.old guard.new result }
+        ensures through { result ≡ Poll.Through → LetIn guard.new.pass.seen guard.new.pass.number (current_wait guard.new.walk) }
+        ensures stays { GuardStays guard.old guard.new }
+    {
+        poll_on(&self.book, guard)
+    }
+
+    fn visit_on<R: Wait>(&self, rt: &R, guard: &mut Guard) -> Result<Scan, ScanError>
+        requires pass { guard.old.pass.of ≡ N.of }
+        ensures scan { IsScan self.now.max_waits guard.old guard.new result }
+        ensures number { IsNumber guard.old.walk.asked.number }
+        ensures sound { IsSoundProgress (length guard.old.walk.asked.keys) guard.old.walk.progress (length guard.old.walk.answers) }
+        ensures never_full { N.of.keeping ≡ Keeping.Unrecorded → result ≢ Err ScanError.HistoryFull }
+    {
+        let max_waits = self.config.max_waits;
+        guard.walk.sound();
+        let word = self.book.read(&mut guard.pass);
+        guard.walk.begin_scan(word)?;
+        while guard.walk.has_visit(max_waits) {
+            let visit = guard.walk.visit();
+            let answer = self.step(rt, &mut guard.pass, guard.walk.key(), &visit)?;
+            guard.walk.meet(answer);
+        }
+        guard.walk.end_scan()
+    }
+
+    /// Visits the request's keys in order, each under the lock of the key's shard. If the request waits, the scan
+    /// first loads the pass's status word, before it takes any lock: it is refused with `StillWaiting` if the
+    /// request was not let through, and otherwise proceeds to the next key. If a queue is too long for the request,
+    /// the request returns to the start of its list, and a later scan begins again there.
+    pub fn scan<R: Wait>(&self, rt: &R, guard: &mut Guard) -> Result<Scan, ScanError>
+        requires pass { guard.old.pass.of ≡ N.of }
+        ensures scan { IsScan self.now.max_waits guard.old guard.new result }
+        // A request that waited proceeds only if it was let through.
+        ensures went_on { guard.old.walk.progress.mode ≡ Mode.Awaiting → result ≢ Err ScanError.StillWaiting → LetIn guard.new.pass.seen guard.new.pass.number (current_wait guard.old.walk) }
+        // If the request was let through before, its let is in what its pass has then seen.
+        ensures was_let { guard.old.walk.progress.mode ≡ Mode.Let → LetIn guard.new.pass.seen guard.new.pass.number (current_wait guard.old.walk) }
+        // A request that has to wait does so at a key of its list.
+        ensures waiting { (index : ℕ) → result ≡ Ok (Waiting index) → index < length guard.new.walk.asked.keys }
+        // If a queue was too long, it was at a key of the list, and the request is back at the list's start.
+        ensures stopped { (index : ℕ) → result ≡ Ok (TooLong index) → index < length guard.new.walk.asked.keys }
+        ensures too_long { (index : ℕ) → result ≡ Ok (TooLong index) → IsTooLong guard.old guard.new index }
+        ensures stays { GuardStays guard.old guard.new }
+        ensures never_full { N.of.keeping ≡ Keeping.Unrecorded → result ≢ Err ScanError.HistoryFull }
+    {
+        guard.let_through();
+        let result = self.visit_on(rt, guard);
+        guard.walk.sound();
+        result
+    }
+}

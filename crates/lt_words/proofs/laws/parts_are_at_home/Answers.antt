@@ -1,5 +1,0 @@
-use Rattle.lt_words.proofs.Parts.{parts_are_at_home}
-use Rattle.lt_words.proofs.laws.parts_are_at_home.Goals as goal
-
-pub returns : goal.returns
-returns c = parts_are_at_home
