@@ -48,8 +48,8 @@ pub struct Load {
 /// The keys `k0`, `k1` and so on. None if an allocation fails.
 fn keys_of(alloc: Global, keys: usize) -> Option<Vec<Key>> {
     let mut list = Vec::new(alloc);
-    for place in 0..keys {
-        let name = format!(in alloc; "k{place}").ok()?;
+    for index in 0..keys {
+        let name = format!(in alloc; "k{index}").ok()?;
         list.push(Key::from_bytes(alloc, name.as_bytes()).ok()?)
             .ok()?;
     }

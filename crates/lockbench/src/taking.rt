@@ -133,8 +133,8 @@ fn take_round<N: Name, T: KeyTable, R: Wait>(
     ensures empty { room.new.items ≡ [] }
 {
     let mut is_well = true;
-    for place in 0..streams.len() {
-        let Some(stream) = streams.get_mut(place) else {
+    for index in 0..streams.len() {
+        let Some(stream) = streams.get_mut(index) else {
             break;
         };
         if !take_piece(rt, table, pass, stream, room, keeps) {

@@ -1,11 +1,16 @@
 -- How a script is run: what the options of `run` may say, and the default of each.
-use Rattle.std.specs.Prelude.{ℕ, ◌≤◌, ◌^◌, ◌&&◌, nat_le, Bool, false, List, Option, Some, None, codes, if◌then◌else◌}
+use Rattle.std.specs.Prelude.{ℕ, ◌≤◌, ◌^◌, ◌&&◌, nat_le, Bool, false, true, List, Option, Some, None, codes, option_map, if◌then◌else◌}
+use Rattle.std.specs.Borrow.{Bor}
 use Rattle.std.specs.Str.{bytes_eq}
 use Rattle.lt_text.specs.Number.{decimal_of}
 use Rattle.lt_command_line.specs.declared.options.Options.{Options}
 
 abbrev pub default_options : Options
 default_options = record { shards = 4; steps = 1000000; threads = false; turns = 1000000 }
+
+-- The default options, but with threads.
+abbrev pub with_threads : Options
+with_threads = record default_options { threads = true }
 
 -- Each number is in its range.
 pub record AreInRange (o : Options) : Type 0 where
@@ -45,3 +50,9 @@ abbrev pub options_of : Option (List ℕ) → Option (List ℕ) → Option (List
 options_of shards steps threads turns =
     joined (number_or default_options.shards 64 shards) (number_or default_options.steps (2 ^ 32) steps) (is_set threads)
     (number_or default_options.turns 1000000000 turns)
+
+-- The same for words that are borrowed.
+abbrev pub options_of_words : Option (Bor (List ℕ)) → Option (Bor (List ℕ)) → Option (Bor (List ℕ)) → Option (Bor (List ℕ)) → Option Options
+options_of_words shards steps threads turns =
+    options_of (option_map (λ s. s.now) shards) (option_map (λ s. s.now) steps) (option_map (λ s. s.now) threads)
+    (option_map (λ s. s.now) turns)

@@ -1,5 +1,5 @@
 -- What the words after the program's name ask for.
-use Rattle.std.specs.Prelude.{ℕ, ◌≡◌, ◌≢◌, ◌<◌, ◌==◌, ◌^◌, ◌⊎◌, Bool, true, false, List, [], ◌∷◌, map, Option, Some, None, Result, Ok, Err, if◌then◌else◌, codes, option_map}
+use Rattle.std.specs.Prelude.{ℕ, ◌≡◌, ◌≢◌, ◌<◌, ◌≤◌, ◌==◌, ◌^◌, ◌⊎◌, Bool, true, false, List, [], ◌∷◌, map, Option, Some, None, Result, Ok, Err, if◌then◌else◌, codes, decimal, option_map}
 use Rattle.std.specs.Borrow.{Bor}
 use Rattle.std.specs.Str.{bytes_eq}
 use Rattle.clap.specs.Words.{App, Row, Rule, Text, IsAmong, Kinds, fault_of, first_of, new_app, new_rule, subcommand_of, with_rule, with_subcommand}
@@ -160,3 +160,40 @@ abbrev pub Refuses : Result Job WordsError → Type 0
 Refuses (Err errors.Refused) = Unit {0}
 Refuses (Err errors.Memory) = Unit {0}
 Refuses _ = ⊥
+
+-- ---- what the words of a command line are read as
+
+-- The command with the name of a file is read as this job, done with that file.
+abbrev pub ReadsFile : Text → (Option Text → Order) → List (Bor Text) → Result Job WordsError → Type 0
+ReadsFile command job words result =
+    (file : Text) → is_option file ≡ false → texts words ≡ command ∷ file ∷ [] → IsJobOf result (job (Some file))
+
+-- The option of `run` takes each number from 1 to this one, and sets these options.
+abbrev pub Accepts : Text → ℕ → (ℕ → Options) → List (Bor Text) → Result Job WordsError → Type 0
+Accepts option most options words result =
+    (n : ℕ) → 1 ≤ n → n ≤ most → texts words ≡ codes "run" ∷ option ∷ decimal n ∷ [] → IsJobOf result (run None (options n))
+
+-- `run` takes a file and more than one option: here one shard, and two key steps.
+abbrev pub ReadsFileAndOptions : List (Bor Text) → Result Job WordsError → Type 0
+ReadsFileAndOptions words result =
+    (file : Text) → is_option file ≡ false
+    → texts words ≡ codes "run" ∷ file ∷ codes "--shards" ∷ codes "1" ∷ codes "--steps" ∷ codes "2" ∷ []
+    → IsJobOf result (run (Some file) (record default_options { shards = 1; steps = 2 }))
+
+-- Every command refuses a second file.
+abbrev pub RefusesTwoFiles : List (Bor Text) → Result Job WordsError → Type 0
+RefusesTwoFiles words result =
+    (name first second : Text) → IsCommand name → is_option first ≡ false → is_option second ≡ false
+    → texts words ≡ name ∷ first ∷ second ∷ [] → Refuses result
+
+-- `run` refuses an option whose word spells no number in the option's range.
+abbrev pub RefusesOutOfRange : List (Bor Text) → Result Job WordsError → Type 0
+RefusesOutOfRange words result =
+    (name word : Text) (most : ℕ) → HasMost name most → is_option word ≡ false → IsOutOfRange word most
+    → texts words ≡ codes "run" ∷ name ∷ word ∷ [] → Refuses result
+
+-- `check` and `upgrade` refuse the options of `run` that take a number.
+abbrev pub RefusesOptionsOfRun : List (Bor Text) → Result Job WordsError → Type 0
+RefusesOptionsOfRun words result =
+    (command name word : Text) (most : ℕ) → ReadsHistories command → HasMost name most
+    → texts words ≡ command ∷ name ∷ word ∷ [] → Refuses result

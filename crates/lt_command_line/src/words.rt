@@ -2,11 +2,11 @@
 //!
 //! The first half of the file builds the command line for clap, a command or an option at a time. The second half
 //! turns clap's matches into a [`Job`]. [`read_words`] combines the two. Read next: `specs/Words.antt`.
-ghost use Rattle.std.specs.Prelude.{◌≡◌, ◌<◌, ◌≤◌, ◌^◌, [], ◌∷◌, ℕ, List, None, Some, true, false, IfOk, IfSome, codes, decimal, option_map};
+ghost use Rattle.std.specs.Prelude.{◌≡◌, ◌<◌, ◌≤◌, ◌^◌, [], ◌∷◌, List, None, false, IfOk, IfSome, codes, option_map};
 ghost use Rattle.clap.specs.Words.{Text, app_of, found_of, new_app, rows_of, rule_of, kind_of, subcommand_rows_of, with_rule};
 ghost use Rattle.clap.specs.declared.builder.command.Command.TheViews.{out-Command};
-ghost use Rattle.lt_command_line.specs.Options.{AreInRange, default_options, is_set, joined, number_or, options_of};
-ghost use Rattle.lt_command_line.specs.Words.{file_rule, number_rule, threads_rule, program, reader, runner, lockrun, order, order_of, run_of, chosen_of, IsToldBy, run as runs, check as checks, upgrade as upgrades, texts, HasOptionsInRange, IsReadOf, is_option, HasMost, IsOutOfRange, IsCommand, ReadsHistories, IsStray, IsJobOf, Helps, Refuses};
+ghost use Rattle.lt_command_line.specs.Options.{AreInRange, default_options, is_set, joined, number_or, options_of_words, with_threads};
+ghost use Rattle.lt_command_line.specs.Words.{file_rule, number_rule, threads_rule, program, reader, runner, lockrun, order, order_of, run_of, chosen_of, IsToldBy, run as runs, check as checks, upgrade as upgrades, texts, HasOptionsInRange, IsReadOf, IsCommand, IsStray, IsJobOf, Helps, Refuses, ReadsFile, Accepts, ReadsFileAndOptions, RefusesTwoFiles, RefusesOutOfRange, RefusesOptionsOfRun};
 
 use crate::Options;
 use clap::error::ErrorKind;
@@ -75,7 +75,7 @@ fn threads_option<'a>(alloc: Global) -> Arg<'a>
     Arg::new(alloc, "threads")
         .long("threads")
         .action(ArgAction::SetTrue)
-        .help("Run each pass on a thread of its own")
+        .help("Runs each pass on a thread of its own, instead of all passes on one thread")
 }
 
 /// The command that runs a script, without its options.
@@ -86,11 +86,11 @@ fn script_reader<'a>(alloc: Global) -> Result<Command<'a>, AllocError>
     reader(
         alloc,
         "run",
-        "Runs a script and writes its answers and the histories of its keys",
+        "Runs a script, and writes the answers of its lines and the histories of its keys",
         file(
             alloc,
             "SCRIPT",
-            "The script; standard input where none is named",
+            "The file of the script. Without one, the command reads standard input",
         ),
     )
 }
@@ -100,16 +100,20 @@ fn runner<'a>(alloc: Global) -> Result<Command<'a>, AllocError>
     ensures reads { IfOk result (λ c. app_of c ≡ runner) }
     ensures alone { IfOk result (λ c. (out-Command c).has_globals ≡ false) }
 {
-    let shards = number_option(alloc, "shards", "Shards of the table, 1 to 64");
+    let shards = number_option(
+        alloc,
+        "shards",
+        "The number of shards of the table: 1 to 64, default 4",
+    );
     let steps = number_option(
         alloc,
         "steps",
-        "Key steps that each shard can hold, 1 to 4294967296",
+        "The number of key steps that each shard can hold: 1 to 4294967296, default 1000000",
     );
     let turns = number_option(
         alloc,
         "turns",
-        "Polls of one `await` with threads, 1 to 1000000000",
+        "The number of polls that one `await` makes at most, with threads: 1 to 1000000000, default 1000000",
     );
     script_reader(alloc)?
         .arg(shards)?
@@ -125,7 +129,7 @@ fn program<'a>(alloc: Global) -> Result<Command<'a>, AllocError>
     Command::new(alloc, "lockrun")
         .no_binary_name(true)
         .about(
-            "Runs scripts of calls of a lock table, and checks and upgrades histories of its keys. Without a word it is `run`.",
+            "Runs scripts on a lock table, and checks and upgrades texts of histories. Without a command, it runs the script on standard input.",
         )
         .bin_name("lockrun")
 }
@@ -146,7 +150,7 @@ fn histories_reader<'a>(
         file(
             alloc,
             "FILE",
-            "The text; standard input where none is named",
+            "The file of the text. Without one, the command reads standard input",
         ),
     )
 }
@@ -159,7 +163,7 @@ fn checker<'a>(alloc: Global) -> Result<Command<'a>, AllocError>
     histories_reader(
         alloc,
         "check",
-        "Checks whether a text tells legal histories of keys",
+        "Checks whether a text of histories is legal, and writes the numbers of its keys and steps",
     )
 }
 
@@ -171,7 +175,7 @@ fn upgrader<'a>(alloc: Global) -> Result<Command<'a>, AllocError>
     histories_reader(
         alloc,
         "upgrade",
-        "Writes a text of legal histories as one of the latest version",
+        "Writes a text of legal histories in the latest version",
     )
 }
 
@@ -243,7 +247,7 @@ fn options_of(
     threads: Option<&str>,
     turns: Option<&str>,
 ) -> Option<Options>
-    ensures said { result ≡ options_of (option_map (λ s. s.now) shards.entry) (option_map (λ s. s.now) steps.entry) (option_map (λ s. s.now) threads.entry) (option_map (λ s. s.now) turns.entry) }
+    ensures said { result ≡ options_of_words shards.entry steps.entry threads.entry turns.entry }
     ensures range { IfSome result AreInRange }
 {
     let usual = Options::default();
@@ -340,18 +344,18 @@ pub fn read_words<'a>(alloc: Global, words: &'a [&'a str]) -> Result<Job<'a>, Wo
 
     ensures none { texts words.now ≡ [] → IsJobOf result (runs None default_options) }
     ensures run { texts words.now ≡ codes "run" ∷ [] → IsJobOf result (runs None default_options) }
-    ensures script { (file : Text) → is_option file ≡ false → texts words.now ≡ codes "run" ∷ file ∷ [] → IsJobOf result (runs (Some file) default_options) }
+    ensures script { ReadsFile (codes "run") (λ file. runs file default_options) words.now result }
     ensures check { texts words.now ≡ codes "check" ∷ [] → IsJobOf result (checks None) }
-    ensures histories { (file : Text) → is_option file ≡ false → texts words.now ≡ codes "check" ∷ file ∷ [] → IsJobOf result (checks (Some file)) }
+    ensures histories { ReadsFile (codes "check") checks words.now result }
     ensures upgrade { texts words.now ≡ codes "upgrade" ∷ [] → IsJobOf result (upgrades None) }
-    ensures upgraded { (file : Text) → is_option file ≡ false → texts words.now ≡ codes "upgrade" ∷ file ∷ [] → IsJobOf result (upgrades (Some file)) }
+    ensures upgraded { ReadsFile (codes "upgrade") upgrades words.now result }
 
     // Each option sets its own value, and an option that is left out has its default.
-    ensures threads { texts words.now ≡ codes "run" ∷ codes "--threads" ∷ [] → IsJobOf result (runs None (record default_options { threads = true })) }
-    ensures shards { (n : ℕ) → 1 ≤ n → n ≤ 64 → texts words.now ≡ codes "run" ∷ codes "--shards" ∷ decimal n ∷ [] → IsJobOf result (runs None (record default_options { shards = n })) }
-    ensures steps { (n : ℕ) → 1 ≤ n → n ≤ 2 ^ 32 → texts words.now ≡ codes "run" ∷ codes "--steps" ∷ decimal n ∷ [] → IsJobOf result (runs None (record default_options { steps = n })) }
-    ensures turns { (n : ℕ) → 1 ≤ n → n ≤ 1000000000 → texts words.now ≡ codes "run" ∷ codes "--turns" ∷ decimal n ∷ [] → IsJobOf result (runs None (record default_options { turns = n })) }
-    ensures together { (file : Text) → is_option file ≡ false → texts words.now ≡ codes "run" ∷ file ∷ codes "--shards" ∷ codes "1" ∷ codes "--steps" ∷ codes "2" ∷ [] → IsJobOf result (runs (Some file) (record default_options { shards = 1; steps = 2 })) }
+    ensures threads { texts words.now ≡ codes "run" ∷ codes "--threads" ∷ [] → IsJobOf result (runs None with_threads) }
+    ensures shards { Accepts (codes "--shards") 64 (λ n. record default_options { shards = n }) words.now result }
+    ensures steps { Accepts (codes "--steps") (2 ^ 32) (λ n. record default_options { steps = n }) words.now result }
+    ensures turns { Accepts (codes "--turns") 1000000000 (λ n. record default_options { turns = n }) words.now result }
+    ensures together { ReadsFileAndOptions words.now result }
 
     ensures help { texts words.now ≡ codes "--help" ∷ [] → Helps result }
     ensures help_of { (name : Text) → IsCommand name → texts words.now ≡ name ∷ codes "--help" ∷ [] → Helps result }
@@ -359,9 +363,9 @@ pub fn read_words<'a>(alloc: Global, words: &'a [&'a str]) -> Result<Job<'a>, Wo
     // Refused: a first word that is neither a command, nor an option, nor `help`; two files; a number option of run
     // given to check or upgrade; and for run a number out of its range, or a word that is not a number.
     ensures stray { (word : Text) (rest : List Text) → IsStray word → texts words.now ≡ word ∷ rest → Refuses result }
-    ensures two { (name first second : Text) → IsCommand name → is_option first ≡ false → is_option second ≡ false → texts words.now ≡ name ∷ first ∷ second ∷ [] → Refuses result }
-    ensures out_of_range { (name word : Text) (most : ℕ) → HasMost name most → is_option word ≡ false → IsOutOfRange word most → texts words.now ≡ codes "run" ∷ name ∷ word ∷ [] → Refuses result }
-    ensures option_of_check { (command name word : Text) (most : ℕ) → ReadsHistories command → HasMost name most → texts words.now ≡ command ∷ name ∷ word ∷ [] → Refuses result }
+    ensures two { RefusesTwoFiles words.now result }
+    ensures out_of_range { RefusesOutOfRange words.now result }
+    ensures option_of_check { RefusesOptionsOfRun words.now result }
 {
     parsed(alloc, words)
 }

@@ -1,11 +1,13 @@
 -- How an entry stores the call and the reply of its step.
-use Rattle.std.specs.Prelude.{ℕ, Bool, Some, None}
+use Rattle.std.specs.Prelude.{ℕ, Bool, Some, None, List}
 use Rattle.lt_ids.specs.Ids.{Wait}
 use Rattle.lt_ids.specs.declared.timestamp.Timestamp.{Timestamp}
 use Rattle.lt_ids.specs.declared.request.Access.{Access}
+use Rattle.lt_ids.specs.declared.ticket.Through.{Through}
 use Rattle.lt_plain.specs.declared.call.Call.{Call}
 use Rattle.lt_plain.specs.declared.call.Call.TheVariants as call
 use Rattle.lt_plain.specs.declared.call.Reply.{Reply}
+use Rattle.lt_plain.specs.Step.{EntryState}
 use Rattle.lt_plain.specs.declared.call.Reply.TheVariants as reply
 use Rattle.lt_entry.specs.declared.entry.CallKind.{CallKind}
 use Rattle.lt_entry.specs.declared.entry.CallKind.TheVariants.{OwnedVisit, UnownedVisit, Acquire, Update, Finish, Leave, Look}
@@ -40,3 +42,7 @@ reply_of Idle txn held = reply.Idle
 reply_of WaitFor txn held = reply.WaitFor txn held
 reply_of WaitFirst txn held = reply.WaitFirst txn held
 reply_of WaitOwn txn held = reply.WaitOwn txn
+
+-- the step with these parts
+abbrev pub entry_with : List ℕ → ℕ → Call → Reply → List Through → EntryState
+entry_with key pass call reply lets = record { key = key; pass = pass; call = call; reply = reply; lets = lets }

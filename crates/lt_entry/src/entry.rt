@@ -2,7 +2,7 @@
 //! side by side, to be small; `specs/Entry.antt` puts them together again. Read `specs/Ranges.antt` next for the
 //! numbers that an entry can have, and `specs/Legal.antt` for the legal histories.
 ghost use Rattle.std.specs.Prelude.{◌≡◌, ◌≤◌, All};
-ghost use Rattle.lt_entry.specs.Entry.{call_of, reply_of};
+ghost use Rattle.lt_entry.specs.Entry.{call_of, reply_of, entry_with};
 ghost use Rattle.lt_entry.specs.Ranges.{IsTxn, IsOwner, IsTicket, IsTime, IsCall, IsReply, IsInRange, NamesNumber};
 
 use lt_ids::{Access, Key, Through, Ticket, Timestamp, TxnId};
@@ -225,11 +225,14 @@ pub struct Entry {
 
 impl Model for Entry {
     ghost use Rattle.lt_plain.specs.Step.{EntryState};
-    ghost use Rattle.lt_entry.specs.Entry.{call_of, reply_of};
+    ghost use Rattle.lt_entry.specs.Entry.{call_of, reply_of, entry_with};
 
     ghost Value = { EntryState };
 
-    ghost view = { λ e. record { key = e.key; pass = e.pass; call = call_of e.call_kind e.ticket e.txn (record { wall = e.wall; logical = e.logical }) e.access e.longest; reply = reply_of e.reply_kind e.reply_txn e.held; lets = e.lets.items } };
+    ghost view = { λ e. entry_with e.key e.pass
+        (call_of e.call_kind e.ticket e.txn (record { wall = e.wall; logical = e.logical }) e.access e.longest)
+        (reply_of e.reply_kind e.reply_txn e.held)
+        e.lets.items };
 }
 
 impl Entry {
@@ -352,7 +355,7 @@ impl Entry {
         requires low { 1 ≤ pass }
         requires high { pass ≤ 1024 }
         requires number { NamesNumber call.now }
-        ensures { IsInRange (record { key = key.now; pass = pass; call = call.now; reply = reply.now; lets = lets.now }) }
+        ensures { IsInRange (entry_with key.now pass call.now reply.now lets.now) }
     {
         let _ = key.as_bytes();
         call_in_range(call);

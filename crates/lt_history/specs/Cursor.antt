@@ -6,7 +6,7 @@ use Rattle.std.specs.Prelude.{false}
 use Rattle.lt_ids.specs.Ids.{Wait}
 use Rattle.lt_plain.specs.Rules.{Record, empty}
 use Rattle.lt_plain.specs.Step.{step}
-use Rattle.lt_plain.specs.Table.{record_at}
+use Rattle.lt_plain.specs.Table.{Records, record_at}
 use Rattle.lt_history.specs.declared.error.Fault.TheVariants.{KeyOrder, Index, WrongReply, WrongLets}
 use Rattle.lt_history.specs.declared.error.HistoryLineError.{HistoryLineError}
 use Rattle.lt_history.specs.declared.error.HistoryLineError.TheVariants as refusals
@@ -56,6 +56,10 @@ pub record FollowsRules (r : Record) (s : LineStep) (tickets : List Wait) (after
   pub replied : s.reply ≡ (step r s.pass s.call).reply
   pub let_through : tickets ≡ map (λ t. t.ticket) (step r s.pass s.call).lets
   pub left : after ≡ (step r s.pass s.call).after
+
+-- The rules give the line's reply and its tickets at this key, and take the old records to the new one of the key.
+abbrev pub FollowsRulesAt : List ℕ → Records → LineStep → List Wait → Records → Type 0
+FollowsRulesAt key old s tickets new = FollowsRules (record_at old key) s tickets (record_at new key)
 
 abbrev pub IsNotMade : Record → LineStep → List Wait → HistoryLineError → Type 0
 IsNotMade r s tickets refusals.Memory = Unit {0}

@@ -1,5 +1,6 @@
 -- The text of a history: the keys in rising order, each with its entries in their order.
 use Rattle.std.specs.Prelude.{ℕ, ◌≡◌, ◌≢◌, ◌↔◌, ◌+◌, Bool, true, List, [], ◌∷◌, map, Contains}
+use Rattle.std.specs.Global.{Vec}
 use Rattle.std.specs.List.{flat_map, AllByRecursion}
 use Rattle.std.specs.Ordering.{nat_cmp, is_lt}
 use Rattle.std.specs.Cmp.Lexicographic.{slice_cmp}
@@ -62,3 +63,11 @@ pub record IsTextBy (version : ℕ) (text : List ℕ) (es : List Entry) : Type 0
 -- The text of these entries in the latest version.
 abbrev pub IsTextOf : List ℕ → List Entry → Type 0
 IsTextOf text es = IsTextBy 2 text es
+
+-- Every text of these entries is this one.
+abbrev pub IsOnlyText : List ℕ → List Entry → Type 0
+IsOnlyText text es = (other : List ℕ) → IsTextOf other es → text ≡ other
+
+-- The stored entries of all shards, shard after shard.
+abbrev pub stored_entries : List (Vec Entry) → List Entry
+stored_entries shards = flat_map (λ shard. shard.items) shards

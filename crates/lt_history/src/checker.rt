@@ -3,13 +3,13 @@
 //! [`check`] reads the first line, picks the version, and then follows the text line by line with a `Cursor`.
 //! [`upgrade`] rewrites the first line of a legal text. Read next: `cursor.rt` for the checks of one line against
 //! the rules, `line.rt` for the syntax of a line, and `specs/Verdict.antt` for what a verdict means.
-ghost use Rattle.std.specs.Prelude.{◌≡◌, ◌==◌, ◌<◌, ◌≤◌, ◌+◌, ◌^◌, ℕ, if◌then◌else◌, List, [], ◌∷◌, IfOk, IfErr, length, ◌++◌};
+ghost use Rattle.std.specs.Prelude.{◌≡◌, ◌==◌, ◌<◌, ◌≤◌, ◌+◌, ◌^◌, if◌then◌else◌, List, [], ◌∷◌, IfOk, IfErr, length, ◌++◌};
 ghost use Rattle.lt_history.specs.Cursor.{spot};
 ghost use Rattle.lt_history.specs.Lines.{IsLine, line_text, parts_of};
-ghost use Rattle.lt_history.specs.Text.{IsOf, IsShapelessIn, TakesLine, HasFaultOr, Fails};
+ghost use Rattle.lt_history.specs.Text.{IsOf, IsShapelessIn, TakesLine, HasFaultOr};
 ghost use Rattle.lt_history.specs.Version.{IsVersion, header_of, is_first, is_too_long_reply, is_of_version};
 ghost use Rattle.lt_history.specs.First.{is_of_first};
-ghost use Rattle.lt_history.specs.Verdict.{located, Judges, Says, IsLegalText, IsOrMemory, upgraded, of_latest};
+ghost use Rattle.lt_history.specs.Verdict.{located, Judges, Says, IsLegalText, IsOrMemory, RefusesFaulty, upgraded, of_latest};
 
 use crate::cursor::{Cursor, follow, start};
 use crate::error::{Fault, HistoryLineError};
@@ -172,7 +172,7 @@ pub fn check(alloc: Global, text: &[u8]) -> Result<Report, CheckError>
     // A legal text is accepted, with its version and its numbers of keys and steps.
     ensures legal { (report : Report) → IsLegalText text.now report → IsOrMemory result (Ok report) }
     // Any other text is refused, with its first faulty line and the first fault in that line.
-    ensures faulty { (line : ℕ) (fault : Fault) → Fails text.now line fault → IsOrMemory result (Err (CheckError.Refused line fault)) }
+    ensures faulty { RefusesFaulty text.now result }
 {
     judge(alloc, text)
 }

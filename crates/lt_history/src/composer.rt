@@ -3,15 +3,15 @@
 //! [`put_histories`] collects the entries of all shards, sorts them by key without changing the order within a key,
 //! and writes one line for each. [`compose`] does the same into a new vector. Read next: `specs/Histories.antt`,
 //! which defines the text of a list of entries, and `printer.rt`, which writes it to a stream.
-ghost use Rattle.std.specs.Prelude.{◌≡◌, ℕ, ◌+◌, ◌<◌, ◌≤◌, ◌^◌, ◌++◌, ◌∷◌, [], List, OnOk, IfOk, map, length};
+ghost use Rattle.std.specs.Prelude.{◌≡◌, ◌+◌, ◌<◌, ◌≤◌, ◌^◌, ◌++◌, ◌∷◌, [], OnOk, IfOk, map, length};
 ghost use Rattle.std.specs.List.{flat_map};
 ghost use Rattle.lt_text.specs.Compose.{spaced};
 ghost use Rattle.lt_text.specs.Fields.{ticket_word};
 ghost use Rattle.lt_history.specs.Lines.{lets_words, line_text};
-ghost use Rattle.lt_history.specs.Histories.{parts_of_entry, IsTextOf};
+ghost use Rattle.lt_history.specs.Histories.{parts_of_entry, stored_entries, IsOnlyText, IsTextOf};
 ghost use Rattle.lt_entry.specs.Legal.{key_part};
-ghost use Rattle.lt_history.specs.Print.{PutsText};
-ghost use Rattle.lt_history.specs.Sorted.{RiseFrom, HaveSameParts, next_index, lines_after};
+ghost use Rattle.lt_history.specs.Print.{PutsOnlyText, PutsText};
+ghost use Rattle.lt_history.specs.Sorted.{AppendsBy, RiseFrom, HaveSameParts, next_index, lines_text};
 ghost use Rattle.std.specs.List.Sorted.{IsSortedByKey, IsStableByKey};
 ghost use Rattle.std.specs.Ordering.{nat_cmp};
 ghost use Rattle.std.specs.Cmp.Lexicographic.{slice_cmp};
@@ -80,7 +80,7 @@ fn compare(a: &Ranked, b: &Ranked) -> Ordering
 
 /// Appends the entries of one shard.
 fn push_all<'a>(entries: &mut Vec<Ranked<'a>>, shard: &'a [Entry]) -> Result<(), AllocError>
-    ensures { OnOk result (map (λ e. e.entry.now) entries.new.items ≡ map (λ e. e.entry.now) entries.old.items ++ shard.now) }
+    ensures { OnOk result (AppendsBy (λ e. e.entry.now) entries.old.items entries.new.items shard.now) }
 {
     for entry in shard {
         entries.push(with_rank(entry))?;
@@ -99,7 +99,7 @@ fn count(shards: &[Vec<Entry>]) -> usize {
 
 /// All entries, shard after shard.
 fn entries_of<'a>(alloc: Global, shards: &'a [Vec<Entry>]) -> Result<Vec<Ranked<'a>>, AllocError>
-    ensures { IfOk result (λ v. map (λ e. e.entry.now) v.items ≡ flat_map (λ v. v.items) shards.now) }
+    ensures { IfOk result (λ v. map (λ e. e.entry.now) v.items ≡ stored_entries shards.now) }
 {
     let mut entries = Vec::with_capacity(alloc, count(shards))?;
     for shard in shards {
@@ -120,7 +120,7 @@ fn sort_by_key(entries: &mut Vec<Ranked>) -> Result<(), AllocError>
 /// All entries in the order of their keys. Entries of the same key keep their order.
 fn by_key<'a>(alloc: Global, shards: &'a [Vec<Entry>]) -> Result<Vec<Ranked<'a>>, AllocError>
     ensures rising { IfOk result (λ v. RiseFrom [] (map (λ e. e.entry.now) v.items)) }
-    ensures parts { IfOk result (λ v. HaveSameParts (map (λ e. e.entry.now) v.items) (flat_map (λ v. v.items) shards.now)) }
+    ensures parts { IfOk result (λ v. HaveSameParts (map (λ e. e.entry.now) v.items) (stored_entries shards.now)) }
 {
     let mut entries = entries_of(alloc, shards)?;
     sort_by_key(&mut entries)?;
@@ -176,7 +176,7 @@ fn next_index(before: &[u8], index: u64, key: &[u8]) -> u64
 
 /// Appends the lines of the entries, which are sorted by key.
 fn put_lines(out: &mut Vec<u8>, entries: &[Ranked]) -> Result<(), AllocError>
-    ensures { OnOk result (out.new.items ≡ out.old.items ++ flat_map line_text (lines_after [] 0 (map (λ e. e.entry.now) entries.now))) }
+    ensures { OnOk result (out.new.items ≡ out.old.items ++ lines_text (map (λ e. e.entry.now) entries.now)) }
 {
     let mut key: &[u8] = b"";
     let mut index = 0;
@@ -193,9 +193,9 @@ fn put_lines(out: &mut Vec<u8>, entries: &[Ranked]) -> Result<(), AllocError>
 /// with its entries in the order in which the shards hold them. Needs 16 bytes for each entry, the same again for
 /// the sort, and the time of one sort of the entries.
 pub fn put_histories(out: &mut Vec<u8>, shards: &[Vec<Entry>]) -> Result<(), AllocError>
-    ensures text { OnOk result (PutsText out.old.items out.new.items (flat_map (λ shard. shard.items) shards.now)) }
+    ensures text { OnOk result (PutsText out.old.items out.new.items (stored_entries shards.now)) }
     // No other text is the text of these entries.
-    ensures alone { OnOk result ((other : List ℕ) → IsTextOf other (flat_map (λ shard. shard.items) shards.now) → out.new.items ≡ out.old.items ++ other) }
+    ensures alone { OnOk result (PutsOnlyText out.old.items out.new.items (stored_entries shards.now)) }
 {
     let entries = by_key(*out.allocator(), shards)?;
     out.extend_from_slice(b"locks 2\n")?;
@@ -205,9 +205,9 @@ pub fn put_histories(out: &mut Vec<u8>, shards: &[Vec<Entry>]) -> Result<(), All
 
 /// Returns the text of the histories of these shards, as [`put_histories`] writes it.
 pub fn compose(alloc: Global, shards: &[Vec<Entry>]) -> Result<Vec<u8>, AllocError>
-    ensures text { IfOk result (λ text. IsTextOf text.items (flat_map (λ shard. shard.items) shards.now)) }
+    ensures text { IfOk result (λ text. IsTextOf text.items (stored_entries shards.now)) }
     // No other text is the text of these entries.
-    ensures alone { IfOk result (λ text. (other : List ℕ) → IsTextOf other (flat_map (λ shard. shard.items) shards.now) → text.items ≡ other) }
+    ensures alone { IfOk result (λ text. IsOnlyText text.items (stored_entries shards.now)) }
 {
     let mut text = Vec::new(alloc);
     put_histories(&mut text, shards)?;

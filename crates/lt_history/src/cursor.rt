@@ -7,7 +7,7 @@ ghost use Rattle.std.specs.Prelude.{◌≡◌, ◌<◌, ◌≤◌, ◌↔◌, If
 ghost use Rattle.lt_plain.specs.Table.{record_at};
 ghost use Rattle.lt_history.specs.Lines.{IsLine, parts_of};
 ghost use Rattle.lt_history.specs.Text.{Follows, IsWrongOr, start, spot_after};
-ghost use Rattle.lt_history.specs.Cursor.{spot, IsAtNewKey, IsNoFirst, IsNext, IsNoNext, FollowsRules, IsNotMade};
+ghost use Rattle.lt_history.specs.Cursor.{spot, IsAtNewKey, IsNoFirst, IsNext, IsNoNext, FollowsRulesAt, IsNotMade};
 
 use crate::error::{Fault, HistoryLineError};
 use crate::line::{Line, LineStep};
@@ -110,7 +110,7 @@ fn make_step(
 ) -> Result<(), HistoryLineError>
     requires pass_low { 1 ≤ step.now.pass }
     requires pass_high { step.now.pass ≤ 1024 }
-    ensures ok { IfOk result (λ _. FollowsRules (record_at table.old key.now) step.now tickets.now (record_at table.new key.now)) }
+    ensures ok { IfOk result (λ _. FollowsRulesAt key.now table.old step.now tickets.now table.new) }
     ensures err { IfErr result (λ e. IsNotMade (record_at table.old key.now) step.now tickets.now e) }
 {
     let mut lets = Vec::new(alloc);

@@ -1,8 +1,8 @@
 //! Writes the text of histories to a stream.
 ghost use Rattle.std.specs.Prelude.{◌≡◌, ◌<◌, ◌≤◌, ◌++◌, [], OnOk, length, take, IfSome, IfNone, IfErr};
 ghost use Rattle.std.specs.Io.KnownBytes.{Appends};
-ghost use Rattle.std.specs.List.{flat_map};
-ghost use Rattle.lt_history.specs.Print.{AppendsPrefix, AppendsText, AppendsTextPrefix};
+ghost use Rattle.lt_history.specs.Histories.{stored_entries};
+ghost use Rattle.lt_history.specs.Print.{AppendsText, IsWriteFailure, LeavesTextPrefix};
 ghost use Rattle.lt_history.specs.declared.printer.PrintError.TheVariants.{Memory};
 
 use crate::{Entry, compose};
@@ -49,7 +49,7 @@ fn write_some<W: Write>(writer: &mut W, text: &[u8]) -> Option<usize>
 #[tactic(auto, using(crate::proofs::Written::written_none, crate::proofs::Written::written_more, crate::proofs::Written::written_all, crate::proofs::Written::written_prefix))]
 pub fn write_out<W: Write>(writer: &mut W, text: &[u8]) -> Result<(), PrintError>
     ensures ok { OnOk result (Appends (W.contents writer.old) (W.contents writer.new) text.now) }
-    ensures err { IfErr result (λ e. (e ≡ PrintError.Write) × AppendsPrefix (W.contents writer.old) (W.contents writer.new) text.now) }
+    ensures err { IfErr result (λ e. IsWriteFailure e (W.contents writer.old) (W.contents writer.new) text.now) }
 {
     let mut rest = text;
     while !rest.is_empty() {
@@ -71,11 +71,11 @@ pub fn print<W: Write>(
     writer: &mut W,
 ) -> Result<(), PrintError>
     // The writer has received the whole text and nothing else.
-    ensures ok { OnOk result (AppendsText (W.contents writer.old) (W.contents writer.new) (flat_map (λ shard. shard.items) shards.now)) }
+    ensures ok { OnOk result (AppendsText (W.contents writer.old) (W.contents writer.new) (stored_entries shards.now)) }
     // If memory runs out, the writer is unchanged.
     ensures memory { IfErr result (λ e. e ≡ PrintError.Memory → writer.new ≡ writer.old) }
     // If a write fails, the writer has received a prefix of the text.
-    ensures write { IfErr result (λ e. e ≡ PrintError.Write → AppendsTextPrefix (W.contents writer.old) (W.contents writer.new) (flat_map (λ shard. shard.items) shards.now)) }
+    ensures write { IfErr result (λ e. LeavesTextPrefix e (W.contents writer.old) (W.contents writer.new) shards.now) }
 {
     let text = compose(alloc, shards)?;
     write_out(writer, &text)

@@ -1,5 +1,5 @@
 -- Timestamps and their order, the numbers of requests and of waits, and the word that encodes a ticket.
-use Rattle.std.specs.Prelude.{Bool, ℕ, ◌==◌, ◌+◌, ◌*◌, ◌/◌, ◌%◌, ◌^◌, ◌<◌, ◌≤◌}
+use Rattle.std.specs.Prelude.{Bool, ℕ, ◌==◌, ◌+◌, ◌*◌, ◌/◌, ◌%◌, ◌^◌, ◌<◌, ◌≤◌, ◌≡◌}
 use Rattle.std.specs.Ordering.{nat_cmp, on, then_cmp, is_lt, eq_of_both}
 use Rattle.std.specs.declared.cmp.Ordering.{Ordering}
 use Rattle.lt_ids.specs.declared.timestamp.Timestamp.{Timestamp}
@@ -40,3 +40,8 @@ IsNumber n = (1 ≤ n) × (n < 2 ^ 40)
 -- the range of a wait number
 abbrev pub IsWaitNumber : ℕ → Type 0
 IsWaitNumber n = (1 ≤ n) × (n < 2 ^ 24)
+
+-- No other wait with numbers in their ranges has this value.
+abbrev pub IsOnlyWaitOf : ℕ → Wait → Type 0
+IsOnlyWaitOf value wait =
+    (other : Wait) → IsNumber other.number → IsWaitNumber other.wait → value_of other ≡ value → other ≡ wait

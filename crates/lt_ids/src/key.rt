@@ -1,13 +1,13 @@
 //! What is a key, and when does one allocate? [`Key`] is the public type; `Bytes` is its storage, which no
 //! contract outside this crate mentions. `specs/Key.antt` defines which byte strings are keys and the order of the
 //! faults.
-ghost use Rattle.std.specs.Prelude.{◌≡◌, ◌==◌, ◌≤◌, length, IfOk, IsOk, IfSome, IfNone, IsNone, MatchResult, All, IsTrue, false, not, position};
+ghost use Rattle.std.specs.Prelude.{◌≡◌, ◌==◌, ◌≤◌, length, IfOk, IsOk, IfSome, IfNone, IsNone, All, IsTrue, false, not, position};
 ghost use Rattle.std.specs.Ordering.{nat_cmp, as_partial_cmp};
 ghost use Rattle.std.specs.Cmp.{partial_order_from_own_ties};
 ghost use Rattle.std.specs.Cmp.Rules.{comparing};
 ghost use Rattle.std.specs.Cmp.Lexicographic.{slice_cmp, pointwise};
 ghost use Rattle.std.proofs.Common.{rules};
-ghost use Rattle.lt_ids.specs.Key.{IsKey, key_fault, is_key_byte};
+ghost use Rattle.lt_ids.specs.Key.{IsKey, IsKeyUnlessMemory, key_fault, is_key_byte};
 ghost use Rattle.lt_ids.specs.Bytes.{bytes_of, AreWithin, NeedTheirRoom};
 
 use crate::IdError;
@@ -95,7 +95,7 @@ impl Key {
     /// the call fails only when an allocation fails. Up to 22 bytes allocate nothing.
     pub fn from_bytes(alloc: Global, bytes: &[u8]) -> Result<Key, IdError>
         ensures fault { IfSome (key_fault bytes.now) (λ fault. result ≡ Err fault) }
-        ensures key { IfNone (key_fault bytes.now) (MatchResult result (λ key. key ≡ bytes.now) (λ e. e ≡ IdError.Memory)) }
+        ensures key { IfNone (key_fault bytes.now) (IsKeyUnlessMemory bytes.now result) }
         ensures is_key { IfOk result IsKey }
         ensures short { IsNone (key_fault bytes.now) → length bytes.now ≤ 22 → IsOk result }
     {

@@ -1,6 +1,6 @@
 ghost use Rattle.std.specs.Prelude.{◌≡◌, ◌<◌, ◌↔◌, IsSome, IfSome};
 ghost use Rattle.std.specs.Cmp.{partial_equiv_from_equiv};
-ghost use Rattle.lt_ids.specs.Ids.{Wait, value_of, same_wait, same_wait_equiv, IsNumber, IsWaitNumber};
+ghost use Rattle.lt_ids.specs.Ids.{value_of, same_wait, same_wait_equiv, IsNumber, IsWaitNumber, IsOnlyWaitOf};
 
 use std::fmt::{self, Debug, Formatter, Write};
 use std::marker::Model;
@@ -60,7 +60,7 @@ impl Ticket {
         ensures value { result ≡ value_of self }
         ensures positive { 0 < result }
         // No other ticket has this value.
-        ensures alone { (other : Wait) → IsNumber other.number → IsWaitNumber other.wait → value_of other ≡ result → other ≡ self }
+        ensures alone { IsOnlyWaitOf result self }
     {
         self.value
     }

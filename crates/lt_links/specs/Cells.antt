@@ -76,6 +76,10 @@ module _ {K : Type 0} where
       pub sets : Sets (joints nodes ends) (joints nodes' ends') k at j
       pub keeps : Keeps nodes ends nodes' ends'
 
+    -- one joint is replaced by what this function makes of it
+    abbrev pub ChangesJoint : K → Option ℕ → (Joint → Joint) → Type 0
+    ChangesJoint k at change = SetsJoint k at (change (joints nodes ends k at))
+
     -- two positions of a list become neighbors
     pub record JoinsPlaces (k : K) (p s : Option ℕ) : Type 0 where
       pub joins : JoinsIn (joints nodes ends) (joints nodes' ends') k p s
@@ -88,6 +92,11 @@ module _ {K : Type 0} where
       pub first : JoinsIn (joints nodes ends) (joints mid_nodes mid_ends) k at (Some n)
       pub second : JoinsIn (joints mid_nodes mid_ends) (joints nodes' ends') k (Some n) next
       pub keeps : Keeps nodes ends nodes' ends'
+
+  -- Every position that exists before a change still exists afterwards.
+  abbrev pub KeepsPlaces : {E : Type 0} → (Slab Node → E → K → Option ℕ → Type 0) → (Slab Node → E → Slab Node → E → Type 0) → Type 0
+  KeepsPlaces {E} HasPlace Keeps =
+      (a b : Slab Node) (d e : E) (k : K) (at : Option ℕ) → Keeps a d b e → HasPlace a d k at → HasPlace b e k at
 
   abbrev pub IsFamily : Joints K → (ℕ → Option K) → (K → List ℕ) → Type 0
   IsFamily joints home lists = Family (next_of joints) (prev_of joints) home lists

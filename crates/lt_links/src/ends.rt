@@ -2,7 +2,7 @@
 //! numbers, so it is written once, for any type with [`Ends`]. A position is a node, or `None` for both ends of
 //! the list. Read `queues.rt` and `owners.rt` next, which implement the trait.
 ghost use Rattle.std.specs.Prelude.{◌≡◌, Some};
-ghost use Rattle.lt_links.specs.Cells.{SetsJoint, JoinsPlaces, LinksNode};
+ghost use Rattle.lt_links.specs.Cells.{ChangesJoint, JoinsPlaces, LinksNode};
 
 use crate::node::Node;
 use slab::Slab;
@@ -12,7 +12,7 @@ pub(crate) trait Ends {
     ghost use Rattle.std.specs.Prelude.{ℕ, Option};
     ghost use Rattle.slab.specs.Slab.{Slab};
     ghost use Rattle.lt_links.specs.declared.node.Node.{Node};
-    ghost use Rattle.lt_links.specs.Cells.{Joints};
+    ghost use Rattle.lt_links.specs.Cells.{Joints, KeepsPlaces};
 
     type Key;
 
@@ -33,7 +33,8 @@ pub(crate) trait Ends {
         prev: Option<usize>,
     )
         requires { HasPlace nodes.old self.old key.now at }
-        ensures { SetsJoint joints Keeps nodes.old self.old nodes.new self.new key.now at (record (joints nodes.old self.old key.now at) { prev = prev }) };
+        ensures { ChangesJoint joints Keeps nodes.old self.old nodes.new self.new key.now at
+            (λ j. record j { prev = prev }) };
 
     fn set_next(
         &mut self,
@@ -43,11 +44,12 @@ pub(crate) trait Ends {
         next: Option<usize>,
     )
         requires { HasPlace nodes.old self.old key.now at }
-        ensures { SetsJoint joints Keeps nodes.old self.old nodes.new self.new key.now at (record (joints nodes.old self.old key.now at) { next = next }) };
+        ensures { ChangesJoint joints Keeps nodes.old self.old nodes.new self.new key.now at
+            (λ j. record j { next = next }) };
 
     ghost keeps_twice: { (a b c : Slab Node) (d e f : Self) → Keeps a d b e → Keeps b e c f → Keeps a d c f };
 
-    ghost stays: { (a b : Slab Node) (d e : Self) (k : Self.Key) (at : Option ℕ) → Keeps a d b e → HasPlace a d k at → HasPlace b e k at };
+    ghost stays: { KeepsPlaces HasPlace Keeps };
 }
 
 /// Makes two positions of a list neighbors.

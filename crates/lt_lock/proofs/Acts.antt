@@ -256,7 +256,7 @@ module _ (old : Maps) (r : Row) (txn : ℕ) (linked : HasQueues old r.id) where
         w.sound (others_written old new r.id Reservation [] here) linked (omega arith) (linked.named Writers) (linked.named Readers) tt
         (rw (reserved_line, own) refl)
 
-    -- a reservation of another transaction is made inactive at its node, and moves to the leading_writers of the writers
+    -- a reservation of another transaction is made inactive at its node, and moves to the front of the writers
     pub other_set_back : (mid : Maps) (to : Queue) (back : Stand) → to ≡ queue_at r.id Writers → is_txn s.txn txn ≡ false → writer_of back ≡ record { request = request_of s; active = false } →
         ((p : Queue) → queue mid p ≡ queue old p) → WritesQueue old mid q (back ∷ stands_at old ys) → MovesToFront mid new q to (stand_at mid node) (stands_at mid ys) → IsRewritten old new r (without_reservation txn (record_of old r))
     other_set_back mid to back is_to other is_back queues w brings =

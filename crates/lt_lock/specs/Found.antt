@@ -1,13 +1,14 @@
 -- The queue entry of a request at a key, the entries that leave a queue, and the effects of changes to a queue.
-use Rattle.std.specs.Prelude.{◌≡◌, ◌≢◌, ◌<◌, ◌≤◌, ℕ, Bool, true, if◌then◌else◌, is_some, ◌&&◌, Option, Some, None, List, [], ◌∷◌, ◌++◌, map, filter}
-use Rattle.std.specs.List.{AllByRecursion, last_or}
+use Rattle.std.specs.Prelude.{◌≡◌, ◌≢◌, ◌<◌, ◌≤◌, ℕ, Bool, true, if◌then◌else◌, is_some, not, ◌&&◌, Option, Some, None, List, [], ◌∷◌, ◌++◌, map, filter}
+use Rattle.std.specs.List.{AllByRecursion, find, last_or}
+use Rattle.std.specs.Option.{option_map}
 use Rattle.lt_ids.specs.declared.ticket.Through.{Through}
 use Rattle.lt_ids.specs.Ids.{is_below}
 use Rattle.lt_links.specs.declared.stand.Stand.{Stand}
 use Rattle.lt_links.specs.declared.ids.Queue.{Queue}
 use Rattle.lt_links.specs.declared.ids.QueueKind.{QueueKind}
 use Rattle.lt_links.specs.Maps.{Maps, queue, stand, has_record, HasNode, IsSound}
-use Rattle.lt_plain.specs.Rules.{is_txn, through_of}
+use Rattle.lt_plain.specs.Rules.{is_txn, is_eligible, through_of}
 use Rattle.lt_plain.specs.Visit.{enqueue}
 use Rattle.lt_lock.specs.Linked.{stand_at, stands_at, line, queue_at, request_of, writer_of, IsNamed}
 use Rattle.lt_lock.specs.declared.find.Found.{Found}
@@ -49,6 +50,19 @@ goes_on All s = true
 goes_on (Below ts) s = is_below s.ts ts
 goes_on (Of txn) s = is_txn s.txn txn && s.active
 
+-- the lets of those among these entries that leave and are waiting
+abbrev pub selected_lets : Selection → List Stand → List Through
+selected_lets who l = map (λ s. through_of (request_of s)) (filter (goes_on who) l)
+
+-- the entries that do not leave
+abbrev pub without_selected : Selection → List Stand → List Stand
+without_selected who l = filter (λ s. not (leaves who s)) l
+
+-- the number of the first writer that is eligible as the distinguished waiter, under this reservation
+abbrev pub first_eligible_number : Option Stand → List Stand → Option ℕ
+first_eligible_number reserved l =
+    option_map (λ s. s.number) (find (λ s. is_eligible (option_map request_of reserved) (writer_of s)) l)
+
 -- the lets of those among these entries that are waiting
 abbrev pub waiting_lets : List Stand → List Through
 waiting_lets l = map (λ s. through_of (request_of s)) (filter (λ s. s.active) l)
@@ -59,12 +73,16 @@ abbrev pub leading_writers : List Stand → List Stand
 leading_writers [] = []
 leading_writers (s ∷ l) = if is_some s.txn then s ∷ [] else s ∷ leading_writers l
 
+-- the lets of those of them that are waiting
+abbrev pub leading_lets : List Stand → List Through
+leading_lets l = waiting_lets (leading_writers l)
+
 -- the writers from the first one with a transaction
 abbrev pub from_txn : List Stand → List Stand
 from_txn [] = []
 from_txn (s ∷ l) = if is_some s.txn then s ∷ l else from_txn l
 
--- An entry moves from one queue, which keeps these entries, to the leading_writers of another queue.
+-- An entry moves from one queue, which keeps these entries, to the front of another queue.
 pub record MovesAcross (old new : Maps) (from to : Queue) (s : Stand) (left : List Stand) : Type 0 where
   pub left_is : line new from ≡ left
   pub here : line new to ≡ s ∷ line old to
@@ -72,7 +90,7 @@ pub record MovesAcross (old new : Maps) (from to : Queue) (s : Stand) (left : Li
   pub records : (id : ℕ) → has_record new id ≡ has_record old id
   pub sound : IsSound new
 
--- An entry moves to the leading_writers of a queue. The queue that it comes from keeps these entries.
+-- An entry moves to the front of a queue. The queue that it comes from keeps these entries.
 pub record MovesToFront (old new : Maps) (from to : Queue) (s : Stand) (left : List Stand) : Type 0 where
   pub within : from ≡ to → WritesQueue old new to (s ∷ left)
   pub over : from ≢ to → MovesAcross old new from to s left
@@ -99,3 +117,22 @@ pub record PutsWriter (old new : Maps) (to : Queue) (s : Stand) : Type 0 where
   pub keeps : KeepsNodes old new to
   pub is_placed : map writer_of after ≡ enqueue (map writer_of (line old to)) (request_of s)
   pub named : AllByRecursion IsNamed (line old to) → AllByRecursion IsNamed after
+
+-- The node's queue now has what this function makes of the entries before the node and of those behind it. Nothing
+-- else has changed.
+abbrev pub RewritesAt : Maps → Maps → ℕ → (List Stand → List Stand → List Stand) → Type 0
+RewritesAt old new node entries =
+    (q : Queue) (xs ys : List ℕ) → queue old q ≡ xs ++ node ∷ ys →
+    WritesQueue old new q (entries (stands_at old xs) (stands_at old ys))
+
+-- The entry is inserted immediately after the node in its queue.
+abbrev pub InsertsBehind : Maps → Maps → ℕ → Stand → Type 0
+InsertsBehind old new node s =
+    (q : Queue) (xs ys : List ℕ) → queue old q ≡ xs ++ node ∷ ys →
+    WritesQueue old new q (stands_at old xs ++ stand_at old node ∷ s ∷ stands_at old ys) × KeepsNodes old new q
+
+-- The node moves from its queue to the front of a queue.
+abbrev pub MovesNode : Maps → Maps → ℕ → Queue → Type 0
+MovesNode old new node to =
+    (q : Queue) (xs ys : List ℕ) → queue old q ≡ xs ++ node ∷ ys →
+    MovesToFront old new q to (stand_at old node) (stands_at old xs ++ stands_at old ys)

@@ -10,7 +10,7 @@ use Rattle.std.specs.BTreeMap.{BTreeMap}
 use Rattle.lt_ids.specs.Ids.{IsNumber, IsWaitNumber}
 use Rattle.lt_plain.specs.declared.queued.QueuedRequest.{QueuedRequest}
 use Rattle.lt_plain.specs.declared.queued.QueuedWriter.{QueuedWriter}
-use Rattle.lt_plain.specs.Rules.{Record}
+use Rattle.lt_plain.specs.Rules.{Record, eligible}
 use Rattle.lt_plain.specs.Table.{Records}
 use Rattle.lt_links.specs.declared.stand.Stand.{Stand}
 use Rattle.lt_links.specs.declared.ids.Queue.{Queue}
@@ -61,6 +61,10 @@ record_of m r = record {
   readers = map request_of (line m (queue_at r.id Readers));
   distinguished = r.distinguished;
 }
+
+-- the numbers of the eligible waiters of a key
+abbrev pub eligible_at : Maps → Row → List ℕ
+eligible_at m r = eligible (record_of m r).reservation (record_of m r).readers (record_of m r).writers
 
 abbrev pub records_of : Maps → Rows → Records
 records_of m rows = from_entries (map (λ e. (e.0, record_of m e.1)) rows.entries)

@@ -1,14 +1,20 @@
 -- The effect of a call on a row and its queues.
-use Rattle.std.specs.Prelude.{◌≡◌, ◌≢◌, ℕ, List}
+use Rattle.std.specs.Prelude.{◌≡◌, ◌≢◌, ℕ, Some, None, List, [], ◌++◌, drop, filter, not, slice_get, suc}
+use Rattle.std.specs.List.{find}
+use Rattle.std.specs.Option.{option_map}
 use Rattle.lt_ids.specs.declared.ticket.Through.{Through}
 use Rattle.lt_plain.specs.declared.call.Reply.{Reply}
-use Rattle.lt_plain.specs.Rules.{Record, Outcome, IsOutcome}
+use Rattle.lt_ids.specs.declared.request.Access.{Access}
+use Rattle.lt_plain.specs.declared.queued.QueuedRequest.{QueuedRequest}
+use Rattle.lt_plain.specs.Rules.{Record, Outcome, IsOutcome, TakesNoMemory, has_txn, is_of, leading, set_back, stop_reading}
+use Rattle.lt_plain.specs.Visit.{pass, visit}
 use Rattle.lt_plain.specs.Lawful.{IsLawful}
 use Rattle.lt_links.specs.declared.ids.Queue.{Queue}
 use Rattle.lt_links.specs.Maps.{Maps, has_record}
+use Rattle.lt_links.specs.declared.stand.Stand.{Stand}
 use Rattle.lt_lock.specs.declared.row.Row.{Row}
-use Rattle.lt_plain.specs.Table.{AreSound}
-use Rattle.lt_lock.specs.Linked.{Rows, line, record_of, records_of, HasQueues, AreLinked}
+use Rattle.lt_plain.specs.Table.{AreSound, IsStep}
+use Rattle.lt_lock.specs.Linked.{Rows, line, record_of, records_of, request_of, HasQueues, AreLinked}
 
 -- The queues of other rows are as before.
 pub record KeepsOthers (old new : Maps) (id : ℕ) : Type 0 where
@@ -32,6 +38,62 @@ pub record RowStepped (old new : Maps) (after : Row) (id : ℕ) (outcome : Outco
   pub is_outcome : IsOutcome outcome (record_of new after) reply lets
   pub linked : HasQueues new id
   pub others : KeepsOthers old new id
+
+-- The act was applied to the row's record, with these lets and this reply, and nothing else has changed.
+abbrev pub UpdatesRow : Maps → Maps → Row → Row → (Record → Outcome) → List Through → Reply → Type 0
+UpdatesRow old new row after act lets = λ reply. RowStepped old new after row.id (act (record_of old row)) reply lets
+
+-- This act on the row's record allocates nothing.
+abbrev pub RowUsesNoMemory : Maps → Row → (Record → Outcome) → Type 0
+RowUsesNoMemory m row act = TakesNoMemory (record_of m row) (act (record_of m row))
+
+-- The request stops reading, and this case of a visit then gives the row's record and the reply, without lets.
+abbrev pub VisitsRow : Maps → Maps → Row → Stand → (Record → QueuedRequest → Outcome) → Reply → Type 0
+VisitsRow old new row s case = λ reply.
+    RowStepped old new row row.id (case (stop_reading (record_of old row) s.number) (request_of s)) reply []
+
+-- This case of a visit allocates nothing, once the request has stopped reading.
+abbrev pub RowVisitUsesNoMemory : Maps → Row → Stand → (Record → QueuedRequest → Outcome) → Type 0
+RowVisitUsesNoMemory m row s case =
+    TakesNoMemory
+    (stop_reading (record_of m row) s.number)
+    (case (stop_reading (record_of m row) s.number) (request_of s))
+
+-- the visit of a record by the request of this entry
+abbrev pub visit_by : Stand → ℕ → Access → Record → Outcome
+visit_by s longest access = λ r. visit r (request_of s) longest access
+
+-- the request takes over this reservation, and the request that held it becomes the first writer
+abbrev pub taken_over : QueuedRequest → Record → QueuedRequest → Outcome
+taken_over reservation = λ r q. pass (record r { reservation = Some q; writers = set_back (Some reservation) ++ r.writers })
+
+-- the record after its first writer, if there is one, has moved to the reservation
+abbrev pub with_first_reserved : Record → Record
+with_first_reserved r =
+    record r { reservation = option_map (λ w. w.request) (slice_get r.writers 0); writers = drop 1 r.writers }
+
+-- the record after the readers have left, and the writers up to the first with a transaction, which now has the
+-- reservation
+abbrev pub with_next_reserved : Record → Record
+with_next_reserved r = record r {
+  reservation = option_map (λ w. w.request) (find has_txn r.writers);
+  writers = drop (suc (leading r.writers)) r.writers;
+  readers = [];
+}
+
+-- the record after its reservation has become the first writer, or has left if it is of this transaction
+abbrev pub with_set_back : ℕ → Record → Record
+with_set_back txn r =
+    record r { reservation = None; writers = filter (λ w. not (is_of txn w)) (set_back r.reservation) ++ r.writers }
+
+-- The act was applied to the record at the key, with these lets and this reply, and no other key's record changed.
+abbrev pub UpdatesRows : Maps → Maps → Rows → Rows → List ℕ → (Record → Outcome) → List Through → Reply → Type 0
+UpdatesRows old new rows after key act lets = λ reply.
+    IsStep (records_of old rows) key act reply lets (records_of new after)
+
+-- No record has changed, and there are no lets.
+abbrev pub KeepsRows : Maps → Maps → Rows → Rows → List Through → Type 0
+KeepsRows old new rows after lets = (records_of new after ≡ records_of old rows) × (lets ≡ [])
 
 -- The parts of a table, which are the links and the rows of its keys, agree and hold sound records.
 pub record IsTable (m : Maps) (rows : Rows) : Type 0 where

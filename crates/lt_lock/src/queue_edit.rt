@@ -1,9 +1,9 @@
 //! Changes to a queue, with contracts that see a queue as the list of its entries.
-ghost use Rattle.std.specs.Prelude.{◌≡◌, ◌≢◌, ◌∷◌, ◌++◌, ℕ, List, true, OnOk, OnErr};
+ghost use Rattle.std.specs.Prelude.{◌≡◌, ◌∷◌, ◌++◌, true, OnOk, OnErr};
 ghost use Rattle.lt_links.specs.declared.ids.Queue.{Queue};
 ghost use Rattle.lt_links.specs.Maps.{has_record, HasNode, queue, IsSound};
-ghost use Rattle.lt_lock.specs.Linked.{line, stand_at, stands_at};
-ghost use Rattle.lt_lock.specs.Found.{WritesQueue, MovesToFront, KeepsNodes};
+ghost use Rattle.lt_lock.specs.Linked.{line, stand_at};
+ghost use Rattle.lt_lock.specs.Found.{WritesQueue, KeepsNodes, RewritesAt, InsertsBehind, MovesNode};
 
 use lt_links::{Links, NodeId, Queue, Stand};
 use std::alloc::AllocError;
@@ -28,7 +28,7 @@ pub(crate) fn insert_behind(
 ) -> Result<(), AllocError>
     requires there { HasNode links.old node }
     requires sound { IsSound links.old }
-    ensures ok { OnOk result ((q : Queue) (xs ys : List ℕ) → queue links.old q ≡ xs ++ node ∷ ys → WritesQueue links.old links.new q (stands_at links.old xs ++ stand_at links.old node ∷ stand.now ∷ stands_at links.old ys) × KeepsNodes links.old links.new q) }
+    ensures ok { OnOk result (InsertsBehind links.old links.new node stand.now) }
     ensures err { OnErr result (links.new ≡ links.old) }
 {
     links.insert_after(node, *stand)?;
@@ -39,7 +39,7 @@ pub(crate) fn insert_behind(
 pub(crate) fn take_out(links: &mut Links, node: NodeId)
     requires there { HasNode links.old node }
     requires sound { IsSound links.old }
-    ensures { (q : Queue) (xs ys : List ℕ) → queue links.old q ≡ xs ++ node ∷ ys → WritesQueue links.old links.new q (stands_at links.old xs ++ stands_at links.old ys) }
+    ensures { RewritesAt links.old links.new node (λ before behind. before ++ behind) }
 {
     links.remove(node);
 }
@@ -52,7 +52,7 @@ pub(crate) fn replace_stand(links: &mut Links, node: NodeId, stand: &Stand)
     ensures there { HasNode links.new node }
     ensures sound { IsSound links.new }
     ensures queues { (q : Queue) → queue links.new q ≡ queue links.old q }
-    ensures writes { (q : Queue) (xs ys : List ℕ) → queue links.old q ≡ xs ++ node ∷ ys → WritesQueue links.old links.new q (stands_at links.old xs ++ stand.now ∷ stands_at links.old ys) }
+    ensures writes { RewritesAt links.old links.new node (λ before behind. before ++ stand.now ∷ behind) }
 {
     links.set_stand(node, *stand);
 }
@@ -62,7 +62,7 @@ pub(crate) fn move_to_front(links: &mut Links, node: NodeId, to: &Queue)
     requires node { HasNode links.old node }
     requires there { has_record links.old to.now.id ≡ true }
     requires sound { IsSound links.old }
-    ensures { (q : Queue) (xs ys : List ℕ) → queue links.old q ≡ xs ++ node ∷ ys → MovesToFront links.old links.new q to.now (stand_at links.old node) (stands_at links.old xs ++ stands_at links.old ys) }
+    ensures { MovesNode links.old links.new node to.now }
 {
     links.move_front(node, *to);
 }

@@ -1,13 +1,13 @@
 //! What must look at the entries of a queue one by one? These functions collect lets, drop entries that leave, and
 //! search a queue in order. `row.rt` uses them when a lock comes free, is raised or is taken, `settle.rt` to elect
 //! the distinguished waiter, and `visit.rt` to insert a writer.
-ghost use Rattle.std.specs.Prelude.{◌≡◌, ◌∷◌, ◌++◌, [], true, not, map, filter, length, nat_le, OnOk, OnErr};
-ghost use Rattle.std.specs.List.{AllByRecursion, find};
+ghost use Rattle.std.specs.Prelude.{◌≡◌, ◌∷◌, ◌++◌, [], true, length, nat_le, OnOk, OnErr};
+ghost use Rattle.std.specs.List.{AllByRecursion};
 ghost use Rattle.std.specs.Option.{option_map};
 ghost use Rattle.lt_links.specs.Maps.{has_record, IsSound};
 ghost use Rattle.lt_plain.specs.Rules.{through_of, is_eligible};
 ghost use Rattle.lt_lock.specs.Linked.{line, request_of, writer_of, IsNamed};
-ghost use Rattle.lt_lock.specs.Found.{leaves, goes_on, waiting_lets, leading_writers, from_txn, WritesQueue, IsPosition};
+ghost use Rattle.lt_lock.specs.Found.{leaves, goes_on, waiting_lets, selected_lets, leading_lets, without_selected, first_eligible_number, from_txn, WritesQueue, IsPosition};
 
 use crate::txn::{is_of, is_same_txn};
 use lt_ids::{Through, Ticket, Timestamp, TxnId};
@@ -62,7 +62,7 @@ fn push_selected(
 ) -> Result<(), AllocError>
     requires there { has_record links.now queue.now.id ≡ true }
     requires named { AllByRecursion IsNamed (line links.now queue.now) }
-    ensures ok { OnOk result (lets.new.items ≡ lets.old.items ++ map (λ s. through_of (request_of s)) (filter (goes_on who.now) (line links.now queue.now))) }
+    ensures ok { OnOk result (lets.new.items ≡ lets.old.items ++ selected_lets who.now (line links.now queue.now)) }
 {
     let mut at = links.first(*queue);
     while let Some(node) = at {
@@ -84,7 +84,7 @@ pub(crate) fn collect_selected(
 ) -> Result<(), AllocError>
     requires there { has_record links.now queue.now.id ≡ true }
     requires named { AllByRecursion IsNamed (line links.now queue.now) }
-    ensures ok { OnOk result (lets.new.items ≡ lets.old.items ++ map (λ s. through_of (request_of s)) (filter (goes_on who.now) (line links.now queue.now))) }
+    ensures ok { OnOk result (lets.new.items ≡ lets.old.items ++ selected_lets who.now (line links.now queue.now)) }
     ensures err { OnErr result (lets.new.items ≡ []) }
 {
     let done = push_selected(links, queue, who, lets);
@@ -110,7 +110,7 @@ fn push_let(stand: &Stand, lets: &mut Vec<Through>) -> Result<(), AllocError>
 fn push_front_lets(links: &Links, queue: &Queue, lets: &mut Vec<Through>) -> Result<(), AllocError>
     requires there { has_record links.now queue.now.id ≡ true }
     requires named { AllByRecursion IsNamed (line links.now queue.now) }
-    ensures ok { OnOk result (lets.new.items ≡ lets.old.items ++ waiting_lets (leading_writers (line links.now queue.now))) }
+    ensures ok { OnOk result (lets.new.items ≡ lets.old.items ++ leading_lets (line links.now queue.now)) }
 {
     let mut at = links.first(*queue);
     while let Some(node) = at {
@@ -133,7 +133,7 @@ pub(crate) fn collect_front_lets(
 ) -> Result<(), AllocError>
     requires there { has_record links.now queue.now.id ≡ true }
     requires named { AllByRecursion IsNamed (line links.now queue.now) }
-    ensures ok { OnOk result (lets.new.items ≡ lets.old.items ++ waiting_lets (leading_writers (line links.now queue.now))) }
+    ensures ok { OnOk result (lets.new.items ≡ lets.old.items ++ leading_lets (line links.now queue.now)) }
     ensures err { OnErr result (lets.new.items ≡ []) }
 {
     let done = push_front_lets(links, queue, lets);
@@ -163,7 +163,7 @@ pub(crate) fn drop_leading(links: &mut Links, queue: &Queue)
 pub(crate) fn drop_where(links: &mut Links, queue: &Queue, who: &Selection)
     requires there { has_record links.old queue.now.id ≡ true }
     requires sound { IsSound links.old }
-    ensures { WritesQueue links.old links.new queue.now (filter (λ s. not (leaves who.now s)) (line links.old queue.now)) }
+    ensures { WritesQueue links.old links.new queue.now (without_selected who.now (line links.old queue.now)) }
 {
     let mut at = links.first(*queue);
     while let Some(node) = at {
@@ -187,7 +187,7 @@ pub(crate) fn is_eligible(stand: &Stand, reserved: &Option<Stand>) -> bool
 /// The number of the first writer that is eligible as the distinguished waiter.
 pub(crate) fn first_eligible(links: &Links, queue: &Queue, reserved: &Option<Stand>) -> Option<u64>
     requires there { has_record links.now queue.now.id ≡ true }
-    ensures { result ≡ option_map (λ s. s.number) (find (λ s. is_eligible (option_map request_of reserved.now) (writer_of s)) (line links.now queue.now)) }
+    ensures { result ≡ first_eligible_number reserved.now (line links.now queue.now) }
 {
     let mut at = links.first(*queue);
     while let Some(node) = at {
@@ -200,8 +200,8 @@ pub(crate) fn first_eligible(links: &Links, queue: &Queue, reserved: &Option<Sta
     None
 }
 
-/// The node after which a number belongs among the writers, or `None` for the leading_writers. The search starts at the end
-/// of the queue, where a new request usually belongs.
+/// The node after which a number belongs among the writers, or `None` for the front. The search starts at the
+/// end of the queue, where a new request usually belongs.
 pub(crate) fn position_of(links: &Links, queue: &Queue, number: u64) -> Option<NodeId>
     requires there { has_record links.now queue.now.id ≡ true }
     ensures position { IsPosition links.now queue.now number result }

@@ -2,15 +2,13 @@
 //! has the holder, the distinguished waiter and the id of the key's queues. The contracts cite the definitions of
 //! the same names in `lt_plain/specs/Rules.antt` and `Step.antt`. Visits are in `visit.rt`; `table.rt` finds the
 //! row of a key.
-ghost use Rattle.std.specs.Prelude.{◌≡◌, ◌++◌, [], suc, not, drop, filter, slice_get, IfOk, OnOk, OnErr, IsOk, None, Some};
-ghost use Rattle.std.specs.List.{find};
-ghost use Rattle.std.specs.Option.{option_map};
+ghost use Rattle.std.specs.Prelude.{◌≡◌, [], IfOk, OnOk, OnErr, IsOk, None, Some};
 ghost use Rattle.lt_plain.specs.declared.call.Reply.TheVariants.{Freed};
-ghost use Rattle.lt_plain.specs.Rules.{is_empty, has_txn, TakesNoMemory, leading, free, raise, raise_to, take_lock, set_back, is_of, acquire, update, finish, leave};
-ghost use Rattle.lt_plain.specs.Step.{look, look_reader, look_waiter, look_writer, look_behind, waits_for, waits_for_reserved};
+ghost use Rattle.lt_plain.specs.Rules.{is_empty, free, free_with, raise, raise_to, take_lock, acquire, update, finish, leave};
+ghost use Rattle.lt_plain.specs.Step.{look, look_waiter, reserved_txn};
 ghost use Rattle.lt_plain.specs.Lawful.{IsLawful};
-ghost use Rattle.lt_lock.specs.Linked.{queue_at, record_of, request_of, writer_of, HasQueues};
-ghost use Rattle.lt_lock.specs.RowStepped.{IsRow, IsRewritten, RowStepped};
+ghost use Rattle.lt_lock.specs.Linked.{queue_at, record_of, writer_of, HasQueues};
+ghost use Rattle.lt_lock.specs.RowStepped.{IsRow, IsRewritten, UpdatesRow, RowUsesNoMemory, with_first_reserved, with_next_reserved, with_set_back};
 
 use crate::find::find;
 use crate::queue_edit::{move_to_front, replace_stand, take_out};
@@ -21,6 +19,7 @@ use crate::settle::{reserved, settle};
 use crate::txn::is_of;
 use lt_ids::{Through, Timestamp, TxnId};
 use lt_links::{Links, Queue, QueueKind, RecordId, Stand};
+use lt_plain::look::{look_reader, look_writer};
 use lt_plain::{Holder, Reply};
 use std::alloc::AllocError;
 
@@ -59,7 +58,7 @@ fn collect_lets(links: &Links, row: &Row, lets: &mut Vec<Through>) -> Result<(),
 fn reserve_first(links: &mut Links, row: &Row)
     requires linked { HasQueues links.old row.now.id }
     requires none { (record_of links.old row.now).reservation ≡ None }
-    ensures { IsRewritten links.old links.new row.now (record (record_of links.old row.now) { reservation = option_map (λ w. w.request) (slice_get (record_of links.old row.now).writers 0); writers = drop 1 (record_of links.old row.now).writers }) }
+    ensures { IsRewritten links.old links.new row.now (with_first_reserved (record_of links.old row.now)) }
 {
     if let Some(node) = links.first(queue(row, QueueKind::Writers)) {
         move_to_front(links, node, &queue(row, QueueKind::Reservation));
@@ -70,7 +69,7 @@ fn reserve_first(links: &mut Links, row: &Row)
 /// that one, if there is one.
 fn release_to_next(links: &mut Links, row: &Row)
     requires { HasQueues links.old row.now.id }
-    ensures { IsRewritten links.old links.new row.now (record (record_of links.old row.now) { reservation = option_map (λ w. w.request) (find has_txn (record_of links.old row.now).writers); writers = drop (suc (leading (record_of links.old row.now).writers)) (record_of links.old row.now).writers; readers = [] }) }
+    ensures { IsRewritten links.old links.new row.now (with_next_reserved (record_of links.old row.now)) }
 {
     drop_where(links, &queue(row, QueueKind::Readers), &Selection::All);
     drop_where(links, &queue(row, QueueKind::Reservation), &Selection::All);
@@ -87,9 +86,10 @@ fn free(
     lets: &mut Vec<Through>,
 ) -> Result<(), AllocError>
     requires linked { HasQueues links.old row.old.id }
-    requires lawful { IsLawful (free (record (record_of links.old row.old) { holder = holder }) Freed).after }
+    requires lawful { IsLawful (free_with (record_of links.old row.old) holder).after }
     requires lets { lets.old.items ≡ [] }
-    ensures ok { OnOk result (RowStepped links.old links.new row.new row.old.id (free (record (record_of links.old row.old) { holder = holder }) Freed) Freed lets.new.items) }
+    ensures ok { OnOk result (UpdatesRow links.old links.new row.old row.new
+        (λ r. free_with r holder) lets.new.items Freed) }
     ensures err { OnErr result ((links.new ≡ links.old) × (row.new ≡ row.old) × (lets.new.items ≡ [])) }
 {
     collect_lets(links, row, lets)?;
@@ -109,7 +109,8 @@ fn raise_to(
     requires linked { HasQueues links.old row.old.id }
     requires lawful { IsLawful (raise_to (record_of links.old row.old) holder.now ts).after }
     requires lets { lets.old.items ≡ [] }
-    ensures ok { IfOk result (λ reply. RowStepped links.old links.new row.new row.old.id (raise_to (record_of links.old row.old) holder.now ts) reply lets.new.items) }
+    ensures ok { IfOk result (UpdatesRow links.old links.new row.old row.new
+        (λ r. raise_to r holder.now ts) lets.new.items) }
     ensures err { OnErr result ((links.new ≡ links.old) × (row.new ≡ row.old) × (lets.new.items ≡ [])) }
 {
     let readers = queue(row, QueueKind::Readers);
@@ -134,9 +135,10 @@ fn raise(
     requires linked { HasQueues links.old row.old.id }
     requires lawful { IsLawful (raise (record_of links.old row.old) holder.now ts).after }
     requires lets { lets.old.items ≡ [] }
-    ensures ok { IfOk result (λ reply. RowStepped links.old links.new row.new row.old.id (raise (record_of links.old row.old) holder.now ts) reply lets.new.items) }
+    ensures ok { IfOk result (UpdatesRow links.old links.new row.old row.new
+        (λ r. raise r holder.now ts) lets.new.items) }
     ensures err { OnErr result ((links.new ≡ links.old) × (row.new ≡ row.old) × (lets.new.items ≡ [])) }
-    ensures no_memory { TakesNoMemory (record_of links.old row.old) (raise (record_of links.old row.old) holder.now ts) → IsOk result }
+    ensures no_memory { RowUsesNoMemory links.old row.old (λ r. raise r holder.now ts) → IsOk result }
 {
     if holder.ts < ts {
         raise_to(links, row, holder, ts, lets)
@@ -149,7 +151,7 @@ fn raise(
 /// writers, inactive.
 fn set_back(links: &mut Links, row: &Row, txn: TxnId)
     requires { HasQueues links.old row.now.id }
-    ensures { IsRewritten links.old links.new row.now (record (record_of links.old row.now) { reservation = None; writers = filter (λ w. not (is_of txn w)) (set_back (record_of links.old row.now).reservation) ++ (record_of links.old row.now).writers }) }
+    ensures { IsRewritten links.old links.new row.now (with_set_back txn (record_of links.old row.now)) }
 {
     let Some(node) = links.first(queue(row, QueueKind::Reservation)) else {
         return;
@@ -174,7 +176,8 @@ fn take_lock(
     requires linked { HasQueues links.old row.old.id }
     requires lawful { IsLawful (take_lock (record_of links.old row.old) holder.now).after }
     requires lets { lets.old.items ≡ [] }
-    ensures ok { IfOk result (λ reply. RowStepped links.old links.new row.new row.old.id (take_lock (record_of links.old row.old) holder.now) reply lets.new.items) }
+    ensures ok { IfOk result (UpdatesRow links.old links.new row.old row.new
+        (λ r. take_lock r holder.now) lets.new.items) }
     ensures err { OnErr result ((links.new ≡ links.old) × (row.new ≡ row.old) × (lets.new.items ≡ [])) }
 {
     let writers = queue(row, QueueKind::Writers);
@@ -196,9 +199,9 @@ pub(crate) fn acquire(
 ) -> Result<Reply, AllocError>
     requires row { IsRow links.old row.old }
     requires lets { lets.old.items ≡ [] }
-    ensures ok { IfOk result (λ reply. RowStepped links.old links.new row.new row.old.id (acquire (record_of links.old row.old) txn ts) reply lets.new.items) }
+    ensures ok { IfOk result (UpdatesRow links.old links.new row.old row.new (λ r. acquire r txn ts) lets.new.items) }
     ensures err { OnErr result ((links.new ≡ links.old) × (row.new ≡ row.old) × (lets.new.items ≡ [])) }
-    ensures no_memory { TakesNoMemory (record_of links.old row.old) (acquire (record_of links.old row.old) txn ts) → IsOk result }
+    ensures no_memory { RowUsesNoMemory links.old row.old (λ r. acquire r txn ts) → IsOk result }
 {
     let held_by = row.holder;
     match &held_by {
@@ -218,9 +221,9 @@ pub(crate) fn update(
 ) -> Result<Reply, AllocError>
     requires row { IsRow links.old row.old }
     requires lets { lets.old.items ≡ [] }
-    ensures ok { IfOk result (λ reply. RowStepped links.old links.new row.new row.old.id (update (record_of links.old row.old) txn ts) reply lets.new.items) }
+    ensures ok { IfOk result (UpdatesRow links.old links.new row.old row.new (λ r. update r txn ts) lets.new.items) }
     ensures err { OnErr result ((links.new ≡ links.old) × (row.new ≡ row.old) × (lets.new.items ≡ [])) }
-    ensures no_memory { TakesNoMemory (record_of links.old row.old) (update (record_of links.old row.old) txn ts) → IsOk result }
+    ensures no_memory { RowUsesNoMemory links.old row.old (λ r. update r txn ts) → IsOk result }
 {
     let held_by = row.holder;
     match &held_by {
@@ -238,9 +241,9 @@ pub(crate) fn finish(
 ) -> Result<Reply, AllocError>
     requires row { IsRow links.old row.old }
     requires lets { lets.old.items ≡ [] }
-    ensures ok { IfOk result (λ reply. RowStepped links.old links.new row.new row.old.id (finish (record_of links.old row.old) txn) reply lets.new.items) }
+    ensures ok { IfOk result (UpdatesRow links.old links.new row.old row.new (λ r. finish r txn) lets.new.items) }
     ensures err { OnErr result ((links.new ≡ links.old) × (row.new ≡ row.old) × (lets.new.items ≡ [])) }
-    ensures no_memory { TakesNoMemory (record_of links.old row.old) (finish (record_of links.old row.old) txn) → IsOk result }
+    ensures no_memory { RowUsesNoMemory links.old row.old (λ r. finish r txn) → IsOk result }
 {
     let held_by = row.holder;
     match &held_by {
@@ -261,9 +264,9 @@ pub(crate) fn leave(
 ) -> Result<Reply, AllocError>
     requires row { IsRow links.old row.old }
     requires lets { lets.old.items ≡ [] }
-    ensures ok { IfOk result (λ reply. RowStepped links.old links.new row.new row.old.id (leave (record_of links.old row.old) number) reply lets.new.items) }
+    ensures ok { IfOk result (UpdatesRow links.old links.new row.old row.new (λ r. leave r number) lets.new.items) }
     ensures err { OnErr result ((links.new ≡ links.old) × (row.new ≡ row.old) × (lets.new.items ≡ [])) }
-    ensures no_memory { TakesNoMemory (record_of links.old row.old) (leave (record_of links.old row.old) number) → IsOk result }
+    ensures no_memory { RowUsesNoMemory links.old row.old (λ r. leave r number) → IsOk result }
 {
     let Some(found) = find(links, row.id, number) else {
         return Ok(Reply::Absent);
@@ -278,57 +281,15 @@ pub(crate) fn leave(
     Ok(Reply::Left)
 }
 
-/// The reply to a look by the waiting request with this number, which waits for transaction `txn`.
-fn waits_for(row: &Row, number: u64, txn: TxnId, is_held: bool) -> Reply
-    ensures { result ≡ waits_for row.now.distinguished number txn is_held }
-{
-    match row.distinguished {
-        Some(first) if first == number => Reply::WaitFirst(txn, is_held),
-        _ => Reply::WaitFor(txn, is_held),
-    }
-}
-
-/// The reply to a look by the waiting request with this number, which waits for the request that holds the
-/// reservation. `reserved` is the transaction of that request.
-fn waits_for_reserved(row: &Row, number: u64, reserved: Option<TxnId>) -> Reply
-    ensures { result ≡ waits_for_reserved row.now.distinguished number reserved }
-{
-    match reserved {
-        None => Reply::Nothing,
-        Some(txn) => waits_for(row, number, txn, false),
-    }
-}
-
-/// The reply to a look by a waiting writer, which waits for the request that holds the reservation.
-fn look_behind(row: &Row, stand: &Stand, reserved: Option<TxnId>) -> Reply
-    ensures { result ≡ look_behind row.now.distinguished (request_of stand.now) reserved }
-{
-    match reserved {
-        None => Reply::Nothing,
-        Some(txn) if is_of(stand, txn) => Reply::WaitOwn(txn),
-        Some(txn) => waits_for(row, stand.number, txn, false),
-    }
-}
-
-fn look_writer(links: &Links, row: &Row, stand: &Stand) -> Reply
+/// The transaction for which the lock is reserved, if no transaction holds it. The reservation of a lock with a
+/// holder is not looked up.
+fn reserved_txn(links: &Links, row: &Row) -> Option<TxnId>
     requires { HasQueues links.now row.now.id }
-    ensures { result ≡ look_writer (record_of links.now row.now) (request_of stand.now) row.now.holder (record_of links.now row.now).reservation }
+    ensures { result ≡ reserved_txn row.now.holder (record_of links.now row.now).reservation }
 {
-    match (row.holder, reserved(links, row)) {
-        (Some(holder), _) => waits_for(row, stand.number, holder.txn, true),
-        (None, Some(reserved)) => look_behind(row, stand, reserved.txn),
-        (None, None) => Reply::Nothing,
-    }
-}
-
-fn look_reader(links: &Links, row: &Row, number: u64) -> Reply
-    requires { HasQueues links.now row.now.id }
-    ensures { result ≡ look_reader (record_of links.now row.now) number row.now.holder (record_of links.now row.now).reservation }
-{
-    match (row.holder, reserved(links, row)) {
-        (Some(holder), _) => waits_for(row, number, holder.txn, true),
-        (None, Some(reserved)) => waits_for_reserved(row, number, reserved.txn),
-        (None, None) => Reply::Nothing,
+    match row.holder {
+        Some(_) => None,
+        None => reserved(links, row)?.txn,
     }
 }
 
@@ -338,7 +299,13 @@ fn look_waiting(links: &Links, row: &Row, stand: &Stand) -> Reply
     ensures { result ≡ look_waiter (record_of links.now row.now) stand.now.number (Some (writer_of stand.now)) }
 {
     if stand.active {
-        look_writer(links, row, stand)
+        look_writer(
+            row.distinguished,
+            stand.number,
+            stand.txn,
+            row.holder,
+            reserved_txn(links, row),
+        )
     } else {
         Reply::Idle
     }
@@ -354,7 +321,12 @@ pub(crate) fn look(links: &Links, row: &Row, number: u64) -> Reply
     };
     match found.kind {
         QueueKind::Reservation => Reply::Reserved,
-        QueueKind::Readers => look_reader(links, row, number),
+        QueueKind::Readers => look_reader(
+            row.distinguished,
+            number,
+            row.holder,
+            reserved_txn(links, row),
+        ),
         QueueKind::Writers => look_waiting(links, row, &links.stand(found.node)),
     }
 }

@@ -4,9 +4,9 @@ ghost use Rattle.std.specs.List.{list_any, IsDistinct};
 ghost use Rattle.std.specs.Option.{option_map};
 ghost use Rattle.lt_links.specs.Maps.{IsSound};
 ghost use Rattle.lt_links.specs.declared.ids.QueueKind.TheVariants.{Reservation};
-ghost use Rattle.lt_plain.specs.Rules.{eligible, distinguished_of, settle};
+ghost use Rattle.lt_plain.specs.Rules.{distinguished_of, settle};
 ghost use Rattle.lt_plain.specs.Lawful.{numbers};
-ghost use Rattle.lt_lock.specs.Linked.{line, queue_at, record_of, request_of, HasQueues};
+ghost use Rattle.lt_lock.specs.Linked.{line, queue_at, record_of, request_of, eligible_at, HasQueues};
 
 use crate::find::find;
 use crate::queue_walk::{first_eligible, is_eligible};
@@ -26,7 +26,7 @@ pub(crate) fn reserved(links: &Links, row: &Row) -> Option<Stand>
 fn is_among_eligible(links: &Links, row: &Row, number: u64) -> bool
     requires linked { HasQueues links.now row.now.id }
     requires distinct { IsDistinct nat_eq (numbers (record_of links.now row.now)) }
-    ensures { result ≡ list_any (λ m. nat_eq m number) (eligible (record_of links.now row.now).reservation (record_of links.now row.now).readers (record_of links.now row.now).writers) }
+    ensures { result ≡ list_any (λ m. nat_eq m number) (eligible_at links.now row.now) }
 {
     let Some(found) = find(links, row.id, number) else {
         return false;
@@ -41,7 +41,7 @@ fn is_among_eligible(links: &Links, row: &Row, number: u64) -> bool
 /// The number of the first queued request that is eligible as the distinguished waiter.
 fn first_waiter(links: &Links, row: &Row) -> Option<u64>
     requires { HasQueues links.now row.now.id }
-    ensures { result ≡ slice_get (eligible (record_of links.now row.now).reservation (record_of links.now row.now).readers (record_of links.now row.now).writers) 0 }
+    ensures { result ≡ slice_get (eligible_at links.now row.now) 0 }
 {
     match links.first(queue(row, QueueKind::Readers)) {
         Some(node) => Some(links.stand(node).number),
@@ -56,7 +56,7 @@ fn first_waiter(links: &Links, row: &Row) -> Option<u64>
 fn distinguished_of(links: &Links, row: &Row) -> Option<u64>
     requires linked { HasQueues links.now row.now.id }
     requires distinct { IsDistinct nat_eq (numbers (record_of links.now row.now)) }
-    ensures { result ≡ distinguished_of row.now.distinguished (eligible (record_of links.now row.now).reservation (record_of links.now row.now).readers (record_of links.now row.now).writers) }
+    ensures { result ≡ distinguished_of row.now.distinguished (eligible_at links.now row.now) }
 {
     match row.distinguished {
         Some(number) if is_among_eligible(links, row, number) => Some(number),

@@ -9,12 +9,11 @@ ghost use Rattle.std.specs.List.Sorted.{IsStrictlySortedBy};
 ghost use Rattle.std.specs.Ordering.{nat_cmp};
 ghost use Rattle.lt_ids.specs.Ids.{IsWaitNumber};
 ghost use Rattle.lt_plain.specs.declared.call.Reply.TheVariants.{Absent};
-ghost use Rattle.lt_plain.specs.Rules.{empty, TakesNoMemory, acquire, update, finish, leave, take_lock};
-ghost use Rattle.lt_plain.specs.Visit.{visit};
+ghost use Rattle.lt_plain.specs.Rules.{empty, acquire, update, finish, leave, take_lock};
 ghost use Rattle.lt_plain.specs.Step.{look};
-ghost use Rattle.lt_plain.specs.Table.{queued_of, record_at, with_record, IsStep, AreSound};
+ghost use Rattle.lt_plain.specs.Table.{queued_of, record_at, without_empty, UsesNoMemoryAt, AreSound};
 ghost use Rattle.lt_lock.specs.Linked.{records_of, request_of, IsNamed, AreLinked};
-ghost use Rattle.lt_lock.specs.RowStepped.{IsTable};
+ghost use Rattle.lt_lock.specs.RowStepped.{IsTable, KeepsRows, UpdatesRows, visit_by};
 
 use crate::copy::state;
 use crate::row;
@@ -44,7 +43,7 @@ impl Model for LinkedTable {
     ghost coded = { records_code };
 
     ghost use Rattle.lt_lock.specs.Linked.{records_of};
-    ghost use Rattle.lt_lock.specs.RowStepped.{IsTable};
+    ghost use Rattle.lt_lock.specs.RowStepped.{IsTable, KeepsRows, UpdatesRows, visit_by};
 
     ghost view = { λ t. records_of t.links t.rows };
 
@@ -86,7 +85,7 @@ fn stand_of(request: &Request, wait: u32) -> Stand
 fn drop_if_empty(links: &mut Links, rows: &mut Rows, key: &Key)
     requires { AreLinked links.old rows.old }
     ensures linked { AreLinked links.new rows.new }
-    ensures records { records_of links.new rows.new ≡ with_record (records_of links.old rows.old) key.now (record_at (records_of links.old rows.old) key.now) }
+    ensures records { records_of links.new rows.new ≡ without_empty (records_of links.old rows.old) key.now }
 {
     let Some(row) = rows.get(key) else {
         return;
@@ -109,10 +108,12 @@ fn visit_at(
     requires table { IsTable links.old rows.old }
     requires active { stand.now.active ≡ true }
     requires named { IsNamed stand.now }
-    ensures ok { IfOk result (λ reply. IsStep (records_of links.old rows.old) key.now (λ r. visit r (request_of stand.now) longest access) reply [] (records_of links.new rows.new)) }
+    ensures ok { IfOk result (UpdatesRows links.old links.new rows.old rows.new key.now
+        (visit_by stand.now longest access) []) }
     ensures table { IsTable links.new rows.new }
     ensures err { OnErr result (records_of links.new rows.new ≡ records_of links.old rows.old) }
-    ensures no_memory { TakesNoMemory (record_at (records_of links.old rows.old) key.now) (visit (record_at (records_of links.old rows.old) key.now) (request_of stand.now) longest access) → IsOk result }
+    ensures no_memory { UsesNoMemoryAt (records_of links.old) rows.old key.now
+        (visit_by stand.now longest access) → IsOk result }
 {
     let Some(row) = rows.get_mut(key) else {
         return Ok(Reply::Passed);
@@ -130,10 +131,11 @@ fn update_at(
 ) -> Result<Reply, AllocError>
     requires table { IsTable links.old rows.old }
     requires lets { lets.old.items ≡ [] }
-    ensures ok { IfOk result (λ reply. IsStep (records_of links.old rows.old) key.now (λ r. update r txn ts) reply lets.new.items (records_of links.new rows.new)) }
+    ensures ok { IfOk result (UpdatesRows links.old links.new rows.old rows.new key.now
+        (λ r. update r txn ts) lets.new.items) }
     ensures table { IsTable links.new rows.new }
-    ensures err { OnErr result ((records_of links.new rows.new ≡ records_of links.old rows.old) × (lets.new.items ≡ [])) }
-    ensures no_memory { TakesNoMemory (record_at (records_of links.old rows.old) key.now) (update (record_at (records_of links.old rows.old) key.now) txn ts) → IsOk result }
+    ensures err { OnErr result (KeepsRows links.old links.new rows.old rows.new lets.new.items) }
+    ensures no_memory { UsesNoMemoryAt (records_of links.old) rows.old key.now (λ r. update r txn ts) → IsOk result }
 {
     let Some(row) = rows.get_mut(key) else {
         return Ok(Reply::Other);
@@ -150,10 +152,11 @@ fn finish_at(
 ) -> Result<Reply, AllocError>
     requires table { IsTable links.old rows.old }
     requires lets { lets.old.items ≡ [] }
-    ensures ok { IfOk result (λ reply. IsStep (records_of links.old rows.old) key.now (λ r. finish r txn) reply lets.new.items (records_of links.new rows.new)) }
+    ensures ok { IfOk result (UpdatesRows links.old links.new rows.old rows.new key.now
+        (λ r. finish r txn) lets.new.items) }
     ensures linked { AreLinked links.new rows.new }
-    ensures err { OnErr result ((records_of links.new rows.new ≡ records_of links.old rows.old) × (lets.new.items ≡ [])) }
-    ensures no_memory { TakesNoMemory (record_at (records_of links.old rows.old) key.now) (finish (record_at (records_of links.old rows.old) key.now) txn) → IsOk result }
+    ensures err { OnErr result (KeepsRows links.old links.new rows.old rows.new lets.new.items) }
+    ensures no_memory { UsesNoMemoryAt (records_of links.old) rows.old key.now (λ r. finish r txn) → IsOk result }
 {
     let Some(row) = rows.get_mut(key) else {
         return Ok(Reply::Other);
@@ -170,11 +173,12 @@ fn leave_at(
 ) -> Result<Reply, AllocError>
     requires table { IsTable links.old rows.old }
     requires lets { lets.old.items ≡ [] }
-    ensures ok { IfOk result (λ reply. IsStep (records_of links.old rows.old) key.now (λ r. leave r number) reply lets.new.items (records_of links.new rows.new)) }
+    ensures ok { IfOk result (UpdatesRows links.old links.new rows.old rows.new key.now
+        (λ r. leave r number) lets.new.items) }
     ensures linked { AreLinked links.new rows.new }
     ensures absent { IfOk result (λ reply. reply ≡ Absent → AreSound (records_of links.new rows.new)) }
-    ensures err { OnErr result ((records_of links.new rows.new ≡ records_of links.old rows.old) × (lets.new.items ≡ [])) }
-    ensures no_memory { TakesNoMemory (record_at (records_of links.old rows.old) key.now) (leave (record_at (records_of links.old rows.old) key.now) number) → IsOk result }
+    ensures err { OnErr result (KeepsRows links.old links.new rows.old rows.new lets.new.items) }
+    ensures no_memory { UsesNoMemoryAt (records_of links.old) rows.old key.now (λ r. leave r number) → IsOk result }
 {
     let Some(row) = rows.get_mut(key) else {
         return Ok(Reply::Absent);
@@ -223,7 +227,8 @@ fn insert_held(
 ) -> Result<Reply, AllocError>
     requires table { IsTable links.old rows.old }
     requires none { record_at (records_of links.old rows.old) key.now ≡ empty }
-    ensures ok { IfOk result (λ reply. IsStep (records_of links.old rows.old) key.now (λ r. take_lock r holder.now) reply [] (records_of links.new rows.new)) }
+    ensures ok { IfOk result (UpdatesRows links.old links.new rows.old rows.new key.now
+        (λ r. take_lock r holder.now) []) }
     ensures linked { AreLinked links.new rows.new }
     ensures err { OnErr result (records_of links.new rows.new ≡ records_of links.old rows.old) }
 {
@@ -251,10 +256,11 @@ fn acquire_at(
 ) -> Result<Reply, AllocError>
     requires table { IsTable links.old rows.old }
     requires lets { lets.old.items ≡ [] }
-    ensures ok { IfOk result (λ reply. IsStep (records_of links.old rows.old) key.now (λ r. acquire r txn ts) reply lets.new.items (records_of links.new rows.new)) }
+    ensures ok { IfOk result (UpdatesRows links.old links.new rows.old rows.new key.now
+        (λ r. acquire r txn ts) lets.new.items) }
     ensures table { IsTable links.new rows.new }
-    ensures err { OnErr result ((records_of links.new rows.new ≡ records_of links.old rows.old) × (lets.new.items ≡ [])) }
-    ensures no_memory { TakesNoMemory (record_at (records_of links.old rows.old) key.now) (acquire (record_at (records_of links.old rows.old) key.now) txn ts) → IsOk result }
+    ensures err { OnErr result (KeepsRows links.old links.new rows.old rows.new lets.new.items) }
+    ensures no_memory { UsesNoMemoryAt (records_of links.old) rows.old key.now (λ r. acquire r txn ts) → IsOk result }
 {
     let Some(row) = rows.get_mut(key) else {
         return insert_held(links, rows, key, &Holder { txn, ts });

@@ -4,13 +4,13 @@
 ghost use Rattle.std.specs.Prelude.{◌≡◌, ◌≢◌, ◌<◌, ◌++◌, [], true, map, slice_get, None, Some, IfOk, OnOk, OnErr, IsOk};
 ghost use Rattle.std.specs.List.{AllByRecursion};
 ghost use Rattle.lt_links.specs.declared.ids.QueueKind.TheVariants.{Reservation};
-ghost use Rattle.lt_plain.specs.Rules.{TakesNoMemory, set_back, stop_reading};
+ghost use Rattle.lt_plain.specs.Rules.{stop_reading};
 ghost use Rattle.lt_plain.specs.Lawful.{Rises};
-ghost use Rattle.lt_plain.specs.Visit.{pass, is_queued, is_too_long, wait_to_write, join_writers, wait_to_read, displace, visit_held, visit_reserved, visit_lock, visit};
+ghost use Rattle.lt_plain.specs.Visit.{pass, is_queued, is_too_long, wait_to_write, join_writers, wait_to_read, displace, visit_held, visit_reserved, visit_case};
 ghost use Rattle.lt_links.specs.Maps.{has_record, IsSound};
 ghost use Rattle.lt_lock.specs.Linked.{line, queue_at, record_of, request_of, writer_of, IsNamed};
 ghost use Rattle.lt_lock.specs.Found.{Finds, PutsWriter};
-ghost use Rattle.lt_lock.specs.RowStepped.{IsRow, IsRewritten, RowStepped};
+ghost use Rattle.lt_lock.specs.RowStepped.{IsRow, IsRewritten, UpdatesRow, RowUsesNoMemory, VisitsRow, RowVisitUsesNoMemory, taken_over, visit_by};
 
 use crate::find::{Found, find};
 use crate::queue_edit::{insert_behind, insert_first, move_to_front, replace_stand, take_out};
@@ -67,7 +67,7 @@ fn stop_reading(links: &mut Links, row: &Row, found: &Option<Found>, stand: &Sta
 fn pass(links: &mut Links, row: &Row, found: &Option<Found>, stand: &Stand) -> Reply
     requires row { IsRow links.old row.now }
     requires found { Finds links.old row.now.id stand.now.number found.now }
-    ensures { RowStepped links.old links.new row.now row.now.id (pass (stop_reading (record_of links.old row.now) stand.now.number)) result [] }
+    ensures { VisitsRow links.old links.new row.now stand.now (λ r q. pass r) result }
 {
     stop_reading(links, row, found, stand);
     Reply::Passed
@@ -84,7 +84,7 @@ fn wait_to_write(
     requires found { Finds links.old row.now.id stand.now.number found.now }
     requires active { stand.now.active ≡ true }
     requires named { IsNamed stand.now }
-    ensures ok { IfOk result (λ reply. RowStepped links.old links.new row.now row.now.id (wait_to_write (stop_reading (record_of links.old row.now) stand.now.number) (request_of stand.now)) reply []) }
+    ensures ok { IfOk result (VisitsRow links.old links.new row.now stand.now (λ r q. wait_to_write r q)) }
     ensures err { OnErr result (links.new ≡ links.old) }
 {
     let writers = queue(row, QueueKind::Writers);
@@ -144,9 +144,10 @@ fn join_writers(
     requires found { Finds links.old row.now.id stand.now.number found.now }
     requires active { stand.now.active ≡ true }
     requires named { IsNamed stand.now }
-    ensures ok { IfOk result (λ reply. RowStepped links.old links.new row.now row.now.id (join_writers (stop_reading (record_of links.old row.now) stand.now.number) (request_of stand.now) longest) reply []) }
+    ensures ok { IfOk result (VisitsRow links.old links.new row.now stand.now (λ r q. join_writers r q longest)) }
     ensures err { OnErr result (links.new ≡ links.old) }
-    ensures no_memory { TakesNoMemory (stop_reading (record_of links.old row.now) stand.now.number) (join_writers (stop_reading (record_of links.old row.now) stand.now.number) (request_of stand.now) longest) → IsOk result }
+    ensures no_memory { RowVisitUsesNoMemory links.old row.now stand.now
+        (λ r q. join_writers r q longest) → IsOk result }
 {
     if is_too_long(links, row, found, stand, longest) {
         stop_reading(links, row, found, stand);
@@ -166,7 +167,7 @@ fn wait_to_read(
     requires found { Finds links.old row.now.id stand.now.number found.now }
     requires active { stand.now.active ≡ true }
     requires named { IsNamed stand.now }
-    ensures ok { IfOk result (λ reply. RowStepped links.old links.new row.now row.now.id (wait_to_read (stop_reading (record_of links.old row.now) stand.now.number) (request_of stand.now)) reply []) }
+    ensures ok { IfOk result (VisitsRow links.old links.new row.now stand.now (λ r q. wait_to_read r q)) }
     ensures err { OnErr result (links.new ≡ links.old) }
 {
     let readers = queue(row, QueueKind::Readers);
@@ -198,9 +199,11 @@ fn visit_held(
     requires found { Finds links.old row.now.id stand.now.number found.now }
     requires active { stand.now.active ≡ true }
     requires named { IsNamed stand.now }
-    ensures ok { IfOk result (λ reply. RowStepped links.old links.new row.now row.now.id (visit_held (stop_reading (record_of links.old row.now) stand.now.number) holder.now (request_of stand.now) asked.longest asked.access) reply []) }
+    ensures ok { IfOk result (VisitsRow links.old links.new row.now stand.now
+        (λ r q. visit_held r holder.now q asked.longest asked.access)) }
     ensures err { OnErr result (links.new ≡ links.old) }
-    ensures no_memory { TakesNoMemory (stop_reading (record_of links.old row.now) stand.now.number) (visit_held (stop_reading (record_of links.old row.now) stand.now.number) holder.now (request_of stand.now) asked.longest asked.access) → IsOk result }
+    ensures no_memory { RowVisitUsesNoMemory links.old row.now stand.now
+        (λ r q. visit_held r holder.now q asked.longest asked.access) → IsOk result }
 {
     match asked.access {
         Access::Read if stand.ts < holder.ts => Ok(pass(links, row, found, stand)),
@@ -220,7 +223,8 @@ fn take_reservation(
     requires unheld { row.now.holder ≡ None }
     requires reserved { slice_get (line links.old (queue_at row.now.id Reservation)) 0 ≡ Some reservation.now }
     requires named { IsNamed stand.now }
-    ensures ok { IfOk result (λ reply. RowStepped links.old links.new row.now row.now.id (pass (record (stop_reading (record_of links.old row.now) stand.now.number) { reservation = Some (request_of stand.now); writers = set_back (Some (request_of reservation.now)) ++ (record_of links.old row.now).writers })) reply []) }
+    ensures ok { IfOk result (VisitsRow links.old links.new row.now stand.now
+        (taken_over (request_of reservation.now))) }
     ensures err { OnErr result (links.new ≡ links.old) }
 {
     let reserved = queue(row, QueueKind::Reservation);
@@ -249,9 +253,11 @@ fn displace(
     requires less { stand.now.number < reservation.now.number }
     requires found { Finds links.old row.now.id stand.now.number found.now }
     requires named { IsNamed stand.now }
-    ensures ok { IfOk result (λ reply. RowStepped links.old links.new row.now row.now.id (displace stand.now.txn (stop_reading (record_of links.old row.now) stand.now.number) (request_of reservation.now) (request_of stand.now)) reply []) }
+    ensures ok { IfOk result (VisitsRow links.old links.new row.now stand.now
+        (λ r q. displace q.txn r (request_of reservation.now) q)) }
     ensures err { OnErr result (links.new ≡ links.old) }
-    ensures no_memory { TakesNoMemory (stop_reading (record_of links.old row.now) stand.now.number) (displace stand.now.txn (stop_reading (record_of links.old row.now) stand.now.number) (request_of reservation.now) (request_of stand.now)) → IsOk result }
+    ensures no_memory { RowVisitUsesNoMemory links.old row.now stand.now
+        (λ r q. displace q.txn r (request_of reservation.now) q) → IsOk result }
 {
     match stand.txn {
         None => Ok(pass(links, row, found, stand)),
@@ -273,9 +279,11 @@ fn visit_reserved(
     requires found { Finds links.old row.now.id stand.now.number found.now }
     requires active { stand.now.active ≡ true }
     requires named { IsNamed stand.now }
-    ensures ok { IfOk result (λ reply. RowStepped links.old links.new row.now row.now.id (visit_reserved (stop_reading (record_of links.old row.now) stand.now.number) (request_of reservation.now) (request_of stand.now) asked.longest asked.access) reply []) }
+    ensures ok { IfOk result (VisitsRow links.old links.new row.now stand.now
+        (λ r q. visit_reserved r (request_of reservation.now) q asked.longest asked.access)) }
     ensures err { OnErr result (links.new ≡ links.old) }
-    ensures no_memory { TakesNoMemory (stop_reading (record_of links.old row.now) stand.now.number) (visit_reserved (stop_reading (record_of links.old row.now) stand.now.number) (request_of reservation.now) (request_of stand.now) asked.longest asked.access) → IsOk result }
+    ensures no_memory { RowVisitUsesNoMemory links.old row.now stand.now
+        (λ r q. visit_reserved r (request_of reservation.now) q asked.longest asked.access) → IsOk result }
 {
     if asked.access == Access::Read {
         return Ok(pass(links, row, found, stand));
@@ -298,9 +306,11 @@ fn visit_lock(
     requires found { Finds links.old row.now.id stand.now.number found.now }
     requires active { stand.now.active ≡ true }
     requires named { IsNamed stand.now }
-    ensures ok { IfOk result (λ reply. RowStepped links.old links.new row.now row.now.id (visit_lock row.now.holder (record_of links.old row.now).reservation (stop_reading (record_of links.old row.now) stand.now.number) (request_of stand.now) asked.longest asked.access) reply []) }
+    ensures ok { IfOk result (VisitsRow links.old links.new row.now stand.now
+        (λ r q. visit_case r q asked.longest asked.access)) }
     ensures err { OnErr result (links.new ≡ links.old) }
-    ensures no_memory { TakesNoMemory (stop_reading (record_of links.old row.now) stand.now.number) (visit_lock row.now.holder (record_of links.old row.now).reservation (stop_reading (record_of links.old row.now) stand.now.number) (request_of stand.now) asked.longest asked.access) → IsOk result }
+    ensures no_memory { RowVisitUsesNoMemory links.old row.now stand.now
+        (λ r q. visit_case r q asked.longest asked.access) → IsOk result }
 {
     match (&row.holder, &reserved(links, row)) {
         (Some(holder), _) if !is_of(stand, holder.txn) => {
@@ -324,9 +334,9 @@ pub(crate) fn visit(
     requires row { IsRow links.old row.old }
     requires active { stand.now.active ≡ true }
     requires named { IsNamed stand.now }
-    ensures ok { IfOk result (λ reply. RowStepped links.old links.new row.new row.old.id (visit (record_of links.old row.old) (request_of stand.now) longest access) reply []) }
+    ensures ok { IfOk result (UpdatesRow links.old links.new row.old row.new (visit_by stand.now longest access) []) }
     ensures err { OnErr result ((links.new ≡ links.old) × (row.new ≡ row.old)) }
-    ensures no_memory { TakesNoMemory (record_of links.old row.old) (visit (record_of links.old row.old) (request_of stand.now) longest access) → IsOk result }
+    ensures no_memory { RowUsesNoMemory links.old row.old (visit_by stand.now longest access) → IsOk result }
 {
     let found = find(links, row.id, stand.number);
     let reply = visit_lock(links, row, &found, stand, VisitTerms { longest, access })?;

@@ -21,11 +21,11 @@ pub struct KeyState {
 }
 
 impl Model for KeyState {
-    ghost use Rattle.lt_plain.specs.Rules.{Record};
+    ghost use Rattle.lt_plain.specs.Rules.{Record, record_with};
 
     ghost Value = { Record };
 
-    ghost view = { λ s. record { holder = s.holder; reservation = s.reservation; writers = s.writers.items; readers = s.readers.items; distinguished = s.distinguished } };
+    ghost view = { λ s. record_with s.holder s.reservation s.writers.items s.readers.items s.distinguished };
 }
 
 impl KeyState {

@@ -10,15 +10,16 @@
 //!
 //! [`KeyTable`] is the contract of a table: each call is the step of the rules on its key alone. [`PlainTable`]
 //! meets it with sorted vectors in an ordered map. It is the simple implementation, to read, to test against, and
-//! to check histories with. [`laws`] has what follows from the rules: a lock has one holder, no read passes a lock
-//! at or below its timestamp, no write passes a smaller number, each wait is let through once, and the smallest
-//! number is next.
+//! to check histories with. [`look`] answers for both tables what a waiting request waits for. [`laws`] has what
+//! follows from the rules: a lock has one holder, no read passes a lock at or below its timestamp, no write passes a
+//! smaller number, each wait is let through once, and the smallest number is next.
 #![tactic(auto)]
 
 mod call;
 mod key_state;
 mod key_table;
 pub mod laws;
+pub mod look;
 mod plain_record;
 mod plain_table;
 mod queued;

@@ -156,10 +156,10 @@ pub fn expect<T: KeyTable>(
         );
         let mut want = [None, None];
         let mut found = [None, None];
-        for place in 0..2 {
-            found[place] = lets.get(place).copied();
-            if let Some((number, wait)) = through[place] {
-                want[place] = Some(Through {
+        for index in 0..2 {
+            found[index] = lets.get(index).copied();
+            if let Some((number, wait)) = through[index] {
+                want[index] = Some(Through {
                     pass: 3,
                     ticket: ticket(number, wait)?,
                 });

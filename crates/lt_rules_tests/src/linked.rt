@@ -367,8 +367,8 @@ impl TablePair {
 
     /// Counts the looks at the key with this index, and fails unless all keys still have the looks that are noted
     /// for them.
-    fn compare_all(&mut self, rt: &impl Abort, place: usize, spots: &[Spot]) {
-        if let Some(spot) = spots.get(place) {
+    fn compare_all(&mut self, rt: &impl Abort, index: usize, spots: &[Spot]) {
+        if let Some(spot) = spots.get(index) {
             for reply in &spot.found {
                 self.counts.add_look(*reply);
             }
@@ -390,13 +390,13 @@ impl TablePair {
         random: &mut Random,
         spots: &mut [Spot; 3],
     ) -> Result<(), Fail> {
-        let place = random.below(3) as usize;
+        let index = random.below(3) as usize;
         let pass = 1 + random.below(PASSES) as u32;
         let call = random_call(random, self.turn / SPELL % 2 == 0)?;
-        self.call(rt, alloc, &mut spots[place], pass, &call)?;
-        self.measure(rt, &spots[place]);
+        self.call(rt, alloc, &mut spots[index], pass, &call)?;
+        self.measure(rt, &spots[index]);
         if self.turn % 64 == 0 {
-            self.compare_all(rt, place, spots.as_slice());
+            self.compare_all(rt, index, spots.as_slice());
         }
         Ok(())
     }

@@ -52,8 +52,8 @@ impl VisitAnswers {
     }
 
     fn set_reads(&mut self, number: u64, reads: bool) {
-        if let Some(place) = self.reads.get_mut(number as usize) {
-            *place = reads;
+        if let Some(index) = self.reads.get_mut(number as usize) {
+            *index = reads;
         }
     }
 
@@ -108,8 +108,8 @@ impl VisitAnswers {
     fn wait(&mut self, visit: &Visit) {
         let reads = !visit.is_write && (!visit.waits || self.is_reader(visit.number));
         self.set_reads(visit.number, reads);
-        if let Some(place) = self.without_txn.get_mut(visit.number as usize) {
-            *place = visit.txn.is_none();
+        if let Some(index) = self.without_txn.get_mut(visit.number as usize) {
+            *index = visit.txn.is_none();
         }
     }
 

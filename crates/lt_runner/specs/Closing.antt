@@ -1,5 +1,6 @@
 -- What the workers hand to the close of a table, and what the close gives.
-use Rattle.std.specs.Prelude.{ℕ, ◌≡◌, ◌<◌, List, [], ◌∷◌, ◌++◌, map, Contains}
+use Rattle.std.specs.Prelude.{ℕ, ◌≡◌, ◌<◌, ◌≤◌, ◌+◌, List, [], ◌∷◌, ◌++◌, length, map, Contains, vec_capacity}
+use Rattle.std.specs.Global.{Vec}
 use Rattle.std.specs.List.{AllByRecursion}
 use mathlib.Core.List.{IsPrefix}
 use Rattle.lt_words.specs.declared.event.Event.{Event}
@@ -27,6 +28,10 @@ CountAlike ps ws = (s : ℕ) → counts_at s ps ≡ counts_at s (map (λ w. sess
 abbrev pub IsPut : Session → List PassState → List GuardState → List PassState → List GuardState → Type 0
 IsPut (Free p) passes guards more_passes more_guards = (more_passes ≡ passes ++ p ∷ []) × (more_guards ≡ guards)
 IsPut (Open g) passes guards more_passes more_guards = (more_passes ≡ passes) × (more_guards ≡ guards ++ g ∷ [])
+
+-- The vector keeps its room, and gains at most one item.
+abbrev pub GainsAtMostOne : {A : Type 0} → Vec A → Vec A → Type 0
+GainsAtMostOne old new = (vec_capacity new ≡ vec_capacity old) × (length new.items ≤ length old.items + 1)
 
 -- How two passes ended together: done only if both are done.
 abbrev pub join : Finish → Finish → Finish

@@ -1,6 +1,8 @@
 -- The execution of a line by calls of a table.
 use Rattle.std.specs.Prelude.{ℕ, ◌≡◌, List, [], Option, Some, Result, Ok, Err, IfOk}
 use Rattle.lt_ids.specs.Ids.{Wait}
+use Rattle.lt_script.specs.declared.command.Action.{Action}
+use Rattle.lt_words.specs.History.{draws_of}
 use Rattle.lt_shard.specs.declared.answer.Answer.{Answer}
 use Rattle.lt_shard.specs.declared.answer.StepError.{StepError}
 use Rattle.lt_shard.specs.declared.answer.StepError.TheVariants as steps
@@ -15,7 +17,7 @@ use Rattle.lt_runner.specs.declared.answer.LineAnswer.TheVariants as answers
 use Rattle.lt_runner.specs.declared.answer.Refusal.TheVariants as refusals
 use Rattle.lt_runner.specs.Outcomes.{OutcomeTells}
 use Rattle.lt_runner.specs.Sessions.{session_request, session_pass}
-use Rattle.lt_runner.specs.Machine.{numbers_of, let_read, state_after_status}
+use Rattle.lt_runner.specs.Machine.{Rules, IsLineDone, IsOutOnlyAt, lets_of, numbers_of, let_read, state_after_status}
 
 -- A statement about a line: the request before it, the status word that was read, the answer, the steps, and the
 -- request after it.
@@ -36,6 +38,18 @@ pub record Does (fact : Fact) (lets : Lets) (old : Session) (answer : LineAnswer
   pub steps : List Step
   pub done : fact (session_request old) word answer steps (session_request new)
   pub tells : OutcomeTells (session_pass old) (session_pass new) steps (numbers_of answer) (lets (session_request old) word)
+
+-- The fact holds of the outcome's answer and steps, and what they tell is in what the pass has then seen.
+abbrev pub LineDoes : Fact → Lets → Session → LineOutcome → Type 0
+LineDoes fact lets old told = Does fact lets old told.answer told.session
+
+-- The outcome is that of a line with this action.
+abbrev pub IsLineOutcome : Rules → Action → Session → LineOutcome → Type 0
+IsLineOutcome rules action old told = LineDoes (IsLineDone rules action) (lets_of action) old told
+
+-- The answer says that the numbers are out only if the pass has then seen that many draws.
+abbrev pub IsOutOnlyAfter : ℕ → LineOutcome → Type 0
+IsOutOnlyAfter max_requests told = IsOutOnlyAt max_requests (draws_of (session_pass told.session).seen) told.answer
 
 -- The outcome of a call that makes one step. Out of memory has no answer.
 abbrev pub IsCallOutcome : Result Answer StepError → Session → Result LineOutcome OutOfMemory → Type 0

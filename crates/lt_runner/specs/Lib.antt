@@ -7,4 +7,5 @@ pub mod Standing
 pub mod Turns
 pub mod Closing
 pub mod Ran
+pub mod Planned
 pub mod Laws

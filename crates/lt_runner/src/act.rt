@@ -4,12 +4,11 @@
 //! result of its call into the answer of the line. Read next: `specs/Machine.antt`, which defines each answer and
 //! its steps, and `specs/Execution.antt`.
 ghost use Rattle.std.specs.Prelude.{◌≡◌, ◌<◌, ℕ, IfOk, length, Ok};
-ghost use Rattle.lt_words.specs.History.{draws_of};
 ghost use Rattle.lt_plain.specs.declared.call.Call.TheVariants.{Acquire, Update, Finish};
 ghost use Rattle.lt_table_core.specs.declared.scan_results.Scan.TheVariants.{Waiting, TooLong};
 ghost use Rattle.lt_runner.specs.Sessions.{session_pass};
-ghost use Rattle.lt_runner.specs.Machine.{IsOpenAnswered, IsScanned, IsScanAnswer, IsAwaited, IsLooked, IsCallAnswered, IsLeaveAnswered, IsLineDone, IsOutOnlyAt, rules_of, let_read, let_gone_on, lets_of, poll_answer};
-ghost use Rattle.lt_runner.specs.Execution.{Does, IsCallOutcome, Polls, no_lets};
+ghost use Rattle.lt_runner.specs.Machine.{IsOpenAnswered, IsScanned, IsScanAnswer, IsAwaited, IsLooked, IsCallAnswered, IsLeaveAnswered, rules_of, let_read, let_gone_on, poll_answer};
+ghost use Rattle.lt_runner.specs.Execution.{Does, IsCallOutcome, IsLineOutcome, IsOutOnlyAfter, LineDoes, Polls, no_lets};
 
 use crate::answer::{LineAnswer, Refusal};
 use crate::find::index_of;
@@ -46,8 +45,8 @@ fn enter<N: Name, T: KeyTable, R: Wait>(
     longest: u32,
 ) -> Result<LineOutcome, OutOfMemory>
     requires { pass.of ≡ N.of }
-    ensures does { IfOk result (λ told. Does (IsOpenAnswered txn ts accesses.now longest) no_lets (Session.Free pass) told.answer told.session) }
-    ensures numbers_out { IfOk result (λ told. IsOutOnlyAt host.now.table.now.max_requests (draws_of (session_pass told.session).seen) told.answer) }
+    ensures does { IfOk result (LineDoes (IsOpenAnswered txn ts accesses.now longest) no_lets (Session.Free pass)) }
+    ensures numbers_out { IfOk result (IsOutOnlyAfter host.now.table.now.max_requests) }
 {
     match host
         .table
@@ -88,8 +87,8 @@ fn open<N: Name, T: KeyTable, R: Wait>(
     longest: u32,
 ) -> Result<LineOutcome, OutOfMemory>
     requires { (session_pass session).of ≡ N.of }
-    ensures does { IfOk result (λ told. Does (IsOpenAnswered txn ts accesses.now longest) no_lets session told.answer told.session) }
-    ensures numbers_out { IfOk result (λ told. IsOutOnlyAt host.now.table.now.max_requests (draws_of (session_pass told.session).seen) told.answer) }
+    ensures does { IfOk result (LineDoes (IsOpenAnswered txn ts accesses.now longest) no_lets session) }
+    ensures numbers_out { IfOk result (IsOutOnlyAfter host.now.table.now.max_requests) }
 {
     match session {
         Session::Free(pass) => enter(host, pass, txn, ts, accesses, longest),
@@ -133,7 +132,7 @@ fn scan_of<N: Name, T: KeyTable, R: Wait>(
     mut guard: Guard,
 ) -> Result<LineOutcome, OutOfMemory>
     requires { guard.pass.of ≡ N.of }
-    ensures { IfOk result (λ told. Does (IsScanned table.now.max_waits) let_gone_on (Session.Open guard) told.answer told.session) }
+    ensures { IfOk result (LineDoes (IsScanned table.now.max_waits) let_gone_on (Session.Open guard)) }
 {
     let ended = table.scan(rt, &mut guard);
     let answered = scan_answer(guard.keys(), ended);
@@ -155,7 +154,7 @@ fn scan<N: Name, T: KeyTable, R: Wait>(
     session: Session,
 ) -> Result<LineOutcome, OutOfMemory>
     requires { (session_pass session).of ≡ N.of }
-    ensures { IfOk result (λ told. Does (IsScanned table.now.max_waits) let_gone_on session told.answer told.session) }
+    ensures { IfOk result (LineDoes (IsScanned table.now.max_waits) let_gone_on session) }
 {
     match session {
         Session::Free(pass) => Ok(no_request(pass)),
@@ -252,7 +251,7 @@ fn acquire<N: Name, T: KeyTable, R: Wait>(
     ts: Timestamp,
 ) -> Result<LineOutcome, OutOfMemory>
     requires { (session_pass session).of ≡ N.of }
-    ensures { IfOk result (λ told. Does (IsCallAnswered key.now (Acquire txn ts)) no_lets session told.answer told.session) }
+    ensures { IfOk result (LineDoes (IsCallAnswered key.now (Acquire txn ts)) no_lets session) }
 {
     match session {
         Session::Free(mut pass) => {
@@ -275,7 +274,7 @@ fn update<N: Name, T: KeyTable, R: Wait>(
     ts: Timestamp,
 ) -> Result<LineOutcome, OutOfMemory>
     requires { (session_pass session).of ≡ N.of }
-    ensures { IfOk result (λ told. Does (IsCallAnswered key.now (Update txn ts)) no_lets session told.answer told.session) }
+    ensures { IfOk result (LineDoes (IsCallAnswered key.now (Update txn ts)) no_lets session) }
 {
     match session {
         Session::Free(mut pass) => {
@@ -297,7 +296,7 @@ fn finish<N: Name, T: KeyTable, R: Wait>(
     txn: TxnId,
 ) -> Result<LineOutcome, OutOfMemory>
     requires { (session_pass session).of ≡ N.of }
-    ensures { IfOk result (λ told. Does (IsCallAnswered key.now (Finish txn)) no_lets session told.answer told.session) }
+    ensures { IfOk result (LineDoes (IsCallAnswered key.now (Finish txn)) no_lets session) }
 {
     match session {
         Session::Free(mut pass) => {
@@ -318,7 +317,7 @@ fn look_of<N: Name, T: KeyTable, R: Wait>(
     key: &Key,
 ) -> Result<LineOutcome, OutOfMemory>
     requires { guard.pass.of ≡ N.of }
-    ensures { IfOk result (λ told. Does (IsLooked key.now) no_lets (Session.Open guard) told.answer told.session) }
+    ensures { IfOk result (LineDoes (IsLooked key.now) no_lets (Session.Open guard)) }
 {
     let Some(index) = index_of(guard.keys(), key) else {
         return Ok(LineOutcome {
@@ -337,7 +336,7 @@ fn look<N: Name, T: KeyTable, R: Wait>(
     key: &Key,
 ) -> Result<LineOutcome, OutOfMemory>
     requires { (session_pass session).of ≡ N.of }
-    ensures { IfOk result (λ told. Does (IsLooked key.now) no_lets session told.answer told.session) }
+    ensures { IfOk result (LineDoes (IsLooked key.now) no_lets session) }
 {
     match session {
         Session::Free(pass) => Ok(no_request(pass)),
@@ -351,7 +350,7 @@ fn leave_of<N: Name, T: KeyTable, R: Wait>(
     guard: Guard,
 ) -> Result<LineOutcome, OutOfMemory>
     requires { guard.pass.of ≡ N.of }
-    ensures { IfOk result (λ told. Does IsLeaveAnswered no_lets (Session.Open guard) told.answer told.session) }
+    ensures { IfOk result (LineDoes IsLeaveAnswered no_lets (Session.Open guard)) }
 {
     match table.leave(rt, guard) {
         Ok(left) => {
@@ -383,7 +382,7 @@ fn leave<N: Name, T: KeyTable, R: Wait>(
     session: Session,
 ) -> Result<LineOutcome, OutOfMemory>
     requires { (session_pass session).of ≡ N.of }
-    ensures { IfOk result (λ told. Does IsLeaveAnswered no_lets session told.answer told.session) }
+    ensures { IfOk result (LineDoes IsLeaveAnswered no_lets session) }
 {
     match session {
         Session::Free(pass) => Ok(no_request(pass)),
@@ -399,8 +398,8 @@ pub(crate) fn act<N: Name, T: KeyTable, R: Wait>(
     action: &Action,
 ) -> Result<LineOutcome, OutOfMemory>
     requires { (session_pass session).of ≡ N.of }
-    ensures does { IfOk result (λ told. Does (IsLineDone (rules_of host.now.table.now turns) action.now) (lets_of action.now) session told.answer told.session) }
-    ensures numbers_out { IfOk result (λ told. IsOutOnlyAt host.now.table.now.max_requests (draws_of (session_pass told.session).seen) told.answer) }
+    ensures does { IfOk result (IsLineOutcome (rules_of host.now.table.now turns) action.now session) }
+    ensures numbers_out { IfOk result (IsOutOnlyAfter host.now.table.now.max_requests) }
 {
     match action {
         Action::Open {

@@ -1,7 +1,7 @@
 //! What does a run leave, for one pass and for all of them?
 //!
 //! [`Work`] is what one pass has done so far, and [`Ran`] is the outcome of the whole run. Read next: `worker.rt`,
-//! which extends a `Work` line by line, and `whole.rt`, which makes a `Ran` of all of them.
+//! which extends a `Work` line by line, and `whole.rt`, which collects them in a `Ran`.
 use crate::answer::AnswerLine;
 use crate::session::Session;
 use lt_entry::Entry;

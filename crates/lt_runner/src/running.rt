@@ -5,8 +5,8 @@
 //! and `specs/Turns.antt`.
 ghost use Rattle.std.specs.Prelude.{◌≡◌, ◌≤◌, ◌-◌, IfOk, length, map, List, Ok};
 ghost use Rattle.std.specs.List.{All, AllByRecursion};
-ghost use Rattle.lt_runner.specs.Machine.{rules_of};
-ghost use Rattle.lt_runner.specs.Turns.{AreNumbered, AreTried, AreWorked, HaveBegun, HaveRunInOrder, IsAmong, IsReady, IsTriedOf, TakesTurn, slot_at, somes};
+ghost use Rattle.lt_runner.specs.Planned.{PassIsWorked, PlanHasRunInOrder, PlanIsTried, PlanIsWorked, PlanTakesTurn};
+ghost use Rattle.lt_runner.specs.Turns.{AreNumbered, HaveBegun, IsAmong, IsReady, slot_at, somes};
 
 use crate::gate::Gate;
 use crate::outcome::{OutOfMemory, StartingPass, Work};
@@ -43,14 +43,14 @@ fn start_all<N: Name + Send + Sync, T: KeyTable + Send, G: Gate + Sync, R: Threa
     passes: Vec<StartingPass>,
 ) -> Result<Vec<Result<Work, OutOfMemory>>, OutOfMemory>
     requires { All (λ p. p.of ≡ N.of) passes.items }
-    ensures { IfOk result (λ works. AreTried (rules_of host.now.table.now plan.now.turns) (G.always plan.now.gate.now) plan.now.commands.now passes.items works.items) }
+    ensures { IfOk result (PlanIsTried G.always host.now.table.now plan.now passes.items) }
 {
     let done = thread::map_vec(
         host.rt,
         passes,
         &|seat: StartingPass| -> Result<Work, OutOfMemory>
             requires { seat.of ≡ N.of }
-            ensures { IsTriedOf (rules_of host.entry.now.table.now plan.entry.now.turns) (G.always plan.entry.now.gate.now) plan.entry.now.commands.now seat result }
+            ensures { IfOk result (PassIsWorked G.always host.entry.now.table.now plan.entry.now seat) }
         { work(host, plan, seat.into_pass()) },
     );
     match done {
@@ -85,7 +85,7 @@ pub(crate) fn run_on_threads<
     passes: Vec<StartingPass>,
 ) -> Result<Vec<Work>, OutOfMemory>
     requires { All (λ p. p.of ≡ N.of) passes.items }
-    ensures { IfOk result (λ works. AreWorked (rules_of host.now.table.now plan.now.turns) (G.always plan.now.gate.now) plan.now.commands.now passes.items works.items) }
+    ensures { IfOk result (PlanIsWorked G.always host.now.table.now plan.now passes.items) }
 {
     let done = start_all(host, plan, passes)?;
     collect(host.alloc, done)
@@ -103,7 +103,8 @@ fn take_turn<N: Name, T: KeyTable, G: Gate, R: Wait>(
     requires high { command.now.pass ≤ length slots.old }
     requires ready { IsReady N.of (slot_at slots.old (command.now.pass - 1)) }
     requires seen { seen.old.of ≡ N.of }
-    ensures { IfOk result (λ _. TakesTurn (rules_of host.now.table.now plan.now.turns) (G.always plan.now.gate.now) command.now seen.old slots.old slots.new seen.new) }
+    ensures { IfOk result (λ _. PlanTakesTurn G.always host.now.table.now plan.now command.now
+        seen.old slots.old slots.new seen.new) }
 {
     let number = command.pass.number();
     let index = (number - 1) as usize;
@@ -162,7 +163,7 @@ pub(crate) fn run_in_turn<N: Name, T: KeyTable, G: Gate, R: Wait>(
     requires of { AllByRecursion (λ p. p.of ≡ N.of) passes.items }
     requires among { AllByRecursion (IsAmong (length passes.items)) plan.now.commands.now }
     requires seen { seen.of ≡ N.of }
-    ensures { IfOk result (λ works. HaveRunInOrder (rules_of host.now.table.now plan.now.turns) (G.always plan.now.gate.now) N.of.shards plan.now.commands.now passes.items works.items) }
+    ensures { IfOk result (PlanHasRunInOrder G.always host.now.table.now plan.now N.of.shards passes.items) }
 {
     let commands = plan.commands;
     let mut slots = begin_all(host.alloc, passes, commands)?;

@@ -2,15 +2,15 @@
 //!
 //! [`run`] opens a table, has the lines run, collects what the workers return, and closes the table. Read next:
 //! `running.rt`, which runs the lines of all passes, and `specs/Ran.antt` for the promise.
-ghost use Rattle.std.specs.Prelude.{◌≡◌, ◌≤◌, ◌<◌, ◌+◌, ◌^◌, ◌⊎◌, [], IfOk, length, map, vec_capacity};
+ghost use Rattle.std.specs.Prelude.{◌≡◌, ◌≤◌, ◌<◌, ◌^◌, ◌⊎◌, [], IfOk, length, map, vec_capacity};
 ghost use Rattle.std.specs.List.{All, AllByRecursion};
 ghost use Rattle.std.specs.FinMap as finmap;
 ghost use Rattle.lt_table_core.specs.Closed.{passes_of};
 ghost use Rattle.lt_runner.specs.Sessions.{session_pass};
-ghost use Rattle.lt_runner.specs.Machine.{rules_of};
-ghost use Rattle.lt_runner.specs.Turns.{AreNumbered, HaveRun, IsAmong};
-ghost use Rattle.lt_runner.specs.Closing.{AreHanded, CountAlike, IsPut, finish_all, join};
-ghost use Rattle.lt_runner.specs.Ran.{IsRan, run_rules};
+ghost use Rattle.lt_runner.specs.Turns.{AreNumbered, IsAmong};
+ghost use Rattle.lt_runner.specs.Closing.{AreHanded, CountAlike, GainsAtMostOne, IsPut, finish_all, join};
+ghost use Rattle.lt_runner.specs.Planned.{PlanHasRun, PlanIsRan, plan_rules};
+ghost use Rattle.lt_runner.specs.Ran.{run_rules};
 
 use crate::answer::AnswerLine;
 use crate::gate::Gate;
@@ -50,8 +50,8 @@ fn put(session: Session, passes: &mut Vec<Pass>, guards: &mut Vec<Guard>)
     requires passes { length passes.old.items < vec_capacity passes.old }
     requires guards { length guards.old.items < vec_capacity guards.old }
     ensures put { IsPut session passes.old.items guards.old.items passes.new.items guards.new.items }
-    ensures passes { (vec_capacity passes.new ≡ vec_capacity passes.old) × (length passes.new.items ≤ length passes.old.items + 1) }
-    ensures guards { (vec_capacity guards.new ≡ vec_capacity guards.old) × (length guards.new.items ≤ length guards.old.items + 1) }
+    ensures passes { GainsAtMostOne passes.old passes.new }
+    ensures guards { GainsAtMostOne guards.old guards.new }
 {
     match session {
         Session::Free(pass) => passes.push_reserved(pass),
@@ -128,7 +128,7 @@ fn run_lines<N: Name + Send + Sync, T: KeyTable + Send, G: Gate + Sync, R: Threa
     requires numbered { AreNumbered 0 passes.items }
     requires of { AllByRecursion (λ p. p.of ≡ N.of) passes.items }
     requires among { AllByRecursion (IsAmong (length passes.items)) plan.now.commands.now }
-    ensures { IfOk result (λ works. HaveRun (rules_of host.now.table.now plan.now.turns) (G.always plan.now.gate.now) N.of.shards plan.now.commands.now passes.items works.items) }
+    ensures { IfOk result (PlanHasRun G.always host.now.table.now plan.now N.of.shards passes.items) }
 {
     let seen = passes[0].seen();
     let seats = seats_of(host.alloc, passes)?;
@@ -153,7 +153,7 @@ fn run_named<
     requires some { 0 < N.of.shards }
     requires some_passes { 0 < N.of.passes }
     requires among { AllByRecursion (IsAmong ready.config.passes) plan.now.commands.now }
-    ensures { IfOk result (λ ran. IsRan (rules_of ready.config plan.now.turns) (G.always plan.now.gate.now) ready.config.shards plan.now.commands.now ran) }
+    ensures { IfOk result (PlanIsRan G.always (plan_rules ready.config plan.now) ready.config.shards plan.now) }
 {
     let Ok((table, passes)) = open_with::<N, T>(alloc, ready, tables) else {
         return Err(RunFault::Memory);
@@ -228,7 +228,7 @@ pub fn run<T: KeyTable + Drop + Send, G: Gate + Sync, R: Threads + Wait + Sync>(
     requires empty { All (λ t. T.records t ≡ finmap.empty) tables.items }
     requires some_steps { 1 ≤ max_steps }
     requires few_steps { max_steps ≤ 2 ^ 32 }
-    ensures { IfOk result (λ ran. IsRan (run_rules max_steps plan.now.turns) (G.always plan.now.gate.now) (length tables.items) plan.now.commands.now ran) }
+    ensures { IfOk result (PlanIsRan G.always (run_rules max_steps plan.now.turns) (length tables.items) plan.now) }
 {
     let config = Config {
         shards: tables.len(),

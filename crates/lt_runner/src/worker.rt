@@ -4,8 +4,8 @@
 //! `act.rt` for what a single line does, and `specs/Worked.antt`.
 ghost use Rattle.std.specs.Prelude.{◌≡◌, IfOk};
 ghost use Rattle.lt_runner.specs.Sessions.{session_pass};
-ghost use Rattle.lt_runner.specs.Machine.{rules_of};
-ghost use Rattle.lt_runner.specs.Worked.{is_turns, finish_of, pass_lines, IsBegun, IsWorked, ExecutesLine, TakesOn, WorkGoesOn};
+ghost use Rattle.lt_runner.specs.Planned.{LineTaken, PassIsWorked, PlanGoesOn, PlanTakesOn};
+ghost use Rattle.lt_runner.specs.Worked.{is_turns, finish_of, IsBegun};
 
 use crate::act::act;
 use crate::answer::{AnswerLine, LineAnswer};
@@ -40,7 +40,7 @@ fn take_line<N: Name, T: KeyTable, R: Wait>(
     answers: &mut Vec<AnswerLine>,
 ) -> Result<(Session, bool), OutOfMemory>
     requires { (session_pass session).of ≡ N.of }
-    ensures { IfOk result (λ r. ExecutesLine (rules_of host.now.table.now turns) command.now session answers.old.items r.0 answers.new.items r.1) }
+    ensures { IfOk result (LineTaken host.now.table.now turns command.now session answers.old.items answers.new.items) }
 {
     let LineOutcome { session, answer } = act(host, turns, session, &command.action)?;
     let out = is_turns(&answer);
@@ -67,7 +67,7 @@ fn live_line<N: Name, T: KeyTable, G: Gate, R: Wait>(
     command: &Command,
 ) -> Result<Work, OutOfMemory>
     requires { (session_pass session).of ≡ N.of }
-    ensures { IfOk result (λ w. TakesOn (rules_of host.now.table.now plan.now.turns) (G.always plan.now.gate.now) session answers.items command.now w) }
+    ensures { IfOk result (PlanTakesOn G.always host.now.table.now plan.now session answers.items command.now) }
 {
     if !plan.gate.before(number, command.line) {
         return Ok(Work {
@@ -94,7 +94,7 @@ pub(crate) fn next_line<N: Name, T: KeyTable, G: Gate, R: Wait>(
     command: &Command,
 ) -> Result<Work, OutOfMemory>
     requires { (session_pass work.session).of ≡ N.of }
-    ensures { IfOk result (λ w. WorkGoesOn (rules_of host.now.table.now plan.now.turns) (G.always plan.now.gate.now) work.finish work command.now w) }
+    ensures { IfOk result (PlanGoesOn G.always host.now.table.now plan.now work command.now) }
 {
     match work.finish {
         Finish::TurnsOut => Ok(work),
@@ -147,7 +147,7 @@ pub fn work<N: Name, T: KeyTable, G: Gate, R: Wait>(
     pass: Pass,
 ) -> Result<Work, OutOfMemory>
     requires { pass.of ≡ N.of }
-    ensures { IfOk result (λ w. IsWorked (rules_of host.now.table.now plan.now.turns) (G.always plan.now.gate.now) pass (pass_lines pass.number plan.now.commands.now) w) }
+    ensures { IfOk result (PassIsWorked G.always host.now.table.now plan.now pass) }
 {
     let commands = plan.commands;
     let number = pass.number();

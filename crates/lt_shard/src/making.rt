@@ -1,11 +1,9 @@
 //! How does a shard's table make a step?
 ghost use Rattle.std.specs.Prelude.{◌≡◌, ◌≤◌, IfOk, IsOk, OnErr};
-ghost use Rattle.lt_plain.specs.Rules.{TakesNoMemory};
-ghost use Rattle.lt_plain.specs.Step.{step};
 ghost use Rattle.lt_plain.specs.Table.{AreSound, record_at};
 ghost use Rattle.lt_entry.specs.Ranges.{IsInRange, NamesNumber};
 ghost use Rattle.lt_words.specs.Row.{made};
-ghost use Rattle.lt_shard.specs.Shards.{IsMade};
+ghost use Rattle.lt_shard.specs.Shards.{IsMade, StepTakesNoMemory};
 
 use lt_entry::Entry;
 use lt_ids::{Key, Through};
@@ -45,7 +43,7 @@ pub(crate) fn make_step<'a, T: KeyTable>(
     ensures in_range { IfOk result (λ s. IsInRange s.entry) }
     ensures err { OnErr result (T.records table.new ≡ T.records table.old) }
     // The parts of an entry need no memory of their own.
-    ensures no_memory { TakesNoMemory (record_at (T.records table.old) key.now) (step (record_at (T.records table.old) key.now) pass call.now) → IsOk result }
+    ensures no_memory { StepTakesNoMemory (record_at (T.records table.old) key.now) pass call.now → IsOk result }
 {
     let mut lets = Vec::new(alloc);
     let reply = make(table, key, pass, call, &mut lets)?;

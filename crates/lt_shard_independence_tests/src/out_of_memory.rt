@@ -88,17 +88,17 @@ fn play_at<N: Name, T: KeyTable, R: Wait>(
     alloc: Global,
     table: &Table<N, T>,
     seats: &mut Vec<Seat<N>>,
-    place: usize,
+    index: usize,
     command: &TableCommand,
 ) -> Option<Came> {
-    if place >= seats.len() {
+    if index >= seats.len() {
         return None;
     }
-    let seat = seats.remove(place);
+    let seat = seats.remove(index);
     let (seat, line) = play(rt, alloc, table, seat, command)?;
     let question = Question::State(b'a');
     let (seat, sight) = ask_through(rt, alloc, table, seat, question, &mut Vec::new(alloc))?;
-    seats.insert(place, seat).ok()?;
+    seats.insert(index, seat).ok()?;
     Some((line.told, stand_of(&sight)))
 }
 
@@ -116,8 +116,8 @@ fn run_named<N: Name, R: Wait>(
     let (table, passes) = open_with::<N, Scarce>(alloc, ready, tables).ok()?;
     let mut seats = seated::<N>(alloc, passes)?;
     let mut came = Vec::new(alloc);
-    for ((place, command, _), _) in rows {
-        came.push(play_at(rt, alloc, &table, &mut seats, *place, command)?)
+    for ((index, command, _), _) in rows {
+        came.push(play_at(rt, alloc, &table, &mut seats, *index, command)?)
             .ok()?;
     }
     let histories = close_all(rt, alloc, table, seats)?;
@@ -233,19 +233,19 @@ fn failure(before: u32) -> ScarceRow {
 }
 
 /// The rows with that failing call inserted at this index, right before the same call that succeeds.
-fn with_failure(mut rows: Vec<ScarceRow>, place: usize, before: u32) -> Option<Vec<ScarceRow>> {
-    if rows.len() < place {
+fn with_failure(mut rows: Vec<ScarceRow>, index: usize, before: u32) -> Option<Vec<ScarceRow>> {
+    if rows.len() < index {
         return None;
     }
-    rows.insert(place, failure(before)).ok()?;
+    rows.insert(index, failure(before)).ok()?;
     Some(rows)
 }
 
 /// A call that runs out of memory reports that and changes nothing. The same call then succeeds.
 #[test]
 fn out_of_memory_is_told_and_changes_nothing(rt: HostRuntime) -> Result<(), Fail> {
-    for (place, before) in [(0, 0), (2, 1), (4, 2)] {
-        let rows = with_failure(rows(rt.alloc())?, place, before).ok_or("the rows")?;
+    for (index, before) in [(0, 0), (2, 1), (4, 2)] {
+        let rows = with_failure(rows(rt.alloc())?, index, before).ok_or("the rows")?;
         come_out(&rt, rt.alloc(), 4, before, &rows, 4)?;
     }
     Ok(())

@@ -1,14 +1,14 @@
 //! How does a test make a chosen call run out of memory? [`Scarce`] is a plain table that fails one call that
 //! allocates.
 //!
-//! The contract of a key table says that a call which allocates nothing succeeds. So this table fails only calls
-//! that allocate according to the key's state: an acquire that takes the lock, a write without a bound that waits,
+//! The contract of a key table says which calls never fail for memory. So this table fails only calls that may
+//! allocate: an acquire that takes the lock, a write without a bound that waits,
 //! and a leave that gives up a reservation. [`crate::out_of_memory`] plays rows on it.
-ghost use Rattle.std.specs.Prelude.{◌≡◌, ℕ, IsTrue, None};
+ghost use Rattle.std.specs.Prelude.{◌≡◌, IsTrue, None};
 ghost use Rattle.lt_plain.specs.Rules.{is_txn, leave};
-ghost use Rattle.lt_plain.specs.Visit.{visit};
-ghost use Rattle.lt_plain.specs.Table.{AreSound, queued_of, record_at};
-ghost use Rattle.lt_plain.specs.declared.call.Reply.TheVariants.{MustWait, Left};
+ghost use Rattle.lt_plain.specs.Table.{AreSound, record_at};
+ghost use Rattle.lt_plain.specs.declared.call.Reply.TheVariants.{Left};
+ghost use Rattle.lt_shard_independence_tests.specs.Scarce.{IsKeptOut};
 
 use lt_ids::{Access, Key, Request, Through, Timestamp, TxnId};
 use lt_plain::{KeyState, KeyTable, PlainTable, Reply};
@@ -33,7 +33,7 @@ fn is_free(state: &KeyState) -> bool
 
 /// Whether the visit is to write, has no bound, and finds the lock held by another transaction, so that it waits.
 fn is_kept_out(state: &KeyState, request: &Request, access: &Access) -> bool
-    ensures { (wait : ℕ) → IsTrue result → (visit state.now (queued_of request.now wait) request.now.longest access.now).reply ≡ MustWait }
+    ensures { IsKeptOut result state.now request.now access.now }
 {
     let Some(holder) = state.holder else {
         return false;
@@ -106,7 +106,7 @@ impl Scarce {
     }
 
     fn is_kept_out(&self, key: &Key, request: &Request, access: &Access) -> bool
-        ensures { (wait : ℕ) → IsTrue result → (visit (record_at self.now.table key.now) (queued_of request.now wait) request.now.longest access.now).reply ≡ MustWait }
+        ensures { IsKeptOut result (record_at self.now.table key.now) request.now access.now }
     {
         match self.table.state(self.alloc, key) {
             Ok(state) => is_kept_out(&state, request, access),

@@ -1,5 +1,5 @@
 -- What a leave gives back, and what is left of a table that is closed.
-use Rattle.std.specs.Prelude.{ℕ, true, ◌≡◌, ◌+◌, ◌<◌, ◌≤◌, ◌++◌, List, [], ◌∷◌, map, length, drop, slice_index, slice_index_or, Result, Ok, Err}
+use Rattle.std.specs.Prelude.{ℕ, true, ◌≡◌, ◌+◌, ◌<◌, ◌≤◌, ◌++◌, List, [], ◌∷◌, map, length, drop, slice_index, slice_index_or, vec_capacity, Result, Ok, Err}
 use Rattle.std.specs.Global.{Vec}
 use Rattle.std.specs.List.{AllByRecursion}
 use mathlib.Core.List.{IsPrefix}
@@ -15,6 +15,7 @@ use Rattle.lt_words.specs.Row.{Opening, PassState}
 use Rattle.lt_shard.specs.declared.holding.Rest.{Rest}
 use Rattle.lt_shard.specs.Shards.{View}
 use Rattle.lt_table_core.specs.declared.config.Config.{Config}
+use Rattle.lt_table_core.specs.declared.closing.Rests.{Rests}
 use Rattle.lt_table_core.specs.declared.closing.Wanted.{Wanted}
 use Rattle.lt_table_core.specs.declared.closing.CloseError.{CloseError}
 use Rattle.lt_table_core.specs.declared.closing.CloseError.TheVariants.{PassesOut, Memory, Counts}
@@ -89,6 +90,14 @@ pub record IsClosedRest (of : Opening) (ps : List PassState) (rests : List Rest)
   pub draws_are : draws ≡ draws_of whole
   pub many : length rests ≡ of.shards
   pub each : (s : ℕ) (d : Rest) → s < of.shards → IsRest of ps whole whole_shown s (slice_index_or rests s d).from (slice_index_or rests s d).entries.items
+
+-- This is what is left of a table that is closed with these passes and guards.
+abbrev pub AreRestsOf : Opening → List PassState → List GuardState → Rests → Type 0
+AreRestsOf of passes guards rests = IsClosedRest of (passes_of passes guards) rests.shards.items rests.draws
+
+-- The vector is empty and has room for this many items.
+abbrev pub IsRoomFor : {A : Type 0} → ℕ → Vec A → Type 0
+IsRoomFor n v = (v.items ≡ []) × (n ≤ vec_capacity v)
 
 -- No steps of any shard are gone.
 abbrev pub AreWhole : Opening → List Rest → Type 0

@@ -1,10 +1,10 @@
 -- The numbers with which a table is opened, their ranges, and what a table is opened over.
-use Rattle.std.specs.Prelude.{ℕ, ◌≡◌, ◌&&◌, ◌<◌, ◌≤◌, ◌^◌, Bool, nat_le, if◌then◌else◌, Option, Some, None, List, length, slice_index_or}
+use Rattle.std.specs.Prelude.{ℕ, ◌≡◌, ◌⊎◌, ◌&&◌, ◌<◌, ◌≤◌, ◌^◌, Bool, nat_le, if◌then◌else◌, Option, Some, None, List, length, slice_index_or}
 use Rattle.lt_words.specs.Row.{Opening}
 use Rattle.lt_shard.specs.Shards.{View, new_shard}
 use Rattle.lt_table_core.specs.declared.config.Config.{Config}
 use Rattle.lt_table_core.specs.declared.config.PrepareError.{PrepareError}
-use Rattle.lt_table_core.specs.declared.config.PrepareError.TheVariants.{Shards, Passes, Steps, Requests, Waits}
+use Rattle.lt_table_core.specs.declared.config.PrepareError.TheVariants.{Shards, Passes, Steps, Requests, Waits, Memory}
 
 abbrev pub is_between : ℕ → ℕ → ℕ → Bool
 is_between low high n = nat_le low n && nat_le n high
@@ -21,6 +21,11 @@ fault c =
     else Some Steps
     else Some Passes
     else Some Shards
+
+-- Why a book with this configuration is not prepared: its first number that is out of its range. If there is none,
+-- memory ran out.
+abbrev pub IsUnprepared : Config → PrepareError → Type 0
+IsUnprepared c e = (fault c ≡ Some e) ⊎ ((fault c ≡ None) × (e ≡ Memory))
 
 -- Each number is in its range.
 pub record IsConfig (c : Config) : Type 0 where

@@ -7,3 +7,4 @@ pub mod Closed
 pub mod Laws
 pub mod Sound
 pub mod Taken
+pub mod Inspected

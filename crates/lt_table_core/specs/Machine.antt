@@ -143,6 +143,30 @@ pub record WalkState : Type 0 where
   pub progress : Progress
   pub answers : List Answer
 
+-- what a request with these keys asks for
+abbrev pub asked_for : List (List ℕ × Access) → ℕ → Option ℕ → Timestamp → ℕ → Asked
+asked_for keys number txn ts longest = record { keys = keys; number = number; txn = txn; ts = ts; longest = longest }
+
+-- the request on its way with these parts
+abbrev pub walk_state : Asked → Progress → List Answer → WalkState
+walk_state asked progress answers = record { asked = asked; progress = progress; answers = answers }
+
+-- where a scan begins once the status word was read, or why it is refused
+abbrev pub scan_start_after : WalkState → ℕ → Result Progress ScanError
+scan_start_after w word = scan_start (after_status w.asked.number w.progress word)
+
+-- the visit of the key that the request is at, if a key is left
+abbrev pub visit_here : WalkState → Option Call
+visit_here w = option_map (λ k. visit_call w.asked w.progress k.1) (slice_get w.asked.keys w.progress.index)
+
+-- the request with this progress
+abbrev pub walk_moved : WalkState → Progress → WalkState
+walk_moved w p = record w { progress = p }
+
+-- the request with this progress and one more answer
+abbrev pub walk_answered : WalkState → Progress → Answer → WalkState
+walk_answered w p answer = record w { progress = p; answers = w.answers ++ answer ∷ [] }
+
 -- a key step that was made and reported
 pub record Step : Type 0 where
   pub key : List ℕ

@@ -1,14 +1,19 @@
 -- What a call of the table tells of the steps that it made through a pass.
-use Rattle.std.specs.Prelude.{ℕ, ◌≡◌, ◌+◌, nat_eq, if◌then◌else◌, ◌<◌, List, [], ◌∷◌, Result}
+use Rattle.std.specs.Prelude.{ℕ, ◌≡◌, ◌≢◌, ◌+◌, nat_eq, if◌then◌else◌, ◌<◌, List, [], ◌∷◌, Result, Err, Some, slice_get}
+use Rattle.std.specs.Option.{option_map}
 use mathlib.Core.List.{IsPrefix}
 use Rattle.lt_ids.specs.Ids.{Wait}
 use Rattle.lt_entry.specs.declared.entry.Entry.{Entry}
-use Rattle.lt_words.specs.History.{shard_of, IsStatus}
+use Rattle.lt_words.specs.History.{shard_of, IsStatus, LetIn}
 use Rattle.lt_words.specs.Shown.{word_of}
 use Rattle.lt_words.specs.Row.{PassState, SeesMore, Reports}
+use Rattle.lt_plain.specs.declared.call.Call.{Call}
+use Rattle.lt_plain.specs.declared.call.Call.TheVariants.{Look}
 use Rattle.lt_shard.specs.declared.answer.Answer.{Answer}
+use Rattle.lt_table_core.specs.declared.walk_progress.Mode.TheVariants.{Awaiting}
 use Rattle.lt_table_core.specs.declared.scan_results.Scan.{Scan}
 use Rattle.lt_table_core.specs.declared.scan_results.ScanError.{ScanError}
+use Rattle.lt_table_core.specs.declared.scan_results.ScanError.TheVariants.{StillWaiting}
 use Rattle.lt_table_core.specs.declared.scan_results.Poll.{Poll}
 use Rattle.lt_table_core.specs.Machine.{after_status, polled, WalkState, Step, IsWalkScan, IsLeaveFrom, IsLeft, IsRefusedLeave}
 
@@ -25,6 +30,10 @@ pub record Reported (old new : PassState) (x : Step) : Type 0 where
   pub call_is : entry.call ≡ x.call
   pub reply_is : entry.reply ≡ x.answer.reply
   pub reports : Reports old new (shard_at old x) x.answer.at entry
+
+-- The step of this call at this key was made, was answered so, and is reported.
+abbrev pub ReportsCall : PassState → PassState → List ℕ → Call → Answer → Type 0
+ReportsCall old new key call answer = Reported old new (record { key = key; call = call; answer = answer })
 
 -- These steps were reported, one after the other.
 abbrev pub AreReported : PassState → List Step → PassState → Type 0
@@ -44,6 +53,21 @@ pub record GuardState : Type 0 where
 -- the wait that the request is in, which its ticket names
 abbrev pub current_wait : WalkState → Wait
 current_wait s = record { number = s.asked.number; wait = s.progress.waits }
+
+-- The look of the request at the key with this index in its list was made, was answered so, and is reported.
+abbrev pub ReportsLook : GuardState → GuardState → ℕ → Answer → Type 0
+ReportsLook old new index answer =
+    (key : List ℕ) × (option_map (λ k. k.0) (slice_get old.walk.asked.keys index) ≡ Some key)
+    × ReportsCall old.pass new.pass key (Look old.walk.asked.number) answer
+
+-- The pass has seen a step that lets through the wait that the request is in.
+abbrev pub SeesLet : PassState → WalkState → Type 0
+SeesLet p w = LetIn p.seen p.number (current_wait w)
+
+-- A request that waited proceeds only if it was let through.
+abbrev pub ProceedsOnlyIfLet : GuardState → GuardState → Result Scan ScanError → Type 0
+ProceedsOnlyIfLet old new result =
+    old.walk.progress.mode ≡ Awaiting → result ≢ Err StillWaiting → SeesLet new.pass old.walk
 
 -- The pass is the same, and its seen prefix only grew.
 pub record PassStays (old new : PassState) : Type 0 where

@@ -8,7 +8,7 @@ ghost use Rattle.std.specs.List.{All, AllByRecursion};
 ghost use mathlib.Core.List.{IsPrefix};
 ghost use Rattle.lt_shard.specs.Shards.{View};
 ghost use Rattle.lt_words.specs.Row.{SeesMore};
-ghost use Rattle.lt_table_core.specs.Closed.{counts_at, passes_of, IsCounted, AreCounted, IsMiscount, IsEnded, AreEnded, IsClosed, IsClosedRest, AreWhole, IsUnclosed};
+ghost use Rattle.lt_table_core.specs.Closed.{counts_at, passes_of, IsCounted, AreCounted, IsMiscount, IsEnded, AreEnded, IsClosed, IsClosedRest, AreRestsOf, AreWhole, IsRoomFor, IsUnclosed};
 
 use crate::guard::Guard;
 use crate::table::{Slot, Table};
@@ -382,10 +382,10 @@ impl<N: Name, T: KeyTable + Drop, W: Waker + Drop> Table<N, T, W> {
     ) -> Result<ClosedTable, CloseRefused<N, T, W>>
         requires passes { All (λ p. p.of ≡ N.of) passes.items }
         requires guards { All (λ g. g.pass.of ≡ N.of) guards.items }
-        ensures closed { IfOk result (λ e. IsClosedRest N.of (passes_of passes.items guards.items) e.rests.shards.items e.rests.draws) }
+        ensures closed { IfOk result (λ e. AreRestsOf N.of passes.items guards.items e.rests) }
         ensures whole { IfOk result (λ e. only_whole ≡ true → AreWhole N.of e.rests.shards.items) }
         ensures limit { IfOk result (λ e. All (λ t. length t.entries.items ≤ self.max_steps) e.rests.shards.items) }
-        ensures room { IfOk result (λ e. (e.histories.items ≡ []) × (length e.rests.shards.items ≤ vec_capacity e.histories)) }
+        ensures room { IfOk result (λ e. IsRoomFor (length e.rests.shards.items) e.histories) }
         ensures enough { OnOk result (self.passes ≤ length passes.items + length guards.items) }
         ensures refused { IfErr result (λ e. IsUnclosed e.error (length passes.items + length guards.items) self) }
         ensures table { IfErr result (λ e. e.table ≡ self) }
@@ -484,7 +484,7 @@ impl<N: Name, T: KeyTable + Drop, W: Waker + Drop> Table<N, T, W> {
     ) -> Result<Rests, CloseRefused<N, T, W>>
         requires passes { All (λ p. p.of ≡ N.of) passes.items }
         requires guards { All (λ g. g.pass.of ≡ N.of) guards.items }
-        ensures closed { IfOk result (λ r. IsClosedRest N.of (passes_of passes.items guards.items) r.shards.items r.draws) }
+        ensures closed { IfOk result (λ r. AreRestsOf N.of passes.items guards.items r) }
         ensures limit { IfOk result (λ r. All (λ t. length t.entries.items ≤ self.max_steps) r.shards.items) }
         ensures enough { OnOk result (self.passes ≤ length passes.items + length guards.items) }
         ensures refused { IfErr result (λ e. IsUnclosed e.error (length passes.items + length guards.items) self) }

@@ -1,7 +1,7 @@
 //! With which numbers is a table opened, in which ranges, and what is allocated before it opens? Read next
 //! `src/opening.rt`. `docs/LIMITS.md` says what happens at each limit.
-ghost use Rattle.std.specs.Prelude.{◌≡◌, ◌⊎◌, Some, None, IfOk, IfErr, OnOk};
-ghost use Rattle.lt_table_core.specs.Configs.{is_between, fault, IsOpened};
+ghost use Rattle.std.specs.Prelude.{◌≡◌, None, IfOk, IfErr, OnOk};
+ghost use Rattle.lt_table_core.specs.Configs.{is_between, fault, IsOpened, IsUnprepared};
 
 use lt_words::{Book, Keeping, Pass, abandon_all};
 use std::alloc::{AllocError, Global};
@@ -132,7 +132,7 @@ pub fn prepare(alloc: Global, config: Config) -> Result<Ready, PrepareError>
     ensures config { IfOk result (λ ready. ready.config ≡ config) }
     // The book has the numbers of shards and passes that the configuration asks for.
     ensures opened { IfOk result (λ ready. IsOpened config ready.of) }
-    ensures refused { IfErr result (λ e. (fault config ≡ Some e) ⊎ ((fault config ≡ None) × (e ≡ PrepareError.Memory))) }
+    ensures refused { IfErr result (λ e. IsUnprepared config e) }
     // Each step is stored until the table is closed.
     ensures whole { IfOk result (λ ready. ready.of.keeping ≡ Keeping.Whole) }
 {
@@ -146,7 +146,7 @@ pub fn prepare_with(alloc: Global, config: Config, keeping: Keeping) -> Result<R
     ensures config { IfOk result (λ ready. ready.config ≡ config) }
     ensures opened { IfOk result (λ ready. IsOpened config ready.of) }
     ensures keeping { IfOk result (λ ready. ready.of.keeping ≡ keeping) }
-    ensures refused { IfErr result (λ e. (fault config ≡ Some e) ⊎ ((fault config ≡ None) × (e ≡ PrepareError.Memory))) }
+    ensures refused { IfErr result (λ e. IsUnprepared config e) }
 {
     if let Some(error) = fault(config) {
         return Err(error);

@@ -63,7 +63,7 @@ impl<N: Name, T: KeyTable, W: Waker> Table<N, T, W> {
         longest: u32,
     ) -> Result<Guard, EnterRefused>
         requires pass { pass.of ≡ N.of }
-        ensures entered { IfOk result (λ guard. IsEntered pass accesses.now txn ts longest self.now.max_requests guard) }
+        ensures entered { IfOk result (λ g. IsEntered pass accesses.now txn ts longest self.now.max_requests g) }
         ensures refused { IfErr result (λ e. IsRefused e.error pass accesses.now self.now.max_requests e.pass) }
     {
         let max_requests = self.config.max_requests;

@@ -6,9 +6,9 @@
 ghost use Rattle.std.specs.Prelude.{◌≡◌};
 ghost use mathlib.Core.List.{IsPrefix};
 ghost use Rattle.lt_ids.specs.Ids.{IsNumber};
-ghost use Rattle.lt_words.specs.History.{IsLegalHistory, LetIn};
+ghost use Rattle.lt_words.specs.History.{IsLegalHistory};
 ghost use Rattle.lt_words.specs.Row.{SeesMore};
-ghost use Rattle.lt_table_core.specs.Reported.{current_wait};
+ghost use Rattle.lt_table_core.specs.Reported.{SeesLet};
 
 use crate::walk::Walk;
 use crate::walk_progress::Mode;
@@ -28,15 +28,14 @@ pub struct Guard {
 
 impl Model for Guard {
     ghost use Rattle.std.specs.Prelude.{◌≡◌};
-    ghost use Rattle.lt_words.specs.History.{LetIn};
     ghost use Rattle.lt_table_core.specs.declared.walk_progress.Mode.TheVariants.{Let};
-    ghost use Rattle.lt_table_core.specs.Reported.{GuardState, current_wait};
+    ghost use Rattle.lt_table_core.specs.Reported.{GuardState, SeesLet};
 
     ghost Value = { GuardState };
 
     ghost view = { λ g. record { pass = g.pass; walk = g.walk } };
 
-    ghost invariant = { λ g. g.walk.progress.mode ≡ Let → LetIn g.pass.seen g.pass.number (current_wait g.walk) };
+    ghost invariant = { λ g. g.walk.progress.mode ≡ Let → SeesLet g.pass g.walk };
 }
 
 impl Guard {
@@ -81,7 +80,7 @@ impl Guard {
 
     /// Ghost call: tells the prover that a request in mode `Let` was let through in what its pass has seen.
     pub fn let_through(&self)
-        ensures { self.now.walk.progress.mode ≡ Mode.Let → LetIn self.now.pass.seen self.now.pass.number (current_wait self.now.walk) }
+        ensures { self.now.walk.progress.mode ≡ Mode.Let → SeesLet self.now.pass self.now.walk }
     {
         let _ = &self.pass;
     }

@@ -1,8 +1,9 @@
 //! What can a caller ask a running table? The record of a key, and which keys of a shard have one.
 ghost use Rattle.std.specs.Prelude.{◌≡◌, ◌<◌, IfOk, OnErr};
-ghost use Rattle.lt_words.specs.History.{part, key_record, shard_of};
+ghost use Rattle.lt_words.specs.History.{part};
 ghost use Rattle.lt_words.specs.Row.{SeesMore};
 ghost use Rattle.lt_shard.specs.Shards.{AreLockedKeys};
+ghost use Rattle.lt_table_core.specs.Inspected.{seen_record};
 
 use crate::guard::Guard;
 use crate::table::Table;
@@ -25,7 +26,7 @@ impl<N: Name, T: KeyTable, W: Waker> Table<N, T, W> {
         key: &Key,
     ) -> Result<KeyState, AllocError>
         requires pass { pass.old.of ≡ N.of }
-        ensures state { IfOk result (λ state. state ≡ key_record key.now (part (shard_of key.now N.of.shards) pass.new.seen)) }
+        ensures state { IfOk result (λ state. state ≡ seen_record key.now N.of.shards pass.new.seen) }
         ensures more { SeesMore pass.old pass.new }
         ensures err { OnErr result (pass.new ≡ pass.old) }
     {
@@ -49,7 +50,7 @@ impl<N: Name, T: KeyTable, W: Waker> Table<N, T, W> {
         key: &Key,
     ) -> Result<KeyState, AllocError>
         requires pass { guard.old.pass.of ≡ N.of }
-        ensures state { IfOk result (λ state. state ≡ key_record key.now (part (shard_of key.now N.of.shards) guard.new.pass.seen)) }
+        ensures state { IfOk result (λ state. state ≡ seen_record key.now N.of.shards guard.new.pass.seen) }
         ensures more { SeesMore guard.old.pass guard.new.pass }
         ensures walk { guard.new.walk ≡ guard.old.walk }
         ensures err { OnErr result (guard.new ≡ guard.old) }

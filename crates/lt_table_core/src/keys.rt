@@ -4,7 +4,7 @@ ghost use Rattle.std.specs.Prelude.{◌≡◌, ◌≢◌, ◌≤◌, ◌<◌, �
 ghost use Rattle.std.specs.List.Sorted.{IsStrictlySortedBy};
 ghost use Rattle.std.specs.Cmp.Lexicographic.{slice_cmp};
 ghost use Rattle.std.specs.Ordering.{nat_cmp};
-ghost use Rattle.lt_table_core.specs.Keys.{AreTheKeys, IsKeyList, IsOnlyRead, Among};
+ghost use Rattle.lt_table_core.specs.Keys.{AreTheKeys, IsKeyList, IsOnlyRead, IsReadOnlyKey, Among};
 
 use lt_ids::{Access, Key};
 use std::alloc::{AllocError, Global};
@@ -82,7 +82,7 @@ fn only_read(
     writes: &[Key],
 ) -> Result<Vec<Key>, AllocError>
     requires { AreTheKeys writes.now (λ k. Contains accesses.now (k, Access.Write)) }
-    ensures { IfOk result (λ keys. AreTheKeys keys.items (λ k. Contains accesses.now (k, Access.Read) × (¬ Contains accesses.now (k, Access.Write)))) }
+    ensures { IfOk result (λ keys. AreTheKeys keys.items (IsReadOnlyKey accesses.now)) }
 {
     let mut keys = Vec::new(alloc);
     for (key, access) in accesses {

@@ -1,11 +1,10 @@
 //! How does a transaction take, raise and free its locks, and how does a request look at what it waits for? The
 //! calls of a transaction come in two forms: by a pass, and (named `.._in`) by the pass of a guard. A look is by a
 //! guard.
-ghost use Rattle.std.specs.Prelude.{◌≡◌, ◌≢◌, ◌<◌, ℕ, Err, IfOk, OnErr, List, Some, length, slice_get};
-ghost use Rattle.std.specs.Option.{option_map};
+ghost use Rattle.std.specs.Prelude.{◌≡◌, ◌≢◌, ◌<◌, Err, IfOk, OnErr, length};
 ghost use Rattle.lt_entry.specs.Ranges.{NamesNumber};
-ghost use Rattle.lt_plain.specs.declared.call.Call.TheVariants.{Acquire, Update, Finish, Look};
-ghost use Rattle.lt_table_core.specs.Reported.{Reported};
+ghost use Rattle.lt_plain.specs.declared.call.Call.TheVariants.{Acquire, Update, Finish};
+ghost use Rattle.lt_table_core.specs.Reported.{ReportsCall, ReportsLook};
 
 use crate::guard::Guard;
 use crate::table::Table;
@@ -29,7 +28,7 @@ impl<N: Name, T: KeyTable, W: Waker> Table<N, T, W> {
         ts: Timestamp,
     ) -> Result<Answer, StepError>
         requires pass { pass.old.of ≡ N.of }
-        ensures ok { IfOk result (λ a. Reported pass.old pass.new (record { key = key.now; call = Acquire txn ts; answer = a })) }
+        ensures ok { IfOk result (λ a. ReportsCall pass.old pass.new key.now (Acquire txn ts) a) }
         ensures err { OnErr result (pass.new ≡ pass.old) }
         ensures never_full { N.of.keeping ≡ Keeping.Unrecorded → result ≢ Err StepError.HistoryFull }
     {
@@ -46,7 +45,7 @@ impl<N: Name, T: KeyTable, W: Waker> Table<N, T, W> {
         ts: Timestamp,
     ) -> Result<Answer, StepError>
         requires pass { pass.old.of ≡ N.of }
-        ensures ok { IfOk result (λ a. Reported pass.old pass.new (record { key = key.now; call = Update txn ts; answer = a })) }
+        ensures ok { IfOk result (λ a. ReportsCall pass.old pass.new key.now (Update txn ts) a) }
         ensures err { OnErr result (pass.new ≡ pass.old) }
         ensures never_full { N.of.keeping ≡ Keeping.Unrecorded → result ≢ Err StepError.HistoryFull }
     {
@@ -62,7 +61,7 @@ impl<N: Name, T: KeyTable, W: Waker> Table<N, T, W> {
         txn: TxnId,
     ) -> Result<Answer, StepError>
         requires pass { pass.old.of ≡ N.of }
-        ensures ok { IfOk result (λ a. Reported pass.old pass.new (record { key = key.now; call = Finish txn; answer = a })) }
+        ensures ok { IfOk result (λ a. ReportsCall pass.old pass.new key.now (Finish txn) a) }
         ensures err { OnErr result (pass.new ≡ pass.old) }
         ensures never_full { N.of.keeping ≡ Keeping.Unrecorded → result ≢ Err StepError.HistoryFull }
     {
@@ -79,7 +78,7 @@ impl<N: Name, T: KeyTable, W: Waker> Table<N, T, W> {
     ) -> Result<Answer, StepError>
         requires pass { guard.old.pass.of ≡ N.of }
         requires number { NamesNumber call.now }
-        ensures ok { IfOk result (λ a. Reported guard.old.pass guard.new.pass (record { key = key.now; call = call.now; answer = a })) }
+        ensures ok { IfOk result (λ a. ReportsCall guard.old.pass guard.new.pass key.now call.now a) }
         ensures err { OnErr result (guard.new ≡ guard.old) }
         ensures never_full { N.of.keeping ≡ Keeping.Unrecorded → result ≢ Err StepError.HistoryFull }
         ensures walk { guard.new.walk ≡ guard.old.walk }
@@ -97,7 +96,7 @@ impl<N: Name, T: KeyTable, W: Waker> Table<N, T, W> {
         ts: Timestamp,
     ) -> Result<Answer, StepError>
         requires pass { guard.old.pass.of ≡ N.of }
-        ensures ok { IfOk result (λ a. Reported guard.old.pass guard.new.pass (record { key = key.now; call = Acquire txn ts; answer = a })) }
+        ensures ok { IfOk result (λ a. ReportsCall guard.old.pass guard.new.pass key.now (Acquire txn ts) a) }
         ensures err { OnErr result (guard.new ≡ guard.old) }
         ensures never_full { N.of.keeping ≡ Keeping.Unrecorded → result ≢ Err StepError.HistoryFull }
         ensures walk { guard.new.walk ≡ guard.old.walk }
@@ -115,7 +114,7 @@ impl<N: Name, T: KeyTable, W: Waker> Table<N, T, W> {
         ts: Timestamp,
     ) -> Result<Answer, StepError>
         requires pass { guard.old.pass.of ≡ N.of }
-        ensures ok { IfOk result (λ a. Reported guard.old.pass guard.new.pass (record { key = key.now; call = Update txn ts; answer = a })) }
+        ensures ok { IfOk result (λ a. ReportsCall guard.old.pass guard.new.pass key.now (Update txn ts) a) }
         ensures err { OnErr result (guard.new ≡ guard.old) }
         ensures never_full { N.of.keeping ≡ Keeping.Unrecorded → result ≢ Err StepError.HistoryFull }
         ensures walk { guard.new.walk ≡ guard.old.walk }
@@ -132,7 +131,7 @@ impl<N: Name, T: KeyTable, W: Waker> Table<N, T, W> {
         txn: TxnId,
     ) -> Result<Answer, StepError>
         requires pass { guard.old.pass.of ≡ N.of }
-        ensures ok { IfOk result (λ a. Reported guard.old.pass guard.new.pass (record { key = key.now; call = Finish txn; answer = a })) }
+        ensures ok { IfOk result (λ a. ReportsCall guard.old.pass guard.new.pass key.now (Finish txn) a) }
         ensures err { OnErr result (guard.new ≡ guard.old) }
         ensures never_full { N.of.keeping ≡ Keeping.Unrecorded → result ≢ Err StepError.HistoryFull }
         ensures walk { guard.new.walk ≡ guard.old.walk }
@@ -150,7 +149,7 @@ impl<N: Name, T: KeyTable, W: Waker> Table<N, T, W> {
     ) -> Result<Answer, StepError>
         requires pass { guard.old.pass.of ≡ N.of }
         requires index { index < length guard.old.walk.asked.keys }
-        ensures ok { IfOk result (λ a. (key : List ℕ) × (option_map (λ k. k.0) (slice_get guard.old.walk.asked.keys index) ≡ Some key) × Reported guard.old.pass guard.new.pass (record { key = key; call = Look guard.old.walk.asked.number; answer = a })) }
+        ensures ok { IfOk result (λ a. ReportsLook guard.old guard.new index a) }
         ensures err { OnErr result (guard.new ≡ guard.old) }
         ensures never_full { N.of.keeping ≡ Keeping.Unrecorded → result ≢ Err StepError.HistoryFull }
         ensures walk { guard.new.walk ≡ guard.old.walk }

@@ -2,10 +2,9 @@
 //! `IsPoll` in `specs/Reported.antt`, and `src/waiting.rt` for waits that sleep.
 ghost use Rattle.std.specs.Prelude.{◌≡◌, ◌≢◌, ◌<◌, ℕ, length, Ok, Err};
 ghost use Rattle.lt_ids.specs.Ids.{IsNumber};
-ghost use Rattle.lt_words.specs.History.{LetIn};
-ghost use Rattle.lt_table_core.specs.Reported.{IsScan, IsPoll, GuardStays, current_wait};
+ghost use Rattle.lt_table_core.specs.Reported.{IsScan, IsPoll, GuardStays, ProceedsOnlyIfLet, SeesLet};
 ghost use Rattle.lt_table_core.specs.declared.scan_results.Scan.TheVariants.{Waiting, TooLong};
-ghost use Rattle.lt_table_core.specs.Sound.{IsSoundProgress};
+ghost use Rattle.lt_table_core.specs.Sound.{IsSoundWalk};
 ghost use Rattle.lt_table_core.specs.Laws.{IsTooLong};
 
 use crate::guard::Guard;
@@ -21,7 +20,7 @@ use std::sync::Wait;
 fn poll_on(book: &Book, guard: &mut Guard) -> Poll
     requires { guard.old.pass.of ≡ book.now }
     ensures poll { IsPoll guard.old guard.new result }
-    ensures through { result ≡ Poll.Through → LetIn guard.new.pass.seen guard.new.pass.number (current_wait guard.new.walk) }
+    ensures through { result ≡ Poll.Through → SeesLet guard.new.pass guard.new.walk }
     ensures stays { GuardStays guard.old guard.new }
 {
     guard.walk.sound();
@@ -35,7 +34,7 @@ impl<N: Name, T: KeyTable, W: Waker> Table<N, T, W> {
     pub fn poll(&self, guard: &mut Guard) -> Poll
         requires pass { guard.old.pass.of ≡ N.of }
         ensures poll { IsPoll guard.old guard.new result }
-        ensures through { result ≡ Poll.Through → LetIn guard.new.pass.seen guard.new.pass.number (current_wait guard.new.walk) }
+        ensures through { result ≡ Poll.Through → SeesLet guard.new.pass guard.new.walk }
         ensures stays { GuardStays guard.old guard.new }
     {
         poll_on(&self.book, guard)
@@ -45,7 +44,7 @@ impl<N: Name, T: KeyTable, W: Waker> Table<N, T, W> {
         requires pass { guard.old.pass.of ≡ N.of }
         ensures scan { IsScan self.now.max_waits guard.old guard.new result }
         ensures number { IsNumber guard.old.walk.asked.number }
-        ensures sound { IsSoundProgress (length guard.old.walk.asked.keys) guard.old.walk.progress (length guard.old.walk.answers) }
+        ensures sound { IsSoundWalk guard.old.walk }
         ensures never_full { N.of.keeping ≡ Keeping.Unrecorded → result ≢ Err ScanError.HistoryFull }
     {
         let max_waits = self.config.max_waits;
@@ -68,9 +67,9 @@ impl<N: Name, T: KeyTable, W: Waker> Table<N, T, W> {
         requires pass { guard.old.pass.of ≡ N.of }
         ensures scan { IsScan self.now.max_waits guard.old guard.new result }
         // A request that waited proceeds only if it was let through.
-        ensures went_on { guard.old.walk.progress.mode ≡ Mode.Awaiting → result ≢ Err ScanError.StillWaiting → LetIn guard.new.pass.seen guard.new.pass.number (current_wait guard.old.walk) }
+        ensures went_on { ProceedsOnlyIfLet guard.old guard.new result }
         // If the request was let through before, its let is in what its pass has then seen.
-        ensures was_let { guard.old.walk.progress.mode ≡ Mode.Let → LetIn guard.new.pass.seen guard.new.pass.number (current_wait guard.old.walk) }
+        ensures was_let { guard.old.walk.progress.mode ≡ Mode.Let → SeesLet guard.new.pass guard.old.walk }
         // A request that has to wait does so at a key of its list.
         ensures waiting { (index : ℕ) → result ≡ Ok (Waiting index) → index < length guard.new.walk.asked.keys }
         // If a queue was too long, it was at a key of the list, and the request is back at the list's start.

@@ -2,7 +2,7 @@
 ghost use Rattle.std.specs.Prelude.{◌≡◌, ◌≢◌, ◌<◌, IfOk, OnErr, Err};
 ghost use Rattle.lt_entry.specs.Ranges.{NamesNumber};
 ghost use Rattle.lt_words.specs.History.{shard_of};
-ghost use Rattle.lt_table_core.specs.Reported.{Reported};
+ghost use Rattle.lt_table_core.specs.Reported.{ReportsCall};
 
 use crate::config::Config;
 use lt_ids::Key;
@@ -75,7 +75,7 @@ impl<N: Name, T: KeyTable, W: Waker> Table<N, T, W> {
     ) -> Result<Answer, StepError>
         requires pass { pass.old.of ≡ N.of }
         requires number { NamesNumber call.now }
-        ensures ok { IfOk result (λ a. Reported pass.old pass.new (record { key = key.now; call = call.now; answer = a })) }
+        ensures ok { IfOk result (λ a. ReportsCall pass.old pass.new key.now call.now a) }
         ensures err { OnErr result (pass.new ≡ pass.old) }
         ensures never_full { N.of.keeping ≡ Keeping.Unrecorded → result ≢ Err StepError.HistoryFull }
     {

@@ -1,7 +1,7 @@
 //! How are a table's steps taken out while it runs? Read next `specs/Taken.antt`.
-ghost use Rattle.std.specs.Prelude.{◌≡◌, ◌≢◌, ◌+◌, ◌<◌, [], length, OnErr, OnOk};
+ghost use Rattle.std.specs.Prelude.{◌≡◌, ◌≢◌, ◌<◌, [], IfErr, OnErr, OnOk};
 ghost use Rattle.lt_words.specs.Row.{SeesMore};
-ghost use Rattle.lt_table_core.specs.Taken.{IsTaken};
+ghost use Rattle.lt_table_core.specs.Taken.{IsTaken, reader_after};
 
 use crate::table::Table;
 use lt_entry::Entry;
@@ -17,8 +17,8 @@ pub struct Reader {
     pub next: u64,
 }
 
-/// Steps of the shard that the reader was not given are gone: another call took them out, or they were never
-/// stored. The number is how many of the shard's first steps are gone.
+/// The reader does not continue where the last take ended: another call took steps out, or the table stores none.
+/// The number is how many of the shard's first steps are gone.
 #[derive(Clone, Copy, Debug, PartialEq, Eq, Drop, Error)]
 #[error("so many steps of the shard are gone: {0}")]
 pub struct Gone(pub u64);
@@ -71,8 +71,10 @@ impl<N: Name, T: KeyTable, W: Waker> Table<N, T, W> {
         requires keeping { N.of.keeping ≢ Keeping.Whole }
         requires empty { steps.old.items ≡ [] }
         ensures taken { OnOk result (IsTaken reader.old.shard pass.new.seen reader.old.next steps.new.items) }
-        ensures next { OnOk result (reader.new ≡ record reader.old { next = reader.old.next + length steps.new.items }) }
+        ensures next { OnOk result (reader.new ≡ reader_after reader.old steps.new.items) }
         ensures more { SeesMore pass.old pass.new }
+        // The number of steps that are gone is not the number that the reader was given.
+        ensures gone { IfErr result (λ e. e.0 ≢ reader.old.next) }
         ensures err { OnErr result ((reader.new ≡ reader.old) × (pass.new ≡ pass.old) × (steps.new ≡ steps.old)) }
     {
         let index = reader.shard;

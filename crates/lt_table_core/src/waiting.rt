@@ -1,8 +1,7 @@
 //! How does a request's thread sleep until the request is let through? `src/parking.rt` of `lt_words` has the word
 //! on which it sleeps. `docs/ARCHITECTURE.md`, "Waiting", has a picture.
 ghost use Rattle.std.specs.Prelude.{◌≡◌, ◌≢◌};
-ghost use Rattle.lt_words.specs.History.{LetIn};
-ghost use Rattle.lt_table_core.specs.Reported.{IsPoll, GuardStays, current_wait};
+ghost use Rattle.lt_table_core.specs.Reported.{IsPoll, GuardStays, SeesLet};
 
 use crate::guard::Guard;
 use crate::scan_results::Poll;
@@ -29,7 +28,7 @@ impl<N: Name, T: KeyTable, W: Waker> Table<N, T, W> {
     fn poll_some(&self, guard: &mut Guard) -> Poll
         requires pass { guard.old.pass.of ≡ N.of }
         ensures poll { IsPoll guard.old guard.new result }
-        ensures through { result ≡ Poll.Through → LetIn guard.new.pass.seen guard.new.pass.number (current_wait guard.new.walk) }
+        ensures through { result ≡ Poll.Through → SeesLet guard.new.pass guard.new.walk }
     {
         let mut found = self.poll(guard);
         for _ in 0..POLLS {
@@ -46,7 +45,7 @@ impl<N: Name, T: KeyTable, W: Waker> Table<N, T, W> {
     fn poll_or_sleep<R: Wait>(&self, rt: &R, guard: &mut Guard) -> Poll
         requires pass { guard.old.pass.of ≡ N.of }
         ensures poll { IsPoll guard.old guard.new result }
-        ensures through { result ≡ Poll.Through → LetIn guard.new.pass.seen guard.new.pass.number (current_wait guard.new.walk) }
+        ensures through { result ≡ Poll.Through → SeesLet guard.new.pass guard.new.walk }
     {
         self.book.prepare(&guard.pass);
         let found = self.poll(guard);
@@ -62,7 +61,7 @@ impl<N: Name, T: KeyTable, W: Waker> Table<N, T, W> {
     fn poll_or_sleep_for<R: Wait>(&self, rt: &R, guard: &mut Guard, time: Duration) -> Poll
         requires pass { guard.old.pass.of ≡ N.of }
         ensures poll { IsPoll guard.old guard.new result }
-        ensures through { result ≡ Poll.Through → LetIn guard.new.pass.seen guard.new.pass.number (current_wait guard.new.walk) }
+        ensures through { result ≡ Poll.Through → SeesLet guard.new.pass guard.new.walk }
     {
         self.book.prepare(&guard.pass);
         let found = self.poll(guard);
@@ -85,7 +84,7 @@ impl<N: Name, T: KeyTable, W: Waker> Table<N, T, W> {
         requires pass { guard.old.pass.of ≡ N.of }
         ensures poll { IsPoll guard.old guard.new result }
         ensures ends { result ≢ Poll.Waiting }
-        ensures through { result ≡ Poll.Through → LetIn guard.new.pass.seen guard.new.pass.number (current_wait guard.new.walk) }
+        ensures through { result ≡ Poll.Through → SeesLet guard.new.pass guard.new.walk }
         ensures stays { GuardStays guard.old guard.new }
     {
         let mut found = self.poll_some(guard);
@@ -103,7 +102,7 @@ impl<N: Name, T: KeyTable, W: Waker> Table<N, T, W> {
     pub fn wait_until<R: Wait + Clock>(&self, rt: &R, guard: &mut Guard, deadline: Instant) -> Poll
         requires pass { guard.old.pass.of ≡ N.of }
         ensures poll { IsPoll guard.old guard.new result }
-        ensures through { result ≡ Poll.Through → LetIn guard.new.pass.seen guard.new.pass.number (current_wait guard.new.walk) }
+        ensures through { result ≡ Poll.Through → SeesLet guard.new.pass guard.new.walk }
         ensures stays { GuardStays guard.old guard.new }
     {
         let mut found = self.poll_some(guard);

@@ -6,7 +6,7 @@
 ghost use Rattle.std.specs.Prelude.{◌≡◌, ◌≢◌, ◌+◌, ◌<◌, ◌≤◌, ◌^◌, ◌∷◌, ◌++◌, [], true, false, length, Err, IfOk, IfErr, OnErr, Some, slice_get, nat_lt, vec_len, vec_capacity};
 ghost use Rattle.std.specs.Option.{option_map};
 ghost use Rattle.lt_ids.specs.Ids.{IsNumber, IsWaitNumber};
-ghost use Rattle.lt_table_core.specs.Machine.{after_status, scan_start, leave_start, may_visit, met, passed, scan_end, polled, visit_call, leave_answers};
+ghost use Rattle.lt_table_core.specs.Machine.{after_status, asked_for, leaving, may_visit, met, passed, polled, scan_end, scan_start_after, visit_here, walk_answered, walk_moved};
 
 use crate::scan_results::{Poll, Scan, ScanError};
 use crate::walk_progress::{
@@ -33,20 +33,18 @@ pub(crate) struct Walk {
 }
 
 impl Model for Walk {
-    ghost use Rattle.std.specs.Prelude.{◌≤◌, ◌<◌, ◌^◌, length, vec_capacity};
-    ghost use Rattle.lt_ids.specs.Ids.{IsNumber};
-    ghost use Rattle.lt_table_core.specs.Machine.{Asked, WalkState};
-    ghost use Rattle.lt_table_core.specs.Sound.{IsSoundProgress};
+    ghost use Rattle.lt_table_core.specs.Machine.{WalkState, asked_for, walk_state};
+    ghost use Rattle.lt_table_core.specs.Sound.{IsSoundRequest};
 
     ghost Value = { WalkState };
 
-    ghost view = { λ g. record { asked = record { keys = g.keys.items; number = g.number; txn = g.txn; ts = g.ts; longest = g.longest }; progress = g.progress; answers = g.answers.items } };
+    ghost view = { λ g. walk_state (asked_for g.keys.items g.number g.txn g.ts g.longest) g.progress g.answers.items };
 
-    ghost invariant = { λ g. IsNumber g.number × (length g.keys.items < 2 ^ 63) × (length g.keys.items ≤ vec_capacity g.answers) × IsSoundProgress (length g.keys.items) g.progress (length g.answers.items) };
+    ghost invariant = { λ g. IsSoundRequest g.number g.keys.items g.progress g.answers };
 }
 
 impl Walk {
-    ghost use Rattle.lt_table_core.specs.Sound.{IsSoundProgress};
+    ghost use Rattle.lt_table_core.specs.Sound.{IsSoundWalk};
 
     /// A request at the start of its list. `answers` is empty and has room for one answer for each key.
     pub(crate) fn at_start(
@@ -60,7 +58,7 @@ impl Walk {
         requires number { IsNumber number }
         requires empty { answers.items ≡ [] }
         requires room { length keys.items ≤ vec_capacity answers }
-        ensures asked { result.asked ≡ record { keys = keys.items; number = number; txn = txn; ts = ts; longest = longest } }
+        ensures asked { result.asked ≡ asked_for keys.items number txn ts longest }
         ensures progress { result.progress ≡ record { index = 0; waits = 0; waited = false; mode = Mode.Free } }
         ensures answers { result.answers ≡ [] }
     {
@@ -99,18 +97,18 @@ impl Walk {
     /// Ghost call: tells the prover what holds of every walk.
     pub(crate) fn sound(&self)
         ensures number { IsNumber self.now.asked.number }
-        ensures sound { IsSoundProgress (length self.now.asked.keys) self.now.progress (length self.now.answers) }
+        ensures sound { IsSoundWalk self.now }
     {
         let _ = &self.keys;
     }
 
     /// Begins a scan, given the status word that was read, or refuses it.
     pub(crate) fn begin_scan(&mut self, word: u64) -> Result<(), ScanError>
-        ensures ok { IfOk result (λ _. scan_start (after_status self.old.asked.number self.old.progress word) ≡ Ok self.new.progress) }
+        ensures ok { IfOk result (λ _. scan_start_after self.old word ≡ Ok self.new.progress) }
         ensures cleared { IfOk result (λ _. self.new.answers ≡ []) }
         ensures asked { self.new.asked ≡ self.old.asked }
         ensures free { IfOk result (λ _. self.new.progress.mode ≡ Mode.Free) }
-        ensures refused { IfErr result (λ e. scan_start (after_status self.old.asked.number self.old.progress word) ≡ Err e) }
+        ensures refused { IfErr result (λ e. scan_start_after self.old word ≡ Err e) }
         ensures same { OnErr result (self.new ≡ self.old) }
         ensures never_full { result ≢ Err ScanError.HistoryFull }
     {
@@ -147,7 +145,7 @@ impl Walk {
     pub(crate) fn visit(&self) -> Call
         requires index { self.now.progress.index < length self.now.asked.keys }
         requires waits { self.now.progress.waits + 1 < 2 ^ 24 }
-        ensures { option_map (λ k. visit_call self.now.asked self.now.progress k.1) (slice_get self.now.asked.keys self.now.progress.index) ≡ Some result }
+        ensures { visit_here self.now ≡ Some result }
     {
         Call::Visit {
             ticket: Ticket::new(self.number, self.progress.waits + 1).unwrap(),
@@ -164,7 +162,7 @@ impl Walk {
         requires waits { self.old.progress.waits + 1 < 2 ^ 24 }
         requires free { self.old.progress.mode ≡ Mode.Free }
         requires room { length self.old.answers ≤ self.old.progress.index }
-        ensures { self.new ≡ record self.old { progress = met self.old.progress answer.reply; answers = self.old.answers ++ answer ∷ [] } }
+        ensures { self.new ≡ walk_answered self.old (met self.old.progress answer.reply) answer }
     {
         let must_wait = matches!(&answer.reply, Reply::MustWait);
         let too_long = matches!(&answer.reply, Reply::TooLong);
@@ -175,7 +173,7 @@ impl Walk {
     /// Ends the scan. Called when no visit comes next.
     pub(crate) fn end_scan(&mut self) -> Result<Scan, ScanError>
         ensures result { result ≡ (scan_end (length self.old.asked.keys) self.old.progress).result }
-        ensures after { self.new ≡ record self.old { progress = (scan_end (length self.old.asked.keys) self.old.progress).after } }
+        ensures after { self.new ≡ walk_moved self.old (scan_end (length self.old.asked.keys) self.old.progress).after }
         ensures never_full { result ≢ Err ScanError.HistoryFull }
     {
         let ended = scan_end(self.keys.len(), self.progress);
@@ -186,7 +184,7 @@ impl Walk {
     /// Whether the request was let through, by the status word that was read.
     pub(crate) fn poll(&mut self, word: u64) -> Poll
         ensures result { result ≡ polled self.new.progress }
-        ensures after { self.new ≡ record self.old { progress = after_status self.old.asked.number self.old.progress word } }
+        ensures after { self.new ≡ walk_moved self.old (after_status self.old.asked.number self.old.progress word) }
     {
         self.progress = after_status(self.number, self.progress, word);
         polled(self.progress)
@@ -194,7 +192,7 @@ impl Walk {
 
     /// Begins a leave, or continues one.
     pub(crate) fn begin_leave(&mut self)
-        ensures { self.new ≡ record self.old { progress = leave_start self.old.progress; answers = leave_answers self.old } }
+        ensures { self.new ≡ leaving self.old }
     {
         if self.progress.mode != Mode::Leaving {
             self.answers.clear();
@@ -223,7 +221,7 @@ impl Walk {
     pub(crate) fn leave_one(&mut self, answer: Answer)
         requires index { self.old.progress.index < length self.old.asked.keys }
         requires leaving { self.old.progress.mode ≡ Mode.Leaving }
-        ensures { self.new ≡ record self.old { progress = passed self.old.progress; answers = self.old.answers ++ answer ∷ [] } }
+        ensures { self.new ≡ walk_answered self.old (passed self.old.progress) answer }
     {
         self.progress = passed(self.progress);
         put(&mut self.answers, answer);

@@ -37,8 +37,8 @@ fn act_of(alloc: Global, line: &str) -> Option<Act> {
         "take" => Some(Act::Take),
         "read" => Some(Act::Read),
         _ => {
-            let (place, command) = call_of(alloc, line)?;
-            Some(Act::Play(place, command))
+            let (index, command) = call_of(alloc, line)?;
+            Some(Act::Play(index, command))
         }
     }
 }
@@ -160,13 +160,13 @@ fn play_at<N: Name, T: KeyTable, R: Wait>(
     call: (usize, &TableCommand),
     texts: &mut Texts,
 ) -> Option<()> {
-    let (place, command) = call;
-    if place >= seats.len() {
+    let (index, command) = call;
+    if index >= seats.len() {
         return None;
     }
-    let seat = seats.remove(place);
+    let seat = seats.remove(index);
     let (seat, line) = play(rt, alloc, table, seat, command)?;
-    seats.insert(place, seat).ok()?;
+    seats.insert(index, seat).ok()?;
     put_line(&mut texts.told, &line)?;
     put_line(&mut texts.came, &line)
 }
@@ -194,8 +194,8 @@ fn act_on<N: Name, T: KeyTable, R: Wait>(
         mut texts,
     } = work;
     match act {
-        Act::Play(place, command) => {
-            play_at(rt, alloc, table, &mut seats, (*place, command), &mut texts)?;
+        Act::Play(index, command) => {
+            play_at(rt, alloc, table, &mut seats, (*index, command), &mut texts)?;
         }
         Act::Take => taker = take(rt, table, taker, &mut texts)?,
         Act::Read => taker = read(rt, table, taker, &mut texts)?,

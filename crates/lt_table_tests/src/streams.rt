@@ -36,7 +36,7 @@ fn is_stored<R: Abort>(
     is_taking: bool,
 ) -> Result<(), Fail> {
     let history = worked.shards.get(1).ok_or("the shard")?;
-    let at = line.at.ok_or("the place")?;
+    let at = line.at.ok_or("the index")?;
     let entry = history.get(at as usize).ok_or("the step")?;
     assert_eq!(rt; entry.key().as_bytes(), b"a".as_slice());
     assert_eq!(rt; entry.pass(), pass);

@@ -266,15 +266,15 @@ impl<N: Name> TableAtWork<N> {
         rt: &R,
         alloc: Global,
         table: &Table<N, T>,
-        place: usize,
+        index: usize,
         command: &TableCommand,
     ) -> Option<()> {
-        if place >= self.seats.len() {
+        if index >= self.seats.len() {
             return None;
         }
-        let seat = self.seats.remove(place);
+        let seat = self.seats.remove(index);
         let (seat, line) = play_through(rt, alloc, table, seat, command, &mut self.refused)?;
-        self.seats.insert(place, seat).ok()?;
+        self.seats.insert(index, seat).ok()?;
         self.lines.push(line).ok()?;
         Some(())
     }
@@ -285,15 +285,15 @@ impl<N: Name> TableAtWork<N> {
         rt: &R,
         alloc: Global,
         table: &Table<N, T>,
-        place: usize,
+        index: usize,
         question: Question,
     ) -> Option<()> {
-        if place >= self.seats.len() {
+        if index >= self.seats.len() {
             return None;
         }
-        let seat = self.seats.remove(place);
+        let seat = self.seats.remove(index);
         let (seat, sight) = ask_through(rt, alloc, table, seat, question, &mut self.refused)?;
-        self.seats.insert(place, seat).ok()?;
+        self.seats.insert(index, seat).ok()?;
         self.sights.push(sight).ok()?;
         Some(())
     }
@@ -310,10 +310,10 @@ pub fn play_rows<N: Name, T: KeyTable, R: Wait>(
     questions: &[Option<Question>],
 ) -> Option<()> {
     let mut asked = questions.iter();
-    for (place, command, _) in rows {
-        work.play(rt, alloc, table, *place, command)?;
+    for (index, command, _) in rows {
+        work.play(rt, alloc, table, *index, command)?;
         if let Some(Some(question)) = asked.next() {
-            work.ask(rt, alloc, table, *place, *question)?;
+            work.ask(rt, alloc, table, *index, *question)?;
         }
     }
     Some(())

@@ -1,12 +1,11 @@
 //! Reads decimal numbers. Each number has exactly one spelling.
 ghost use Rattle.std.specs.Prelude.{◌≡◌, MatchOption};
-ghost use Rattle.std.specs.Str.Parse.{AllDigits, digits_value};
-ghost use Rattle.lt_text.specs.Number.{decimal_of, IsNoNumber};
+ghost use Rattle.lt_text.specs.Number.{decimal_of, IsNoNumber, IsValueOfDigits};
 
 /// The number below `2^64` with these digits. Leading zeros are allowed.
 #[tactic(auto, using(crate::proofs::Numbers::not_a_digit, crate::proofs::Numbers::too_large, crate::proofs::Numbers::one_more))]
 fn value(digits: &[u8]) -> Option<u64>
-    ensures { MatchOption result (IsNoNumber digits.now) (λ n. AllDigits 10 digits.now × (n ≡ digits_value 10 digits.now)) }
+    ensures { MatchOption result (IsNoNumber digits.now) (IsValueOfDigits digits.now) }
 {
     let mut n = 0u64;
     for &digit in digits {

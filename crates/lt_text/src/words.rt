@@ -1,7 +1,7 @@
 //! Splits a line into its words, which single spaces separate.
-ghost use Rattle.std.specs.Prelude.{◌≡◌, ◌==◌, ◌∷◌, [], List, ℕ, MatchOption, None, Some, position};
+ghost use Rattle.std.specs.Prelude.{◌≡◌, ◌==◌, ◌∷◌, [], List, ℕ, MatchOption, None, position};
 ghost use Rattle.std.specs.List.{slice_split};
-ghost use Rattle.lt_text.specs.Words.{cut_of, words_left, IsFirst};
+ghost use Rattle.lt_text.specs.Words.{cut_of, words_left, IsCut, IsFirst};
 ghost use Rattle.std.specs.Option.{option_copied};
 
 use std::marker::Model;
@@ -15,7 +15,7 @@ fn position_of(bytes: &[u8], at: u8) -> Option<usize>
 /// The bytes before and after the first byte that equals `at`, or `None` if there is no such byte.
 #[tactic(auto, using(crate::proofs::Cuts::cut_of_none, crate::proofs::Cuts::cut_of_at))]
 pub fn cut(bytes: &[u8], at: u8) -> Option<(&[u8], &[u8])>
-    ensures { MatchOption result (cut_of at bytes.now ≡ None) (λ parts. cut_of at bytes.now ≡ Some (parts.0.now, parts.1.now)) }
+    ensures { MatchOption result (cut_of at bytes.now ≡ None) (λ parts. IsCut at bytes.now parts.0.now parts.1.now) }
 {
     match position_of(bytes, at) {
         None => None,

@@ -1,5 +1,5 @@
 -- What the program answers to a text of histories.
-use Rattle.std.specs.Prelude.{ℕ, ◌≡◌, ◌⊎◌, ◌<◌, ◌^◌, List, [], ◌∷◌, ◌++◌, length, Option, IfSome, Result, Ok, Err, decimal, codes}
+use Rattle.std.specs.Prelude.{ℕ, ◌≡◌, ◌⊎◌, ◌<◌, ◌^◌, List, [], ◌∷◌, ◌++◌, length, Option, IfErr, IfSome, Result, Ok, Err, decimal, codes}
 use Rattle.std.specs.Io.KnownBytes.{Appends}
 use Rattle.lt_text.specs.Compose.{spaced}
 use Rattle.lt_history.specs.declared.checker.Report.{Report}
@@ -82,6 +82,28 @@ IsCheckStoppedOr result said = (result ≡ said) ⊎ IsCheckStopped result
 -- The same, or a write failed.
 abbrev pub IsUnwrittenOr : Result Report CheckTextError → Result Report CheckTextError → Type 0
 IsUnwrittenOr result said = (result ≡ Err errors.Write) ⊎ IsCheckStoppedOr result said
+
+-- A short text of legal histories is answered in this way with its numbers.
+abbrev pub AnswersLegal : Option (List ℕ) → (Result Report CheckTextError → Type 0) → Type 0
+AnswersLegal source is_answer = IfSome source (λ text. (report : Report) → IsShort text → IsLegalText text report → is_answer (Ok report))
+
+-- A short text that has a faulty line is refused with the first such line and the first fault in it, unless a read
+-- failed or memory ran out.
+abbrev pub RefusesFaultyText : Option (List ℕ) → Result Report CheckTextError → Type 0
+RefusesFaultyText source result =
+    IfSome source (λ text. (line : ℕ) (fault : Fault) → IsShort text → Fails text line fault → IsCheckStoppedOr result (Err (errors.Check (faults.Refused line fault))))
+
+-- A text of more than 2 ^ 24 bytes is refused as too long, unless a read failed or memory ran out.
+abbrev pub RefusesLongText : Option (List ℕ) → Result Report CheckTextError → Type 0
+RefusesLongText source result = IfSome source (λ text. 2 ^ 24 < length text → IsCheckStoppedOr result (Err errors.TooLong))
+
+-- If a write failed, the text is legal and the writer has received a prefix of its line.
+abbrev pub TellsPart : Result Report CheckTextError → Option (List ℕ) → Option (List ℕ) → Option (List ℕ) → Type 0
+TellsPart result source old new = IfErr result (λ e. e ≡ errors.Write → ToldInPart source old new)
+
+-- If a write failed, the text is legal and the writer has received a prefix of the upgraded text.
+abbrev pub UpgradesPart : Result Report CheckTextError → Option (List ℕ) → Option (List ℕ) → Option (List ℕ) → Type 0
+UpgradesPart result source old new = IfErr result (λ e. e ≡ errors.Write → UpgradedInPart source old new)
 
 abbrev pub unread : Unread → CheckTextError
 unread inputs.Read = errors.Read

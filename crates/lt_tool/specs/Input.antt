@@ -1,6 +1,10 @@
 -- One read of a text.
-use Rattle.std.specs.Prelude.{ℕ, ◌≡◌, List, ◌++◌, length, Option}
+use Rattle.std.specs.Prelude.{ℕ, ◌≡◌, ◌<◌, ◌^◌, List, ◌++◌, length, Option}
 use Rattle.std.specs.Io.KnownBytes.{Consumes, IsAtEnd}
+
+-- The text is too long to be read.
+abbrev pub IsLong : List ℕ → Type 0
+IsLong text = 2 ^ 24 < length text
 
 -- One read appended this many bytes to the text and took them from the reader. It brings none only at the reader's
 -- end.

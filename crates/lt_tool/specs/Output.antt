@@ -8,6 +8,7 @@ use Rattle.lt_history.specs.Verdict.{IsLegalText}
 use Rattle.lt_script.specs.declared.command.Command.{Command}
 use Rattle.lt_script.specs.declared.error.ScriptError.{ScriptError}
 use Rattle.lt_script.specs.declared.error.ScriptError.TheVariants.{Fault, Memory}
+use Rattle.lt_script.specs.declared.error.ScriptFault.{ScriptFault}
 use Rattle.lt_script.specs.Script.{commands_of}
 use Rattle.lt_runner.specs.declared.outcome.Finish.{Finish}
 use Rattle.lt_runner.specs.declared.outcome.Ran.{Ran}
@@ -97,6 +98,16 @@ IsRunStopped _ = ⊥
 -- The script was refused for this reason, unless a read failed or memory ran out.
 abbrev pub IsRunStoppedOr : {X : Type 0} → Result X RunError → RunError → Type 0
 IsRunStoppedOr result reason = (result ≡ Err reason) ⊎ IsRunStopped result
+
+-- A short text that is no script is refused with its first faulty line and the first fault in it, unless a read failed
+-- or memory ran out.
+abbrev pub RefusesFaultyScript : {X : Type 0} → Option (List ℕ) → Result X RunError → Type 0
+RefusesFaultyScript script result =
+    IfSome script (λ text. (line : ℕ) (fault : ScriptFault) → IsShort text → commands_of text ≡ Err (Fault line fault) → IsRunStoppedOr result (errors.Script line fault))
+
+-- A text of more than 2 ^ 24 bytes is refused as too long, unless a read failed or memory ran out.
+abbrev pub RefusesLongScript : {X : Type 0} → Option (List ℕ) → Result X RunError → Type 0
+RefusesLongScript script result = IfSome script (λ text. 2 ^ 24 < length text → IsRunStoppedOr result errors.TooLong)
 
 abbrev pub unread_script : Unread → RunError
 unread_script inputs.Read = errors.Read

@@ -3,14 +3,10 @@
 //! [`check_text`] writes the numbers of a legal text; [`upgrade_text`] writes the text itself with the first line
 //! of the latest version. Both read the whole text and check it with `lt_history` before they write. Read next:
 //! `specs/Check.antt`.
-ghost use Rattle.std.specs.Prelude.{◌≡◌, ◌≢◌, ◌<◌, ◌^◌, ◌++◌, ℕ, IfOk, IfErr, IfSome, OnOk, Ok, Err, length};
+ghost use Rattle.std.specs.Prelude.{◌≡◌, ◌≢◌, ◌++◌, IfOk, IfErr, OnOk};
 ghost use Rattle.std.specs.Io.KnownBytes.{Appends};
-ghost use Rattle.lt_history.specs.declared.checker.CheckError.TheVariants as faults;
 ghost use Rattle.lt_history.specs.Print.{AppendsPrefix};
-ghost use Rattle.lt_history.specs.Text.{Fails};
-ghost use Rattle.lt_history.specs.Verdict.{IsLegalText};
-ghost use Rattle.lt_tool.specs.Output.{IsShort};
-ghost use Rattle.lt_tool.specs.Check.{IsLegalReport, IsChecked, IsUnchecked, IsCheckStoppedOr, IsUnwrittenOr, ToldInPart, IsUpgraded, UpgradedInPart, report_line, reported, unread};
+ghost use Rattle.lt_tool.specs.Check.{IsLegalReport, IsChecked, IsUnchecked, IsCheckStoppedOr, IsUnwrittenOr, IsUpgraded, AnswersLegal, RefusesFaultyText, RefusesLongText, TellsPart, UpgradesPart, report_line, reported, unread};
 
 use crate::input::{Unread, read_text};
 use lt_history::{CheckError, Fault, Report, check, upgrade, write_out};
@@ -52,9 +48,9 @@ fn unread(why: Unread) -> CheckTextError
 fn legal_text<R: Read>(alloc: Global, reader: &mut R) -> Result<(Vec<u8>, Report), CheckTextError>
     ensures ok { IfOk result (λ taken. IsLegalReport (R.remaining reader.old) taken.0.items taken.1) }
     ensures err { IfErr result (λ e. IsUnchecked e (R.remaining reader.old)) }
-    ensures legal { IfSome (R.remaining reader.old) (λ text. (report : Report) → IsShort text → IsLegalText text report → IsCheckStoppedOr (reported result) (Ok report)) }
-    ensures faulty { IfSome (R.remaining reader.old) (λ text. (line : ℕ) (fault : Fault) → IsShort text → Fails text line fault → IsCheckStoppedOr (reported result) (Err (CheckTextError.Check (faults.Refused line fault)))) }
-    ensures too_long { IfSome (R.remaining reader.old) (λ text. 2 ^ 24 < length text → IsCheckStoppedOr (reported result) (Err CheckTextError.TooLong)) }
+    ensures legal { AnswersLegal (R.remaining reader.old) (IsCheckStoppedOr (reported result)) }
+    ensures faulty { RefusesFaultyText (R.remaining reader.old) (reported result) }
+    ensures too_long { RefusesLongText (R.remaining reader.old) (reported result) }
     ensures unwritten { IfErr result (λ e. e ≢ CheckTextError.Write) }
 {
     let text = match read_text(alloc, reader) {
@@ -91,20 +87,20 @@ pub fn check_text<R: Read, W: Write>(
 ) -> Result<Report, CheckTextError>
     // The text is legal and has these numbers. The writer has received their line and nothing else.
     ensures done { IfOk result (λ report. IsChecked (R.remaining reader.old) report) }
-    ensures told { IfOk result (λ report. Appends (W.contents writer.old) (W.contents writer.new) (report_line report)) }
+    ensures told { IfOk result (λ r. Appends (W.contents writer.old) (W.contents writer.new) (report_line r)) }
 
     // A refused text has this fault on this line, and it is the first one.
     ensures refused { IfErr result (λ e. IsUnchecked e (R.remaining reader.old)) }
     ensures unwritten { IfErr result (λ e. e ≢ CheckTextError.Write → writer.new ≡ writer.old) }
 
     // If a write failed, the text is legal and the writer has received a prefix of its line.
-    ensures write { IfErr result (λ e. e ≡ CheckTextError.Write → ToldInPart (R.remaining reader.old) (W.contents writer.old) (W.contents writer.new)) }
+    ensures write { TellsPart result (R.remaining reader.old) (W.contents writer.old) (W.contents writer.new) }
 
     // A legal text is answered with its numbers and any other is refused, unless a read, a write or an allocation
     // fails.
-    ensures legal { IfSome (R.remaining reader.old) (λ text. (report : Report) → IsShort text → IsLegalText text report → IsUnwrittenOr result (Ok report)) }
-    ensures faulty { IfSome (R.remaining reader.old) (λ text. (line : ℕ) (fault : Fault) → IsShort text → Fails text line fault → IsCheckStoppedOr result (Err (CheckTextError.Check (faults.Refused line fault)))) }
-    ensures too_long { IfSome (R.remaining reader.old) (λ text. 2 ^ 24 < length text → IsCheckStoppedOr result (Err CheckTextError.TooLong)) }
+    ensures legal { AnswersLegal (R.remaining reader.old) (IsUnwrittenOr result) }
+    ensures faulty { RefusesFaultyText (R.remaining reader.old) result }
+    ensures too_long { RefusesLongText (R.remaining reader.old) result }
 {
     let (_, report) = legal_text(alloc, reader)?;
     let Ok(line) = line_of(alloc, report) else {
@@ -126,19 +122,19 @@ pub fn upgrade_text<R: Read, W: Write>(
 ) -> Result<Report, CheckTextError>
     // The text is legal and has these numbers. The writer has received it with its first line changed, and that
     // text is legal too.
-    ensures done { IfOk result (λ report. IsUpgraded (R.remaining reader.old) (W.contents writer.old) (W.contents writer.new) report) }
+    ensures done { IfOk result (IsUpgraded (R.remaining reader.old) (W.contents writer.old) (W.contents writer.new)) }
 
     // A refused text has this fault on this line, and it is the first one.
     ensures refused { IfErr result (λ e. IsUnchecked e (R.remaining reader.old)) }
     ensures unwritten { IfErr result (λ e. e ≢ CheckTextError.Write → writer.new ≡ writer.old) }
 
     // If a write failed, the text is legal and the writer has received a prefix of the upgraded text.
-    ensures write { IfErr result (λ e. e ≡ CheckTextError.Write → UpgradedInPart (R.remaining reader.old) (W.contents writer.old) (W.contents writer.new)) }
+    ensures write { UpgradesPart result (R.remaining reader.old) (W.contents writer.old) (W.contents writer.new) }
 
     // A legal text is written and any other is refused, unless a read, a write or an allocation fails.
-    ensures legal { IfSome (R.remaining reader.old) (λ text. (report : Report) → IsShort text → IsLegalText text report → IsUnwrittenOr result (Ok report)) }
-    ensures faulty { IfSome (R.remaining reader.old) (λ text. (line : ℕ) (fault : Fault) → IsShort text → Fails text line fault → IsCheckStoppedOr result (Err (CheckTextError.Check (faults.Refused line fault)))) }
-    ensures too_long { IfSome (R.remaining reader.old) (λ text. 2 ^ 24 < length text → IsCheckStoppedOr result (Err CheckTextError.TooLong)) }
+    ensures legal { AnswersLegal (R.remaining reader.old) (IsUnwrittenOr result) }
+    ensures faulty { RefusesFaultyText (R.remaining reader.old) result }
+    ensures too_long { RefusesLongText (R.remaining reader.old) result }
 {
     let (mut text, report) = legal_text(alloc, reader)?;
     upgrade(&mut text);

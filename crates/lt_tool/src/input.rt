@@ -1,6 +1,6 @@
 //! Reads a whole text of limited length.
-ghost use Rattle.std.specs.Prelude.{◌≡◌, ◌<◌, ◌≤◌, ◌^◌, length, IfOk, IfErr, IfSome};
-ghost use Rattle.lt_tool.specs.Input.{IsPiece};
+ghost use Rattle.std.specs.Prelude.{◌≡◌, ◌≤◌, ◌^◌, length, IfOk, IfErr, IfSome};
+ghost use Rattle.lt_tool.specs.Input.{IsLong, IsPiece};
 
 use std::alloc::Global;
 use std::io::Read;
@@ -19,7 +19,7 @@ const LONGEST: usize = 1 << 24;
 /// Makes one read and appends its bytes. Returns how many bytes came; 0 means the end.
 #[tactic(auto, using(crate::proofs::Pieces::piece))]
 fn read_some<R: Read>(reader: &mut R, text: &mut Vec<u8>) -> Result<usize, Unread>
-    ensures ok { IfOk result (λ n. IsPiece (R.remaining reader.old) (R.remaining reader.new) text.old.items text.new.items n) }
+    ensures ok { IfOk result (IsPiece (R.remaining reader.old) (R.remaining reader.new) text.old.items text.new.items) }
     ensures err { IfErr result (λ e. e ≡ Unread.TooLong → ⊥) }
 {
     let mut piece = [0u8; 8192];
@@ -40,7 +40,7 @@ fn read_some<R: Read>(reader: &mut R, text: &mut Vec<u8>) -> Result<usize, Unrea
 pub(crate) fn read_text<R: Read>(alloc: Global, reader: &mut R) -> Result<Vec<u8>, Unread>
     ensures ok { IfOk result (λ text. IfSome (R.remaining reader.old) (λ all. text.items ≡ all)) }
     ensures bound { IfOk result (λ text. length text.items ≤ 2 ^ 24) }
-    ensures too_long { IfErr result (λ e. e ≡ Unread.TooLong → IfSome (R.remaining reader.old) (λ all. 2 ^ 24 < length all)) }
+    ensures too_long { IfErr result (λ e. e ≡ Unread.TooLong → IfSome (R.remaining reader.old) IsLong) }
 {
     let Ok(mut text) = Vec::with_capacity(alloc, 2 * LONGEST) else {
         return Err(Unread::Memory);

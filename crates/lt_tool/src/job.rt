@@ -27,8 +27,10 @@ fn run_from<H: Threads + Wait + Sync, R: Read, W: Write>(
     options: &Options,
 ) -> Result<Finish, Failure>
     requires { AreInRange options.now }
-    ensures ok { IfOk result (λ finish. WritesOutput options.now true finish (R.remaining input.old) (W.contents output.old) (W.contents output.new)) }
-    ensures err { IfErr result (λ e. IsFailedRun options.now e (R.remaining input.old) (W.contents output.old) (W.contents output.new)) }
+    ensures ok { IfOk result (λ finish. WritesOutput options.now true finish
+        (R.remaining input.old) (W.contents output.old) (W.contents output.new)) }
+    ensures err { IfErr result (λ e. IsFailedRun options.now e
+        (R.remaining input.old) (W.contents output.old) (W.contents output.new)) }
     ensures unwritten { IfErr result (λ e. LeavesOutput e → output.new ≡ output.old) }
 {
     match run_script(rt, alloc, input, output, options) {
@@ -42,8 +44,10 @@ fn check_from<R: Read, W: Write>(
     input: &mut R,
     output: &mut W,
 ) -> Result<Finish, Failure>
-    ensures ok { IfOk result (λ finish. (finish ≡ Finish.Done) × ReportIsWritten (R.remaining input.old) (W.contents output.old) (W.contents output.new)) }
-    ensures err { IfErr result (λ e. IsFailedCheck e (R.remaining input.old) (W.contents output.old) (W.contents output.new)) }
+    ensures ok { IfOk result (λ finish. (finish ≡ Finish.Done) × ReportIsWritten
+        (R.remaining input.old) (W.contents output.old) (W.contents output.new)) }
+    ensures err { IfErr result (λ e. IsFailedCheck e
+        (R.remaining input.old) (W.contents output.old) (W.contents output.new)) }
     ensures unwritten { IfErr result (λ e. LeavesOutput e → output.new ≡ output.old) }
 {
     match check_text(alloc, input, output) {
@@ -57,8 +61,10 @@ fn upgrade_from<R: Read, W: Write>(
     input: &mut R,
     output: &mut W,
 ) -> Result<Finish, Failure>
-    ensures ok { IfOk result (λ finish. (finish ≡ Finish.Done) × Upgraded (R.remaining input.old) (W.contents output.old) (W.contents output.new)) }
-    ensures err { IfErr result (λ e. IsFailedUpgrade e (R.remaining input.old) (W.contents output.old) (W.contents output.new)) }
+    ensures ok { IfOk result (λ finish. (finish ≡ Finish.Done) × Upgraded
+        (R.remaining input.old) (W.contents output.old) (W.contents output.new)) }
+    ensures err { IfErr result (λ e. IsFailedUpgrade e
+        (R.remaining input.old) (W.contents output.old) (W.contents output.new)) }
     ensures unwritten { IfErr result (λ e. LeavesOutput e → output.new ≡ output.old) }
 {
     match upgrade_text(alloc, input, output) {
@@ -76,7 +82,8 @@ fn run_file<H: Threads + Wait + Sync, F: Files, W: Write>(
     options: &Options,
 ) -> Result<Finish, Failure>
     requires { AreInRange options.now }
-    ensures ok { IfOk result (λ finish. WritesOutput options.now true finish None (W.contents output.old) (W.contents output.new)) }
+    ensures ok { IfOk result (λ finish. WritesOutput options.now true finish
+        None (W.contents output.old) (W.contents output.new)) }
     ensures err { IfErr result (λ e. IsFailedRun options.now e None (W.contents output.old) (W.contents output.new)) }
     ensures unwritten { IfErr result (λ e. LeavesOutput e → output.new ≡ output.old) }
 {
@@ -92,7 +99,8 @@ fn check_file<F: Files, W: Write>(
     name: &str,
     output: &mut W,
 ) -> Result<Finish, Failure>
-    ensures ok { IfOk result (λ finish. (finish ≡ Finish.Done) × ReportIsWritten None (W.contents output.old) (W.contents output.new)) }
+    ensures ok { IfOk result (λ finish. (finish ≡ Finish.Done)
+        × ReportIsWritten None (W.contents output.old) (W.contents output.new)) }
     ensures err { IfErr result (λ e. IsFailedCheck e None (W.contents output.old) (W.contents output.new)) }
     ensures unwritten { IfErr result (λ e. LeavesOutput e → output.new ≡ output.old) }
 {
@@ -108,7 +116,8 @@ fn upgrade_file<F: Files, W: Write>(
     name: &str,
     output: &mut W,
 ) -> Result<Finish, Failure>
-    ensures ok { IfOk result (λ finish. (finish ≡ Finish.Done) × Upgraded None (W.contents output.old) (W.contents output.new)) }
+    ensures ok { IfOk result (λ finish. (finish ≡ Finish.Done)
+        × Upgraded None (W.contents output.old) (W.contents output.new)) }
     ensures err { IfErr result (λ e. IsFailedUpgrade e None (W.contents output.old) (W.contents output.new)) }
     ensures unwritten { IfErr result (λ e. LeavesOutput e → output.new ≡ output.old) }
 {
@@ -128,8 +137,10 @@ fn work<H: Threads + Wait + Sync, F: Files, R: Read, W: Write>(
     output: &mut W,
 ) -> Result<Finish, Failure>
     requires { HasOptionsInRange job }
-    ensures ok { IfOk result (λ finish. JobIsDone job.entry finish (R.remaining input.old) (W.contents output.old) (W.contents output.new)) }
-    ensures err { IfErr result (λ e. IsFailed job.entry e (R.remaining input.old) (W.contents output.old) (W.contents output.new)) }
+    ensures ok { IfOk result (λ finish. JobIsDone job.entry finish
+        (R.remaining input.old) (W.contents output.old) (W.contents output.new)) }
+    ensures err { IfErr result (λ e. IsFailed job.entry e
+        (R.remaining input.old) (W.contents output.old) (W.contents output.new)) }
     ensures unwritten { IfErr result (λ e. LeavesOutput e → output.new ≡ output.old) }
     ensures unread { (ReadsInput job.entry → ⊥) → input.new ≡ input.old }
 {
@@ -144,8 +155,10 @@ fn work<H: Threads + Wait + Sync, F: Files, R: Read, W: Write>(
 }
 
 fn tell_help<W: Write>(output: &mut W, text: &str) -> Result<Finish, Failure>
-    ensures ok { IfOk result (λ finish. (finish ≡ Finish.Done) × Appends (W.contents output.old) (W.contents output.new) text.now) }
-    ensures err { IfErr result (λ e. (e ≡ Failure.Help) × AppendsPrefix (W.contents output.old) (W.contents output.new) text.now) }
+    ensures ok { IfOk result (λ finish. (finish ≡ Finish.Done)
+        × Appends (W.contents output.old) (W.contents output.new) text.now) }
+    ensures err { IfErr result (λ e. (e ≡ Failure.Help)
+        × AppendsPrefix (W.contents output.old) (W.contents output.new) text.now) }
 {
     match write_out(output, text.as_bytes()) {
         Ok(()) => Ok(Finish::Done),
@@ -164,8 +177,10 @@ pub fn perform<'a, H: Threads + Wait + Sync, F: Files, R: Read, W: Write>(
     input: &mut R,
     output: &mut W,
 ) -> Result<Finish, Failure>
-    ensures done { IfOk result (λ finish. Performs (texts words.now) finish (R.remaining input.old) (W.contents output.old) (W.contents output.new)) }
-    ensures failed { IfErr result (λ e. WorkFails (texts words.now) e (R.remaining input.old) (W.contents output.old) (W.contents output.new)) }
+    ensures done { IfOk result (λ finish. Performs (texts words.now) finish
+        (R.remaining input.old) (W.contents output.old) (W.contents output.new)) }
+    ensures failed { IfErr result (λ e. WorkFails (texts words.now) e
+        (R.remaining input.old) (W.contents output.old) (W.contents output.new)) }
     ensures unwritten { IfErr result (λ e. LeavesOutput e → output.new ≡ output.old) }
 
     // The input is unchanged if a file is named, help is printed, or the words are refused.

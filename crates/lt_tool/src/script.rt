@@ -2,11 +2,9 @@
 //!
 //! [`run_script_with`] reads and checks the script, runs it, and writes the output that `table_run.rt` composed.
 //! Read next: `table_run.rt`, and `specs/Output.antt` for what is written.
-ghost use Rattle.std.specs.Prelude.{◌≡◌, ◌≢◌, ◌<◌, ◌^◌, ℕ, true, IfOk, IfErr, IfSome, Err, length};
+ghost use Rattle.std.specs.Prelude.{◌≡◌, ◌≢◌, true, IfOk, IfErr};
 ghost use Rattle.lt_command_line.specs.Options.{AreInRange};
-ghost use Rattle.lt_script.specs.declared.error.ScriptError.TheVariants as faults;
-ghost use Rattle.lt_script.specs.Script.{commands_of};
-ghost use Rattle.lt_tool.specs.Output.{WritesOutput, WritesInPart, IsScriptRefused, IsRunStoppedOr, IsShort, AreCommandsOf, unread_script, unscripted, unfinished};
+ghost use Rattle.lt_tool.specs.Output.{WritesOutput, WritesInPart, IsScriptRefused, AreCommandsOf, RefusesFaultyScript, RefusesLongScript, unread_script, unscripted, unfinished};
 
 use crate::input::{Unread, read_text};
 use crate::table_run::run_commands;
@@ -76,8 +74,8 @@ fn unfinished(why: RunFault) -> RunError
 fn script_of<R: Read>(alloc: Global, reader: &mut R) -> Result<Script, RunError>
     ensures ok { IfOk result (λ script. AreCommandsOf script (R.remaining reader.old)) }
     ensures err { IfErr result (λ e. IsScriptRefused e (R.remaining reader.old)) }
-    ensures faulty { IfSome (R.remaining reader.old) (λ text. (line : ℕ) (fault : ScriptFault) → IsShort text → commands_of text ≡ Err (faults.Fault line fault) → IsRunStoppedOr result (RunError.Script line fault)) }
-    ensures too_long { IfSome (R.remaining reader.old) (λ text. 2 ^ 24 < length text → IsRunStoppedOr result RunError.TooLong) }
+    ensures faulty { RefusesFaultyScript (R.remaining reader.old) result }
+    ensures too_long { RefusesLongScript (R.remaining reader.old) result }
     ensures unwritten { IfErr result (λ e. e ≢ RunError.Write) }
 {
     let text = match read_text(alloc, reader) {
@@ -107,19 +105,21 @@ pub fn run_script_with<H: Threads + Wait + Sync, R: Read, W: Write, G: Gate + Sy
 
     // Each line that was run is answered. Then comes a text of legal histories, which a check accepts and which
     // holds everything that the answers tell. Nothing else is written.
-    ensures done { IfOk result (λ finish. WritesOutput options.now (G.always gate.now) finish (R.remaining reader.old) (W.contents writer.old) (W.contents writer.new)) }
+    ensures done { IfOk result (λ finish. WritesOutput options.now (G.always gate.now) finish
+        (R.remaining reader.old) (W.contents writer.old) (W.contents writer.new)) }
 
     // A text that is refused has this fault, and that on this line, first.
     ensures refused { IfErr result (λ e. IsScriptRefused e (R.remaining reader.old)) }
     ensures unwritten { IfErr result (λ e. e ≢ RunError.Write → writer.new ≡ writer.old) }
 
     // If a write failed, the writer has received a prefix of the output.
-    ensures write { IfErr result (λ e. e ≡ RunError.Write → WritesInPart options.now (G.always gate.now) (R.remaining reader.old) (W.contents writer.old) (W.contents writer.new)) }
+    ensures write { IfErr result (λ e. e ≡ RunError.Write → WritesInPart options.now (G.always gate.now)
+        (R.remaining reader.old) (W.contents writer.old) (W.contents writer.new)) }
 
     // A faulty script is refused with exactly that fault, and one that is too long as too long, unless a read or an
     // allocation fails.
-    ensures faulty { IfSome (R.remaining reader.old) (λ text. (line : ℕ) (fault : ScriptFault) → IsShort text → commands_of text ≡ Err (faults.Fault line fault) → IsRunStoppedOr result (RunError.Script line fault)) }
-    ensures too_long { IfSome (R.remaining reader.old) (λ text. 2 ^ 24 < length text → IsRunStoppedOr result RunError.TooLong) }
+    ensures faulty { RefusesFaultyScript (R.remaining reader.old) result }
+    ensures too_long { RefusesLongScript (R.remaining reader.old) result }
 {
     let script = script_of(alloc, reader)?;
     let outcome = match run_commands(rt, alloc, options, gate, script) {
@@ -141,13 +141,15 @@ pub fn run_script<H: Threads + Wait + Sync, R: Read, W: Write>(
     options: &Options,
 ) -> Result<Finish, RunError>
     requires { AreInRange options.now }
-    ensures done { IfOk result (λ finish. WritesOutput options.now true finish (R.remaining reader.old) (W.contents writer.old) (W.contents writer.new)) }
+    ensures done { IfOk result (λ finish. WritesOutput options.now true finish
+        (R.remaining reader.old) (W.contents writer.old) (W.contents writer.new)) }
     // A refused script has this fault on this line, and it is the first one.
     ensures refused { IfErr result (λ e. IsScriptRefused e (R.remaining reader.old)) }
     ensures unwritten { IfErr result (λ e. e ≢ RunError.Write → writer.new ≡ writer.old) }
-    ensures write { IfErr result (λ e. e ≡ RunError.Write → WritesInPart options.now true (R.remaining reader.old) (W.contents writer.old) (W.contents writer.new)) }
-    ensures faulty { IfSome (R.remaining reader.old) (λ text. (line : ℕ) (fault : ScriptFault) → IsShort text → commands_of text ≡ Err (faults.Fault line fault) → IsRunStoppedOr result (RunError.Script line fault)) }
-    ensures too_long { IfSome (R.remaining reader.old) (λ text. 2 ^ 24 < length text → IsRunStoppedOr result RunError.TooLong) }
+    ensures write { IfErr result (λ e. e ≡ RunError.Write → WritesInPart options.now true
+        (R.remaining reader.old) (W.contents writer.old) (W.contents writer.new)) }
+    ensures faulty { RefusesFaultyScript (R.remaining reader.old) result }
+    ensures too_long { RefusesLongScript (R.remaining reader.old) result }
 {
     run_script_with(rt, alloc, reader, writer, options, &OpenGate)
 }

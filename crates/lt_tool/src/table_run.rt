@@ -57,7 +57,7 @@ pub(crate) fn run_commands<G: Gate + Sync, H: Threads + Wait + Sync>(
     script: Script,
 ) -> Result<Outcome, RunFault>
     requires { AreInRange options.now }
-    ensures { IfOk result (λ outcome. IsOutput options.now (G.always gate.now) script outcome.text.items outcome.finish) }
+    ensures { IfOk result (λ o. IsOutput options.now (G.always gate.now) script o.text.items o.finish) }
 {
     let Ok(tables) = linked_tables(alloc, options.shards) else {
         return Err(RunFault::Memory);

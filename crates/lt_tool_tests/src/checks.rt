@@ -170,9 +170,9 @@ fn ending_of_cut(version: u8, len: usize, ends: usize, is_whole: bool) -> CheckE
 }
 
 /// What is written for a prefix of `ends` whole lines, the first line included.
-fn told_of_cut(work: TextJob, front: &str, ends: usize) -> &str {
+fn told_of_cut(work: TextJob, prefix: &str, ends: usize) -> &str {
     match (work, ends) {
-        (TextJob::Upgrade, _) => front,
+        (TextJob::Upgrade, _) => prefix,
         (TextJob::Check, 1) => "ok 0 keys 0 steps\n",
         (TextJob::Check, 2) => "ok 1 keys 1 steps\n",
         (TextJob::Check, 3) => "ok 1 keys 2 steps\n",
@@ -189,8 +189,13 @@ fn cut_texts(rt: HostRuntime) {
         let mut is_whole = false;
         for len in 0..98 {
             let mut writer = blank(1024, 1024);
-            let front = text.get(..len).unwrap_or("");
-            let ended = done(&rt, work, [front.as_bytes(), front.as_bytes()], &mut writer);
+            let prefix = text.get(..len).unwrap_or("");
+            let ended = done(
+                &rt,
+                work,
+                [prefix.as_bytes(), prefix.as_bytes()],
+                &mut writer,
+            );
             assert_eq!(rt; ended, ending_of_cut(version, len, ends, is_whole));
             let written = if is_whole {
                 told_of_cut(work, THREE_STEPS.get(..len).unwrap_or(""), ends)

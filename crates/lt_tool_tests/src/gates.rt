@@ -53,12 +53,12 @@ impl GateNotes {
     }
 
     fn note(&self, pass: u32, line: usize, is_told: bool) {
-        let place = self.count.fetch_add(1, Ordering::SeqCst);
+        let index = self.count.fetch_add(1, Ordering::SeqCst);
         let digits = u64::from(pass)
             .wrapping_mul(100)
             .wrapping_add((line as u64).wrapping_mul(10))
             .wrapping_add(u64::from(is_told));
-        if let Some(note) = self.notes.get(place) {
+        if let Some(note) = self.notes.get(index) {
             note.store(digits, Ordering::SeqCst);
         }
     }

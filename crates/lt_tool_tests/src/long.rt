@@ -32,8 +32,8 @@ fn answers_of(alloc: Global, count: usize) -> Option<Vec<u8>> {
 
 /// The history of the key after such a script, in a text of this version.
 fn history_of(alloc: Global, version: u8, key: &str, count: usize) -> Option<Vec<u8>> {
-    let front = format!(in alloc; "locks {version}\n{key} 1 1 acquire 7 20.0 = taken\n").ok()?;
-    let mut text = Vec::from_slice(alloc, front.as_bytes()).ok()?;
+    let prefix = format!(in alloc; "locks {version}\n{key} 1 1 acquire 7 20.0 = taken\n").ok()?;
+    let mut text = Vec::from_slice(alloc, prefix.as_bytes()).ok()?;
     for index in 2..count.saturating_add(1) {
         let step = format!(in alloc; "{key} {index} 1 acquire 7 20.0 = kept\n").ok()?;
         text.extend_from_slice(step.as_bytes()).ok()?;

@@ -723,8 +723,8 @@ fn cut_scripts(rt: HostRuntime) {
     for (first, end, fault, written) in &FRONTS {
         for len in *first..*end {
             let mut writer = blank(1024, 1024);
-            let front = TWO_READERS.get(..len).unwrap_or("?");
-            let readers = [front.as_bytes(), front.as_bytes()];
+            let prefix = TWO_READERS.get(..len).unwrap_or("?");
+            let readers = [prefix.as_bytes(), prefix.as_bytes()];
             let ended = run_of(&rt, rt.alloc(), readers, &mut writer);
             assert_eq!(rt; ended, ending_of(*fault));
             assert_eq!(rt; writer.written(), written.as_bytes());

@@ -520,16 +520,16 @@ const HELPS: [(&[&str], &str, &str); 5] = [
 ];
 
 const HELP: &str =
-    "Runs scripts of calls of a lock table, and checks and upgrades histories of its keys. Without a word it is `run`.\n\nUsage: lockrun [COMMAND]\n\nCommands:\n  run      Runs a script and writes its answers and the histories of its keys\n  check    Checks whether a text tells legal histories of keys\n  upgrade  Writes a text of legal histories as one of the latest version\n  help     Print this message or the help of the given subcommand(s)\n\nOptions:\n  -h, --help  Print help\n";
+    "Runs scripts on a lock table, and checks and upgrades texts of histories. Without a command, it runs the script on standard input.\n\nUsage: lockrun [COMMAND]\n\nCommands:\n  run      Runs a script, and writes the answers of its lines and the histories of its keys\n  check    Checks whether a text of histories is legal, and writes the numbers of its keys and steps\n  upgrade  Writes a text of legal histories in the latest version\n  help     Print this message or the help of the given subcommand(s)\n\nOptions:\n  -h, --help  Print help\n";
 
 const RUN_HELP: &str =
-    "Runs a script and writes its answers and the histories of its keys\n\nUsage: lockrun run [OPTIONS] [SCRIPT]\n\nArguments:\n  [SCRIPT]  The script; standard input where none is named\n\nOptions:\n      --shards <N>  Shards of the table, 1 to 64\n      --steps <N>   Key steps that each shard can hold, 1 to 4294967296\n      --threads     Run each pass on a thread of its own\n      --turns <N>   Polls of one `await` with threads, 1 to 1000000000\n  -h, --help        Print help\n";
+    "Runs a script, and writes the answers of its lines and the histories of its keys\n\nUsage: lockrun run [OPTIONS] [SCRIPT]\n\nArguments:\n  [SCRIPT]  The file of the script. Without one, the command reads standard input\n\nOptions:\n      --shards <N>  The number of shards of the table: 1 to 64, default 4\n      --steps <N>   The number of key steps that each shard can hold: 1 to 4294967296, default 1000000\n      --threads     Runs each pass on a thread of its own, instead of all passes on one thread\n      --turns <N>   The number of polls that one `await` makes at most, with threads: 1 to 1000000000, default 1000000\n  -h, --help        Print help\n";
 
 const UPGRADE_HELP: &str =
-    "Writes a text of legal histories as one of the latest version\n\nUsage: lockrun upgrade [FILE]\n\nArguments:\n  [FILE]  The text; standard input where none is named\n\nOptions:\n  -h, --help  Print help\n";
+    "Writes a text of legal histories in the latest version\n\nUsage: lockrun upgrade [FILE]\n\nArguments:\n  [FILE]  The file of the text. Without one, the command reads standard input\n\nOptions:\n  -h, --help  Print help\n";
 
 const CHECK_HELP: &str =
-    "Checks whether a text tells legal histories of keys\n\nUsage: lockrun check [FILE]\n\nArguments:\n  [FILE]  The text; standard input where none is named\n\nOptions:\n  -h, --help  Print help\n";
+    "Checks whether a text of histories is legal, and writes the numbers of its keys and steps\n\nUsage: lockrun check [FILE]\n\nArguments:\n  [FILE]  The file of the text. Without one, the command reads standard input\n\nOptions:\n  -h, --help  Print help\n";
 
 /// Runs the program, and runs it a second time if it ended with status 4 and has written nothing. A failed
 /// allocation has that status.
@@ -592,8 +592,8 @@ fn options_end_as_the_rules_say(rt: HostRuntime) {
 /// and the status is 5.
 #[test]
 fn help_is_told(rt: HostRuntime) {
-    for (words, help, front) in HELPS {
-        for (stops_at, code, written) in [(1024, 0, help), (8, 5, front)] {
+    for (words, help, prefix) in HELPS {
+        for (stops_at, code, written) in [(1024, 0, help), (8, 5, prefix)] {
             let mut output = blank(1024, stops_at);
             let ending = ended(&rt, rt.alloc(), &rt, words, "", &mut output);
             assert_eq!(rt; status(&ending), code);

@@ -1,13 +1,15 @@
 -- The row of words of a book, what a pass and a front carry, and what a step tells the pass that made it.
-use Rattle.std.specs.Prelude.{ℕ, ◌≡◌, ◌+◌, ◌<◌, ◌≤◌, List, [], ◌∷◌, ◌++◌, length, slice_index, slice_index_or, replicate, zero, suc, ◌≢◌, Some, slice_get}
+use Rattle.std.specs.Prelude.{ℕ, ◌≡◌, ◌+◌, ◌<◌, ◌≤◌, List, [], ◌∷◌, ◌++◌, length, slice_index, slice_index_or, replicate, zero, suc, ◌≢◌, Some, slice_get, Bool, MatchBool}
 use mathlib.Core.List.{IsPrefix}
 use Rattle.logbook.specs.Pages.{Book}
 use Rattle.lt_ids.specs.declared.ticket.Through.{Through}
 use Rattle.lt_words.specs.declared.event.Event.{Event}
+use Rattle.lt_words.specs.declared.event.Event.TheVariants.{Draw, Step}
 use Rattle.lt_words.specs.declared.event.Logged.{Logged}
 use Rattle.lt_words.specs.declared.keeping.Keeping.{Keeping}
+use Rattle.lt_words.specs.declared.keeping.Keeping.TheVariants.{Whole}
 use Rattle.lt_words.specs.declared.cache_line.CacheLine.{CacheLine}
-use Rattle.lt_words.specs.History.{part}
+use Rattle.lt_words.specs.History.{part, draws_of}
 use Rattle.lt_words.specs.Shown.{AreShown}
 use Rattle.lt_words.specs.Rules.{word_at, shards_in, passes_in, keeping_in, history_of, shown_of}
 use Rattle.lt_entry.specs.declared.entry.Entry.{Entry}
@@ -41,6 +43,10 @@ pub record IsWordRow (of : Opening) (lines : List CacheLine) : Type 0 where
 abbrev pub opening_of : Book → List Logged → Opening
 opening_of book log = record { book = book; shards = shards_in log; passes = passes_in log; keeping = keeping_in log }
 
+-- the opening that `Brand` stands for before a book is opened under it
+abbrev pub brand_opening : Opening
+brand_opening = record { book = record { number = 0; log_name = 0; cells_name = 0 }; shards = 1; passes = 1; keeping = Whole }
+
 -- what a front has seen: its book, a prefix of the book's table history, and the lets that were shown meanwhile
 pub record FrontState : Type 0 where
   pub of : Opening
@@ -49,6 +55,11 @@ pub record FrontState : Type 0 where
 
 abbrev pub front_state : Book → List Logged → FrontState
 front_state book log = record { of = opening_of book log; seen = history_of log; shown = shown_of log }
+
+-- The row is the row of words of the start's book. The start has seen nothing, and the book keeps steps in this way.
+abbrev pub IsSoundBook : FrontState → List CacheLine → Keeping → Type 0
+IsSoundBook start lines keeping =
+    IsWordRow start.of lines × (start.seen ≡ []) × (start.shown ≡ []) × (keeping ≡ start.of.keeping)
 
 -- The book is the same, and the seen prefix only grew.
 pub record FrontGrows (old new : FrontState) : Type 0 where
@@ -79,6 +90,25 @@ pub record IsPass (p : PassState) : Type 0 where
 -- What is seen afterwards is a history that extends what was seen before and satisfies P, followed by e.
 abbrev pub Appends : List Event → (List Event → Type 0) → Event → List Event → Type 0
 Appends old P e new = (h : List Event) × IsPrefix old h × P h × (new ≡ h ++ e ∷ [])
+
+-- If the exchange succeeded, e was appended as `Appends` says; otherwise more was seen.
+abbrev pub AppendsIf : Bool → List Event → (List Event → Type 0) → Event → List Event → Type 0
+AppendsIf succeeded old P e new = MatchBool succeeded (Appends old P e new) (IsPrefix old new)
+
+-- The history has this many steps of the shard.
+abbrev pub HasSteps : ℕ → ℕ → List Event → Type 0
+HasSteps shard count = λ h. length (part shard h) ≡ count
+
+-- The pass drew n, which is 1 to max, as the next number.
+abbrev pub IsNextDraw : List Event → ℕ → ℕ → ℕ → List Event → Type 0
+IsNextDraw old pass max n new = (0 < n) × (n ≤ max) × Appends old (λ h. draws_of h + 1 ≡ n) (Draw pass n) new
+
+-- What is seen afterwards is a history, followed by the step. The history extends what the pass and the front had
+-- seen, and its steps of the shard are those that the front had seen.
+abbrev pub AppendsStep : List Event → List Event → ℕ → Entry → List Event → Type 0
+AppendsStep pass front shard entry new =
+    (h : List Event) × IsPrefix pass h × IsPrefix front h × (part shard h ≡ part shard front)
+    × (new ≡ h ++ Step shard entry ∷ [])
 
 -- Nothing changed except the seen prefix, which only grew.
 pub record SeesMore (old new : PassState) : Type 0 where

@@ -4,13 +4,11 @@
 //! Each call states its contract over the caller's pass and, for a step, over the shard's front. Read next
 //! `src/front.rt`, which makes the atomic accesses; `specs/Row.antt`, which says what a pass and a front carry; and
 //! `src/parking.rt`, where callers sleep.
-ghost use Rattle.std.specs.Prelude.{◌≡◌, ◌+◌, ◌<◌, ◌≤◌, ◌^◌, ◌∷◌, ◌++◌, List, [], length, slice_index, slice_set, IfSome, IfNone, IfOk};
+ghost use Rattle.std.specs.Prelude.{◌≡◌, ◌+◌, ◌<◌, ◌≤◌, ◌^◌, ◌∷◌, ◌++◌, [], length, slice_index, slice_set, IfSome, IfNone, IfOk};
 ghost use mathlib.Core.List.{IsPrefix};
-ghost use Rattle.lt_words.specs.declared.event.Event.{Event};
-ghost use Rattle.lt_words.specs.declared.event.Event.TheVariants.{Draw, Step};
 ghost use Rattle.lt_words.specs.History.{part, draws_of, shard_of, DrewIn, LetIn, MayFollow, IsStatus};
 ghost use Rattle.lt_words.specs.Shown.{word_of, IsShown};
-ghost use Rattle.lt_words.specs.Row.{AreSizes, Appends, SeesMore, fresh_passes};
+ghost use Rattle.lt_words.specs.Row.{AreSizes, AppendsStep, IsNextDraw, SeesMore, fresh_passes};
 
 use crate::cache_line::CacheLine;
 use crate::entry_parts::EntryParts;
@@ -38,14 +36,13 @@ pub struct Book {
 }
 
 impl Model for Book {
-    ghost use Rattle.std.specs.Prelude.{◌≡◌, []};
-    ghost use Rattle.lt_words.specs.Row.{Opening, IsWordRow};
+    ghost use Rattle.lt_words.specs.Row.{Opening, IsSoundBook};
 
     ghost Value = { Opening };
 
     ghost view = { λ b. b.start.of };
 
-    ghost invariant = { λ b. IsWordRow b.start.of b.lines.items × (b.start.seen ≡ []) × (b.start.shown ≡ []) × (b.keeping ≡ b.start.of.keeping) };
+    ghost invariant = { λ b. IsSoundBook b.start b.lines.items b.keeping };
 }
 
 /// A book whose words all hold 0 and whose history is empty.
@@ -159,7 +156,7 @@ impl Book {
     /// `max` numbers were drawn before. Retries until its exchange succeeds.
     pub fn draw<R: Wait>(&self, rt: &R, pass: &mut Pass, max: u64) -> Option<u64>
         requires { self.now ≡ pass.old.of }
-        ensures some { IfSome result (λ n. (0 < n) × (n ≤ max) × Appends pass.old.seen (λ h. draws_of h + 1 ≡ n) (Draw pass.old.number n) pass.new.seen) }
+        ensures some { IfSome result (λ n. IsNextDraw pass.old.seen pass.old.number max n pass.new.seen) }
         ensures drew { IfSome result (λ n. DrewIn pass.new.seen pass.old.number n) }
         ensures none { IfNone result (max ≤ draws_of pass.new.seen) }
         ensures more { SeesMore pass.old pass.new }
@@ -200,7 +197,7 @@ impl Book {
         ensures of { (pass.new.of ≡ self.now) × (front.new.of ≡ self.now) }
         ensures one { front.new.seen ≡ pass.new.seen }
         ensures both { front.new.shown ≡ pass.new.shown }
-        ensures step { (h : List Event) × IsPrefix pass.old.seen h × IsPrefix front.old.seen h × (part shard h ≡ part shard front.old.seen) × (pass.new.seen ≡ h ++ Step shard entry.now ∷ []) }
+        ensures step { AppendsStep pass.old.seen front.old.seen shard entry.now pass.new.seen }
         ensures pass_shown { IsPrefix pass.old.shown pass.new.shown }
         ensures front_shown { IsPrefix front.old.shown front.new.shown }
         ensures stored { part shard front.new.seen ≡ part shard front.old.seen ++ entry.now ∷ [] }
@@ -231,7 +228,7 @@ impl Book {
         ensures of { (pass.new.of ≡ self.now) × (front.new.of ≡ self.now) }
         ensures one { front.new.seen ≡ pass.new.seen }
         ensures both { front.new.shown ≡ pass.new.shown }
-        ensures step { (h : List Event) × IsPrefix pass.old.seen h × IsPrefix front.old.seen h × (part shard h ≡ part shard front.old.seen) × (pass.new.seen ≡ h ++ Step shard entry.now ∷ []) }
+        ensures step { AppendsStep pass.old.seen front.old.seen shard entry.now pass.new.seen }
         ensures pass_shown { IsPrefix pass.old.shown pass.new.shown }
         ensures front_shown { IsPrefix front.old.shown front.new.shown }
         ensures stored { part shard front.new.seen ≡ part shard front.old.seen ++ entry.now ∷ [] }

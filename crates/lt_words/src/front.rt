@@ -12,7 +12,7 @@ ghost use Rattle.lt_words.specs.declared.event.Event.TheVariants.{Opened, Draw, 
 ghost use Rattle.lt_words.specs.History.{part, draws_of, shard_of, IsLegalHistory, LetIn, MayFollow, IsStatus};
 ghost use Rattle.lt_words.specs.Shown.{word_of, IsShown, AreLet};
 ghost use Rattle.lt_words.specs.Rules.{IsOpenLog, history_of};
-ghost use Rattle.lt_words.specs.Row.{Appends, FrontGrows, front_state};
+ghost use Rattle.lt_words.specs.Row.{Appends, AppendsIf, FrontGrows, HasSteps, IsNextDraw, front_state};
 
 use crate::book::Book;
 use crate::entry_parts::EntryParts;
@@ -102,7 +102,7 @@ impl Front {
         requires of { book.now ≡ self.old.of }
         requires room { old + 1 < 2 ^ 64 }
         ensures more { FrontGrows self.old self.new }
-        ensures went { MatchBool result (Appends self.old.seen (λ h. draws_of h ≡ old) (Draw pass (old + 1)) self.new.seen) (IsPrefix self.old.seen self.new.seen) }
+        ensures went { AppendsIf result self.old.seen (λ h. draws_of h ≡ old) (Draw pass (old + 1)) self.new.seen }
     {
         let number = old + 1;
         let mut offer: Offer<Logged, u64, BookRule, Nothing> = self
@@ -136,7 +136,7 @@ impl Front {
         requires home { shard ≡ shard_of entry.now.key self.old.of.shards }
         requires next { MayFollow (part shard from.now.seen) entry.now }
         ensures more { FrontGrows self.old self.new }
-        ensures went { MatchBool result (Appends self.old.seen (λ h. length (part shard h) ≡ count) (Step shard entry.now) self.new.seen) (IsPrefix self.old.seen self.new.seen) }
+        ensures went { AppendsIf result self.old.seen (HasSteps shard count) (Step shard entry.now) self.new.seen }
         ensures room { IsTrue result → count + 1 < 2 ^ 64 }
     {
         let Some(next) = count.checked_add(1) else {
@@ -231,7 +231,7 @@ impl Front {
     pub(crate) fn draw<R: Wait>(&mut self, rt: &R, book: &Book, pass: u32, max: u64) -> Option<u64>
         requires of { book.now ≡ self.old.of }
         ensures more { FrontGrows self.old self.new }
-        ensures some { IfSome result (λ n. (0 < n) × (n ≤ max) × Appends self.old.seen (λ h. draws_of h + 1 ≡ n) (Draw pass n) self.new.seen) }
+        ensures some { IfSome result (λ n. IsNextDraw self.old.seen pass max n self.new.seen) }
         ensures none { IfNone result (max ≤ draws_of self.new.seen) }
     {
         for _ in rt.forever() {
@@ -263,7 +263,7 @@ impl Front {
         requires home { shard ≡ shard_of entry.now.key self.old.of.shards }
         requires next { MayFollow (part shard from.now.seen) entry.now }
         ensures more { FrontGrows self.old self.new }
-        ensures step { Appends self.old.seen (λ h. length (part shard h) ≡ count) (Step shard entry.now) self.new.seen }
+        ensures step { Appends self.old.seen (HasSteps shard count) (Step shard entry.now) self.new.seen }
         ensures room { count + 1 < 2 ^ 64 }
     {
         for _ in rt.forever() {

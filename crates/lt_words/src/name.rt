@@ -8,7 +8,7 @@ pub trait Name {
 }
 
 impl Name for std::marker::Brand {
-    ghost use Rattle.lt_words.specs.declared.keeping.Keeping.TheVariants.{Whole};
+    ghost use Rattle.lt_words.specs.Row.{brand_opening};
 
-    ghost of = { record { book = record { number = 0; log_name = 0; cells_name = 0 }; shards = 1; passes = 1; keeping = Whole } };
+    ghost of = { brand_opening };
 }

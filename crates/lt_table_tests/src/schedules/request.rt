@@ -30,7 +30,7 @@ pub struct PlainRequest {
     /// Its key list, each key with whether it is to be written.
     list: Vec<(u8, bool)>,
     /// The position in the key list of the next key, or of the key at which it waits.
-    place: usize,
+    index: usize,
     /// How many waits it has begun.
     waits: u32,
     /// Whether it had to wait since a scan last answered that it proceeds, must scan again, or met a queue that is
@@ -85,7 +85,7 @@ impl PlainRequest {
             time,
             longest,
             list: list_of(alloc, accesses)?,
-            place: 0,
+            index: 0,
             waits: 0,
             waited: false,
             mode: PlainMode::Free,
@@ -98,8 +98,8 @@ impl PlainRequest {
     }
 
     /// The key at a position of its list, and the look at it.
-    pub fn look_call(&self, place: usize) -> Option<(u8, AskedCall)> {
-        let (key, _) = self.list.get(place)?;
+    pub fn look_call(&self, index: usize) -> Option<(u8, AskedCall)> {
+        let (key, _) = self.list.get(index)?;
         let number = self.number;
         Some((*key, AskedCall::Look { number }))
     }
@@ -110,7 +110,7 @@ impl PlainRequest {
 
     /// Whether a scan would now continue after a let, with another key to visit.
     pub fn goes_on(&self, steps: &Steps) -> bool {
-        self.is_let(steps) && self.place.wrapping_add(1) < self.list.len()
+        self.is_let(steps) && self.index.wrapping_add(1) < self.list.len()
     }
 
     /// Whether it was let through: an earlier poll found so, or the status word of its pass is the ticket of this
@@ -139,7 +139,7 @@ impl PlainRequest {
     /// through, is refused, and nothing changes. One that was let through continues at the next position.
     pub fn scan(&mut self, steps: &mut Steps, max_waits: u32) -> Result<CallOutcome, AllocError> {
         if self.is_let(steps) {
-            self.place = self.place.wrapping_add(1);
+            self.index = self.index.wrapping_add(1);
             self.mode = PlainMode::Free;
         }
         match self.mode {
@@ -149,11 +149,11 @@ impl PlainRequest {
         }
         self.replies.clear();
         let list = self.list.clone()?;
-        for (key, is_write) in list.iter().skip(self.place) {
+        for (key, is_write) in list.iter().skip(self.index) {
             if let Some(told) = self.visit(steps, max_waits, *key, *is_write)? {
                 return Ok(told);
             }
-            self.place = self.place.wrapping_add(1);
+            self.index = self.index.wrapping_add(1);
         }
         Ok(CallOutcome::Scanned(self.end_scan()))
     }
@@ -185,9 +185,9 @@ impl PlainRequest {
         };
         self.replies.push(made.reply)?;
         if made.reply == Reply::TooLong {
-            let place = self.place;
+            let index = self.index;
             self.begin_anew();
-            return Ok(Some(CallOutcome::Scanned(Scan::TooLong(place))));
+            return Ok(Some(CallOutcome::Scanned(Scan::TooLong(index))));
         }
         if made.reply != Reply::MustWait {
             return Ok(None);
@@ -195,12 +195,12 @@ impl PlainRequest {
         self.waits = wait;
         self.waited = true;
         self.mode = PlainMode::Waiting;
-        Ok(Some(CallOutcome::Scanned(Scan::Waiting(self.place))))
+        Ok(Some(CallOutcome::Scanned(Scan::Waiting(self.index))))
     }
 
     /// Goes back to the first position, and forgets that the request had to wait.
     fn begin_anew(&mut self) {
-        self.place = 0;
+        self.index = 0;
         self.waited = false;
     }
 
@@ -217,19 +217,19 @@ impl PlainRequest {
     pub fn leave(&mut self, steps: &mut Steps) -> Result<CallOutcome, AllocError> {
         if self.mode != PlainMode::Leaving {
             self.mode = PlainMode::Leaving;
-            self.place = 0;
+            self.index = 0;
             self.replies.clear();
         }
         let asked = AskedCall::Leave {
             number: self.number,
         };
         let list = self.list.clone()?;
-        for (key, _) in list.iter().skip(self.place) {
+        for (key, _) in list.iter().skip(self.index) {
             let Some(made) = steps.make(self.pass, *key, asked)? else {
                 return Ok(CallOutcome::NotLeft(StepError::HistoryFull));
             };
             self.replies.push(made.reply)?;
-            self.place = self.place.wrapping_add(1);
+            self.index = self.index.wrapping_add(1);
         }
         Ok(CallOutcome::Left)
     }

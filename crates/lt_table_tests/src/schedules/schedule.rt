@@ -221,11 +221,11 @@ fn wanted_of(second: &SecondTable, question: Question) -> Option<ExpectedAnswer>
 /// Adds the question, if any, that the pass at this index asks after its latest command, and the expected answer.
 fn add_question(
     random: &mut Random,
-    place: usize,
+    index: usize,
     schedule: &mut Schedule,
     counts: &mut ScheduleCaseCounts,
 ) -> Option<()> {
-    let question = random_question(random, schedule.second.stands(place).is_open);
+    let question = random_question(random, schedule.second.stands(index).is_open);
     if let Some(question) = question {
         let wanted = wanted_of(&schedule.second, question)?;
         counts.add_wanted(&wanted);
@@ -239,15 +239,15 @@ fn add_question(
 fn add_command(
     alloc: Global,
     random: &mut Random,
-    place: usize,
+    index: usize,
     schedule: &mut Schedule,
     counts: &mut ScheduleCaseCounts,
 ) -> Option<()> {
-    let before = schedule.second.stands(place);
+    let before = schedule.second.stands(index);
     let command = random_command(alloc, random, &schedule.second, before.is_open)?;
-    let line = schedule.second.play(place, &command)?;
+    let line = schedule.second.play(index, &command)?;
     counts.add_line(before, &command, &line);
-    schedule.rows.push((place, command, line.told)).ok()?;
+    schedule.rows.push((index, command, line.told)).ok()?;
     schedule.lines.push(line).ok()?;
     Some(())
 }
@@ -262,9 +262,9 @@ pub fn random_schedule(
     let mut schedule = random_start(alloc, &mut random);
     let passes = schedule.config.passes as u64;
     for _ in 0..COMMANDS {
-        let place = random.below(passes) as usize;
-        add_command(alloc, &mut random, place, &mut schedule, counts)?;
-        add_question(&mut random, place, &mut schedule, counts)?;
+        let index = random.below(passes) as usize;
+        add_command(alloc, &mut random, index, &mut schedule, counts)?;
+        add_question(&mut random, index, &mut schedule, counts)?;
     }
     for step in schedule.second.steps() {
         counts.add_step(step);

@@ -32,8 +32,8 @@ pub struct SecondTable {
 type ToldAndIndex = (CallOutcome, Option<u64>);
 
 /// The number of the pass at an index.
-fn pass_at(place: usize) -> Option<u32> {
-    u32::try_from(place).ok()?.checked_add(1)
+fn pass_at(index: usize) -> Option<u32> {
+    u32::try_from(index).ok()?.checked_add(1)
 }
 
 /// The key and the call of a command that acquires, updates or finishes a lock. A command's times have the logical
@@ -99,8 +99,8 @@ impl SecondTable {
     }
 
     /// The state of the pass at this index and of its request.
-    pub fn stands(&self, place: usize) -> Before {
-        match self.requests.get(&place) {
+    pub fn stands(&self, index: usize) -> Before {
+        match self.requests.get(&index) {
             Some(request) => Before {
                 is_open: true,
                 goes_on: request.goes_on(&self.steps),
@@ -126,7 +126,7 @@ impl SecondTable {
     /// 1, 2 and so on.
     fn enter(
         &mut self,
-        place: usize,
+        index: usize,
         txn: Option<u64>,
         time: Time,
         accesses: &[(u8, Access)],
@@ -140,16 +140,16 @@ impl SecondTable {
         }
         self.draws += 1;
         let number = self.draws;
-        let pass = pass_at(place)?;
+        let pass = pass_at(index)?;
         let request = PlainRequest::new(
             self.alloc, pass, number, txn, time, accesses, longest,
         ).ok()?;
-        self.requests.insert(place, request).ok()?;
+        self.requests.insert(index, request).ok()?;
         Some(CallOutcome::Entered(number))
     }
 
     /// A call of a pass without a request.
-    fn by_pass(&mut self, place: usize, command: &TableCommand) -> Option<ToldAndIndex> {
+    fn by_pass(&mut self, index: usize, command: &TableCommand) -> Option<ToldAndIndex> {
         match command {
             TableCommand::Enter {
                 txn,
@@ -157,12 +157,12 @@ impl SecondTable {
                 accesses,
                 longest,
             } => Some((
-                self.enter(place, *txn, (*wall, 0), accesses, *longest)?,
+                self.enter(index, *txn, (*wall, 0), accesses, *longest)?,
                 None,
             )),
             TableCommand::EnterMany { .. } => None,
             _ => match lock_call(command) {
-                Some((key, asked)) => self.step(pass_at(place)?, key, asked),
+                Some((key, asked)) => self.step(pass_at(index)?, key, asked),
                 None => Some((CallOutcome::Nothing, None)),
             },
         }
@@ -171,7 +171,7 @@ impl SecondTable {
     /// A call of a pass with this request.
     fn by_request(
         &mut self,
-        place: usize,
+        index: usize,
         request: &mut PlainRequest,
         command: &TableCommand,
     ) -> Option<ToldAndIndex> {
@@ -188,23 +188,23 @@ impl SecondTable {
             _ => lock_call(command),
         };
         match call {
-            Some((key, asked)) => self.step(pass_at(place)?, key, asked),
+            Some((key, asked)) => self.step(pass_at(index)?, key, asked),
             None => Some((CallOutcome::Nothing, None)),
         }
     }
 
     /// Plays a command by the pass at this index, from 0. `None` if an allocation fails, or for a command that no
     /// schedule has.
-    pub fn play(&mut self, place: usize, command: &TableCommand) -> Option<PlayedCommand> {
-        let Some(mut request) = self.requests.remove(&place) else {
-            let (told, at) = self.by_pass(place, command)?;
+    pub fn play(&mut self, index: usize, command: &TableCommand) -> Option<PlayedCommand> {
+        let Some(mut request) = self.requests.remove(&index) else {
+            let (told, at) = self.by_pass(index, command)?;
             let replies: Vec<Reply> = Vec::new(self.alloc);
             return Some(PlayedCommand { told, replies, at });
         };
-        let (told, at) = self.by_request(place, &mut request, command)?;
+        let (told, at) = self.by_request(index, &mut request, command)?;
         let replies = Vec::from_slice(self.alloc, request.replies()).ok()?;
         if told != CallOutcome::Left {
-            self.requests.insert(place, request).ok()?;
+            self.requests.insert(index, request).ok()?;
         }
         Some(PlayedCommand { told, replies, at })
     }

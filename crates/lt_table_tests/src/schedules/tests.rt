@@ -97,7 +97,7 @@ fn compare_lines<R: Abort>(
         assert_eq!(rt;
             line.at,
             wanted.at,
-            "the place, seed {seed}, command {number}"
+            "the index, seed {seed}, command {number}"
         );
         assert!(rt;
             has_replies(ran, line, &wanted.replies),

@@ -31,8 +31,8 @@ struct Noting<'a> {
 
 impl<'a> Waker for Noting<'a> {
     fn wake(&self, pass: u32, ticket: Ticket) {
-        let place = self.notes.count.fetch_add(1, Ordering::SeqCst);
-        if let Some(told) = self.notes.told.get(place) {
+        let index = self.notes.count.fetch_add(1, Ordering::SeqCst);
+        if let Some(told) = self.notes.told.get(index) {
             told.store(digits_of(pass, ticket), Ordering::SeqCst);
         }
     }

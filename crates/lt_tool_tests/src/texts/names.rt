@@ -14,13 +14,13 @@ fn keys_are_up_to_64_printable_bytes(rt: HostRuntime) -> Result<(), Fail> {
     let too_long_first = Key::from_bytes(rt.alloc(), &[b' '; 65]);
     assert_eq!(rt; too_long_first, Err(IdError::KeyTooLong));
     assert_eq!(rt; Key::from_bytes(rt.alloc(), b""), Err(IdError::KeyEmpty));
-    for (bytes, place) in [
+    for (bytes, index) in [
         (b"a b".as_slice(), 1),
         (b"\x7f".as_slice(), 0),
         (b"!~\n ".as_slice(), 2),
     ] {
         let refused = Key::from_bytes(rt.alloc(), bytes);
-        assert_eq!(rt; refused, Err(IdError::KeyByte(place)));
+        assert_eq!(rt; refused, Err(IdError::KeyByte(index)));
     }
     let key = Key::from_bytes(rt.alloc(), b"ab")?;
     assert_eq!(rt; key.copy()?, key);

@@ -114,8 +114,8 @@ fn opened(script: &Script) -> Option<&[(Key, Access)]> {
     }
 }
 
-fn named(script: &Script, place: usize) -> Option<(&[u8], Access)> {
-    let (key, access) = opened(script)?.get(place)?;
+fn named(script: &Script, index: usize) -> Option<(&[u8], Access)> {
+    let (key, access) = opened(script)?.get(index)?;
     Some((key.as_bytes(), *access))
 }
 

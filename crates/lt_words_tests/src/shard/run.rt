@@ -104,9 +104,9 @@ fn make<N: Name, T: KeyTable, R: Wait>(
     ensures pass { pass.new.of ≡ pass.old.of }
     ensures index { shard.new.index ≡ shard.old.index }
 {
-    let place = shard.index();
+    let index = shard.index();
     let stored = shard.history().len();
-    let count = pass.count(place);
+    let count = pass.count(index);
     match shard.step(rt, book, pass, key, call) {
         Ok(answer) => Ok(StepTried {
             answer,
@@ -114,7 +114,7 @@ fn make<N: Name, T: KeyTable, R: Wait>(
         }),
         Err(StepError::HistoryFull) => Err(StepError::HistoryFull),
         Err(StepError::Memory) => {
-            if shard.history().len() != stored || pass.count(place) != count {
+            if shard.history().len() != stored || pass.count(index) != count {
                 return Err(StepError::Memory);
             }
             let answer = shard.step(rt, book, pass, key, call)?;
@@ -145,14 +145,14 @@ fn run_named<N: Name, T: KeyTable + Drop, R: Wait>(
     requires two { two.old.of ≡ N.of }
     requires calls { NamesNumber calls.now.acquire × NamesNumber calls.now.visit × NamesNumber calls.now.finish }
 {
-    let place = shard_of(key, shards);
-    let mut shard = Shard::<N, T>::new(alloc, table, book, place, 3);
+    let index = shard_of(key, shards);
+    let mut shard = Shard::<N, T>::new(alloc, table, book, index, 3);
     let taken = make(rt, book, &mut shard, one, key, &calls.acquire)?;
     let waits = make(rt, book, &mut shard, two, key, &calls.visit)?;
     let freed = make(rt, book, &mut shard, one, key, &calls.finish)?;
     let full = shard.step(rt, book, one, key, &calls.finish);
     shard.meet(rt, book, two);
-    let counts = (one.count(place), two.count(place));
+    let counts = (one.count(index), two.count(index));
     let shown = book.read(two);
     let stored = shard.into_history().len();
     Ok(ShardRun {
@@ -221,8 +221,8 @@ fn let_two_named<N: Name, T: KeyTable + Drop, R: Wait>(
     requires calls { NamesNumber calls.now.acquire × NamesNumber calls.now.finish }
     requires visits { NamesNumber visits.0.now × NamesNumber visits.1.now }
 {
-    let place = shard_of(key, 1);
-    let mut shard = Shard::<N, T>::new(alloc, table, book, place, 4);
+    let index = shard_of(key, 1);
+    let mut shard = Shard::<N, T>::new(alloc, table, book, index, 4);
     make(rt, book, &mut shard, one, key, &calls.acquire)?;
     make(rt, book, &mut shard, two, key, visits.0)?;
     make(rt, book, &mut shard, two, key, visits.1)?;

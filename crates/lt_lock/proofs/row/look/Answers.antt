@@ -1,5 +1,5 @@
 use Rattle.std.proofs.Common.{◌∙◌, ap, sym, Some}
-use Rattle.lt_plain.specs.Step.{look_waiter}
+use Rattle.lt_plain.specs.Step.{look_waiter, reader_reply}
 use Rattle.lt_lock.specs.Linked.{record_of, writer_of}
 use Rattle.lt_lock.proofs.Rows.{cut_there}
 use Rattle.lt_lock.proofs.Written.{stand_is}
@@ -13,7 +13,7 @@ pub stand-requires : goal.stand-requires
 stand-requires c = let f = c.in-Some.ensures.found in cut_there c.args.links.now c.requires.linked.sound _ _ f.before f.after f.cut
 
 pub returns-in-Readers : goal.returns-in-Readers
-returns-in-Readers c = c.look_reader.ensures ∙ sym (found_reads c.args.links.now c.args.row.now c.args.number c.requires.linked c.requires.lawful.first.numbers_differ _ _ c.in-Some.ensures.found c.in-Readers.is)
+returns-in-Readers c = c.look_reader.ensures ∙ ap (λ s. reader_reply c.args.row.now.distinguished c.args.number c.args.row.now.holder s) c.reserved_txn.ensures ∙ sym (found_reads c.args.links.now c.args.row.now c.args.number c.requires.linked c.requires.lawful.first.numbers_differ _ _ c.in-Some.ensures.found c.in-Readers.is)
 
 pub returns-in-Writers : goal.returns-in-Writers
 returns-in-Writers c =

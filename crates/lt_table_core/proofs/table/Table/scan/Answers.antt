@@ -1,12 +1,8 @@
-use Rattle.std.proofs.Common.{length, ap, subst}
-use Rattle.lt_table_core.specs.Machine.{WalkState}
-use Rattle.lt_table_core.specs.Sound.{IsSoundProgress}
+use Rattle.std.proofs.Common.{ap, subst}
+use Rattle.lt_table_core.specs.Sound.{IsSoundWalk}
 use Rattle.lt_table_core.proofs.WentOn.{went_on, was_let, scan_stays, waits_inside}
 use Rattle.lt_table_core.proofs.Stopping.{too_long, long_inside}
 use Rattle.lt_table_core.proofs.table.Table.scan.Goals as goal
-
-abbrev IsSoundWalk : WalkState → Type 0
-IsSoundWalk w = IsSoundProgress (length w.asked.keys) w.progress (length w.answers)
 
 pub returns-clause-went_on : goal.returns-clause-went_on
 returns-clause-went_on g c = went_on c.args.self.now.max_waits c.args.guard.now c.visit_on-result.new.guard c.visit_on-result.result c.visit_on-result.ensures.scan c.visit_on-result.ensures.number c.visit_on-result.ensures.sound

@@ -1,0 +1,68 @@
+-- What holds of a run of a plan: the facts on its lines, with the plan's lines, its turns and its gate.
+--
+-- `always` tells of a gate whether it lets every line run.
+use Rattle.std.specs.Prelude.{ℕ, Bool, List, Option, Result}
+use Rattle.std.specs.Global.{Vec}
+use Rattle.lt_words.specs.Row.{FrontState, PassState}
+use Rattle.lt_table_core.specs.declared.config.Config.{Config}
+use Rattle.lt_script.specs.declared.command.Command.{Command}
+use Rattle.lt_runner.specs.declared.answer.AnswerLine.{AnswerLine}
+use Rattle.lt_runner.specs.declared.outcome.OutOfMemory.{OutOfMemory}
+use Rattle.lt_runner.specs.declared.outcome.Ran.{Ran}
+use Rattle.lt_runner.specs.declared.outcome.Work.{Work}
+use Rattle.lt_runner.specs.declared.plan.Plan.{Plan}
+use Rattle.lt_runner.specs.declared.session.Session.{Session}
+use Rattle.lt_runner.specs.Machine.{Rules, rules_of}
+use Rattle.lt_runner.specs.Worked.{ExecutesLine, TakesOn, WorkGoesOn}
+use Rattle.lt_runner.specs.Turns.{AreTried, AreWorked, HaveRun, HaveRunInOrder, IsWorkedOf, TakesTurn}
+use Rattle.lt_runner.specs.Ran.{IsRan}
+
+-- The limits of a run of the plan on a table of this configuration.
+abbrev pub plan_rules : {G : Type 0} → Config → Plan G → Rules
+plan_rules config plan = rules_of config plan.turns
+
+-- The line was executed and answered, and the result is the session after it, and whether it used up the turns.
+abbrev pub LineTaken : Config → Option ℕ → Command → Session → List AnswerLine → List AnswerLine → Session × Bool → Type 0
+LineTaken config turns line old answers more r = ExecutesLine (rules_of config turns) line old answers r.0 more r.1
+
+-- ---- one pass
+
+-- The next line was executed and the pass proceeds, or the gate ended the pass.
+abbrev pub PlanTakesOn : {G : Type 0} → (G → Bool) → Config → Plan G → Session → List AnswerLine → Command → Work → Type 0
+PlanTakesOn always config plan session answers line new = TakesOn (plan_rules config plan) (always plan.gate.now) session answers line new
+
+-- The same, unless the pass has ended.
+abbrev pub PlanGoesOn : {G : Type 0} → (G → Bool) → Config → Plan G → Work → Command → Work → Type 0
+PlanGoesOn always config plan old line new = WorkGoesOn (plan_rules config plan) (always plan.gate.now) old.finish old line new
+
+-- The pass executed its lines of the plan, up to the line where it ended.
+abbrev pub PassIsWorked : {G : Type 0} → (G → Bool) → Config → Plan G → PassState → Work → Type 0
+PassIsWorked always config plan p w = IsWorkedOf (plan_rules config plan) (always plan.gate.now) plan.commands.now p w
+
+-- ---- all passes
+
+-- Each pass executed its lines of the plan, unless it ran out of memory.
+abbrev pub PlanIsTried : {G : Type 0} → (G → Bool) → Config → Plan G → List PassState → Vec (Result Work OutOfMemory) → Type 0
+PlanIsTried always config plan ps works = AreTried (plan_rules config plan) (always plan.gate.now) plan.commands.now ps works.items
+
+-- Each pass executed its lines of the plan.
+abbrev pub PlanIsWorked : {G : Type 0} → (G → Bool) → Config → Plan G → List PassState → Vec Work → Type 0
+PlanIsWorked always config plan ps works = AreWorked (plan_rules config plan) (always plan.gate.now) plan.commands.now ps works.items
+
+-- The pass of the line learned everything that was seen before, and executed the line.
+abbrev pub PlanTakesTurn : {G : Type 0} → (G → Bool) → Config → Plan G → Command → FrontState → List (Option Work) → List (Option Work) → FrontState → Type 0
+PlanTakesTurn always config plan line seen old new seen_then =
+    TakesTurn (plan_rules config plan) (always plan.gate.now) line seen old new seen_then
+
+-- Each pass executed its lines of the plan, and the lines were executed in their order.
+abbrev pub PlanHasRunInOrder : {G : Type 0} → (G → Bool) → Config → Plan G → ℕ → List PassState → Vec Work → Type 0
+PlanHasRunInOrder always config plan shards ps works =
+    HaveRunInOrder (plan_rules config plan) (always plan.gate.now) shards plan.commands.now ps works.items
+
+-- Each pass executed its lines of the plan. Without turns, the lines were executed in their order.
+abbrev pub PlanHasRun : {G : Type 0} → (G → Bool) → Config → Plan G → ℕ → List PassState → Vec Work → Type 0
+PlanHasRun always config plan shards ps works = HaveRun (plan_rules config plan) (always plan.gate.now) shards plan.commands.now ps works.items
+
+-- The plan was run on a new table of this many shards, under these limits.
+abbrev pub PlanIsRan : {G : Type 0} → (G → Bool) → Rules → ℕ → Plan G → Ran → Type 0
+PlanIsRan always rules shards plan ran = IsRan rules (always plan.gate.now) shards plan.commands.now ran
