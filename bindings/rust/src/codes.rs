@@ -1,0 +1,34 @@
+//! What does a call of the archive answer? The codes of `enum lt_code` in `bindings/c/locktable.h` that can come here.
+
+pub(crate) const DONE: u32 = 0;
+pub(crate) const MEMORY: u32 = 2;
+pub(crate) const BAD_KEY_EMPTY: u32 = 5;
+pub(crate) const BAD_KEY_LONG: u32 = 6;
+pub(crate) const BAD_KEY_BYTE: u32 = 7;
+pub(crate) const BAD_NUMBER: u32 = 9;
+pub(crate) const BAD_WAIT: u32 = 10;
+pub(crate) const BAD_PASS: u32 = 11;
+pub(crate) const FAULT_HEADER: u32 = 16;
+pub(crate) const FAULT_SHAPE: u32 = 17;
+pub(crate) const FAULT_KEY_ORDER: u32 = 18;
+pub(crate) const FAULT_INDEX: u32 = 19;
+pub(crate) const FAULT_REPLY: u32 = 20;
+pub(crate) const FAULT_LETS: u32 = 21;
+pub(crate) const PASSED: u32 = 32;
+pub(crate) const MUST_WAIT: u32 = 33;
+pub(crate) const TOO_LONG: u32 = 34;
+pub(crate) const TAKEN: u32 = 35;
+pub(crate) const KEPT: u32 = 36;
+pub(crate) const RAISED: u32 = 37;
+pub(crate) const OTHER: u32 = 38;
+pub(crate) const FREED: u32 = 39;
+pub(crate) const LEFT: u32 = 40;
+pub(crate) const ABSENT: u32 = 41;
+pub(crate) const NOTHING: u32 = 42;
+pub(crate) const RESERVED: u32 = 43;
+pub(crate) const IDLE: u32 = 44;
+pub(crate) const WAIT_FOR_HELD: u32 = 45;
+pub(crate) const WAIT_FOR_RESERVED: u32 = 46;
+pub(crate) const WAIT_FIRST_HELD: u32 = 47;
+pub(crate) const WAIT_FIRST_RESERVED: u32 = 48;
+pub(crate) const WAIT_OWN: u32 = 49;

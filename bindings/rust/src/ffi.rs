@@ -1,0 +1,314 @@
+//! What crosses to the archive? The structs and functions of `bindings/c/locktable.h`, the three functions by which the
+//! archive takes memory, and [`Handle`], whose methods are safe. No other module has `unsafe` code.
+
+use crate::codes;
+use core::ffi::c_void;
+
+/// `struct lt_txn`
+#[repr(C)]
+pub(crate) struct RawTxn {
+    pub txn: u64,
+    pub wall: u64,
+    pub logical: u32,
+}
+
+/// `struct lt_request`
+#[repr(C)]
+pub(crate) struct RawRequest {
+    pub number: u64,
+    pub txn: u64,
+    pub wall: u64,
+    pub logical: u32,
+    pub wait: u32,
+    pub pass: u32,
+    pub longest: u32,
+    pub writes: bool,
+}
+
+/// `struct lt_through`
+#[repr(C)]
+#[derive(Clone, Copy, Default)]
+pub(crate) struct RawThrough {
+    pub number: u64,
+    pub wait: u32,
+    pub pass: u32,
+}
+
+/// `struct lt_queued`
+#[repr(C)]
+#[derive(Clone, Copy, Default)]
+pub(crate) struct RawQueued {
+    pub number: u64,
+    pub txn: u64,
+    pub wall: u64,
+    pub logical: u32,
+    pub wait: u32,
+    pub pass: u32,
+    pub active: bool,
+}
+
+/// `struct lt_key`
+#[repr(C)]
+#[derive(Default)]
+pub(crate) struct RawKey {
+    pub holder: u64,
+    pub wall: u64,
+    pub logical: u32,
+    pub distinguished: u64,
+    pub reservation: RawQueued,
+    pub writers: usize,
+    pub readers: usize,
+}
+
+/// `struct lt_report`
+#[repr(C)]
+#[derive(Default)]
+pub(crate) struct RawReport {
+    pub version: u8,
+    pub keys: usize,
+    pub steps: usize,
+    pub line: usize,
+}
+
+/// `struct lt_table`: all zero at first, and then touched by the archive alone.
+#[repr(C)]
+struct RawTable {
+    is_open: bool,
+    at: *mut c_void,
+}
+
+/// A step of the archive whose subject is one number: finish or leave.
+type StepOfNumber =
+    unsafe extern "C" fn(*mut RawTable, *const u8, usize, u64, *mut RawThrough, usize, *mut usize) -> u32;
+
+/// A step of the archive whose subject is a transaction at a timestamp: acquire or update.
+type StepOfTxn =
+    unsafe extern "C" fn(*mut RawTable, *const u8, usize, *const RawTxn, *mut RawThrough, usize, *mut usize) -> u32;
+
+/// A query of the archive for one entry of a queue.
+type EntryOf = unsafe extern "C" fn(*mut RawTable, *const u8, usize, usize, *mut RawQueued) -> u32;
+
+extern "C" {
+    fn lt_table_open(table: *mut RawTable) -> u32;
+    fn lt_table_close(table: *mut RawTable) -> u32;
+    fn lt_table_visit(
+        table: *mut RawTable,
+        key: *const u8,
+        key_len: usize,
+        request: *const RawRequest,
+        lets: *mut RawThrough,
+        room: usize,
+        count: *mut usize,
+    ) -> u32;
+    fn lt_table_acquire(
+        table: *mut RawTable,
+        key: *const u8,
+        key_len: usize,
+        by: *const RawTxn,
+        lets: *mut RawThrough,
+        room: usize,
+        count: *mut usize,
+    ) -> u32;
+    fn lt_table_update(
+        table: *mut RawTable,
+        key: *const u8,
+        key_len: usize,
+        by: *const RawTxn,
+        lets: *mut RawThrough,
+        room: usize,
+        count: *mut usize,
+    ) -> u32;
+    fn lt_table_finish(
+        table: *mut RawTable,
+        key: *const u8,
+        key_len: usize,
+        txn: u64,
+        lets: *mut RawThrough,
+        room: usize,
+        count: *mut usize,
+    ) -> u32;
+    fn lt_table_leave(
+        table: *mut RawTable,
+        key: *const u8,
+        key_len: usize,
+        number: u64,
+        lets: *mut RawThrough,
+        room: usize,
+        count: *mut usize,
+    ) -> u32;
+    fn lt_table_lets(table: *mut RawTable, lets: *mut RawThrough, room: usize, count: *mut usize) -> u32;
+    fn lt_table_look(table: *mut RawTable, key: *const u8, key_len: usize, number: u64, txn: *mut u64) -> u32;
+    fn lt_table_key(table: *mut RawTable, key: *const u8, key_len: usize, out: *mut RawKey) -> u32;
+    fn lt_table_writer(table: *mut RawTable, key: *const u8, key_len: usize, index: usize, out: *mut RawQueued) -> u32;
+    fn lt_table_reader(table: *mut RawTable, key: *const u8, key_len: usize, index: usize, out: *mut RawQueued) -> u32;
+    fn lt_table_keys(table: *mut RawTable, count: *mut usize) -> u32;
+    fn lt_table_key_at(table: *mut RawTable, index: usize, buffer: *mut u8, room: usize, len: *mut usize) -> u32;
+    fn lt_shard_of(key: *const u8, key_len: usize, shards: usize) -> usize;
+    fn lt_check(text: *const u8, len: usize, report: *mut RawReport) -> u32;
+
+    // The C library's heap, which the standard library links.
+    fn malloc(size: usize) -> *mut c_void;
+    fn realloc(at: *mut c_void, size: usize) -> *mut c_void;
+    fn free(at: *mut c_void);
+}
+
+/// An open table of the archive. It is closed when the value is dropped.
+pub(crate) struct Handle {
+    table: RawTable,
+}
+
+// SAFETY: a table owns plain data in blocks of `malloc`, which any thread may use and free. It has no link to the
+// thread that opened it: the table of many threads moves the same `LinkedTable` from thread to thread, and is proved
+// to. Every call takes the handle by `&mut`, so two calls never meet.
+unsafe impl Send for Handle {}
+
+impl Handle {
+    /// The handle of a new table, or the code of the refusal.
+    pub fn open() -> Result<Handle, u32> {
+        let mut table = RawTable { is_open: false, at: core::ptr::null_mut() };
+        // SAFETY: the struct is all zero, which is a closed table, and nobody else has it.
+        let code = unsafe { lt_table_open(&mut table) };
+        // The struct may be moved, for example into this value: only a second copy of it could do harm, and there is
+        // none.
+        if code == codes::DONE {
+            Ok(Handle { table })
+        } else {
+            Err(code)
+        }
+    }
+
+    pub fn visit(&mut self, key: &[u8], request: &RawRequest, lets: &mut [RawThrough], count: &mut usize) -> u32 {
+        // SAFETY: the table is open and borrowed for this call alone. The references point to whole values, the slices
+        // to as many elements as they say, and what is written overlaps nothing else.
+        unsafe {
+            lt_table_visit(&mut self.table, key.as_ptr(), key.len(), request, lets.as_mut_ptr(), lets.len(), count)
+        }
+    }
+
+    pub fn acquire(&mut self, key: &[u8], by: &RawTxn, lets: &mut [RawThrough], count: &mut usize) -> u32 {
+        self.step_of_txn(lt_table_acquire, key, by, lets, count)
+    }
+
+    pub fn update(&mut self, key: &[u8], by: &RawTxn, lets: &mut [RawThrough], count: &mut usize) -> u32 {
+        self.step_of_txn(lt_table_update, key, by, lets, count)
+    }
+
+    pub fn finish(&mut self, key: &[u8], txn: u64, lets: &mut [RawThrough], count: &mut usize) -> u32 {
+        self.step_of_number(lt_table_finish, key, txn, lets, count)
+    }
+
+    pub fn leave(&mut self, key: &[u8], number: u64, lets: &mut [RawThrough], count: &mut usize) -> u32 {
+        self.step_of_number(lt_table_leave, key, number, lets, count)
+    }
+
+    fn step_of_txn(
+        &mut self,
+        step: StepOfTxn,
+        key: &[u8],
+        by: &RawTxn,
+        lets: &mut [RawThrough],
+        count: &mut usize,
+    ) -> u32 {
+        // SAFETY: as in `visit`; `step` is one of the archive's two functions of this type.
+        unsafe { step(&mut self.table, key.as_ptr(), key.len(), by, lets.as_mut_ptr(), lets.len(), count) }
+    }
+
+    fn step_of_number(
+        &mut self,
+        step: StepOfNumber,
+        key: &[u8],
+        number: u64,
+        lets: &mut [RawThrough],
+        count: &mut usize,
+    ) -> u32 {
+        // SAFETY: as in `visit`; `step` is one of the archive's two functions of this type.
+        unsafe { step(&mut self.table, key.as_ptr(), key.len(), number, lets.as_mut_ptr(), lets.len(), count) }
+    }
+
+    /// The next lets of the last step.
+    pub fn lets(&mut self, lets: &mut [RawThrough], count: &mut usize) -> u32 {
+        // SAFETY: as in `visit`.
+        unsafe { lt_table_lets(&mut self.table, lets.as_mut_ptr(), lets.len(), count) }
+    }
+
+    pub fn look(&mut self, key: &[u8], number: u64, txn: &mut u64) -> u32 {
+        // SAFETY: as in `visit`.
+        unsafe { lt_table_look(&mut self.table, key.as_ptr(), key.len(), number, txn) }
+    }
+
+    pub fn key(&mut self, key: &[u8], out: &mut RawKey) -> u32 {
+        // SAFETY: as in `visit`.
+        unsafe { lt_table_key(&mut self.table, key.as_ptr(), key.len(), out) }
+    }
+
+    pub fn writer(&mut self, key: &[u8], index: usize, out: &mut RawQueued) -> u32 {
+        self.entry(lt_table_writer, key, index, out)
+    }
+
+    pub fn reader(&mut self, key: &[u8], index: usize, out: &mut RawQueued) -> u32 {
+        self.entry(lt_table_reader, key, index, out)
+    }
+
+    fn entry(&mut self, entry: EntryOf, key: &[u8], index: usize, out: &mut RawQueued) -> u32 {
+        // SAFETY: as in `visit`; `entry` is one of the archive's two functions of this type.
+        unsafe { entry(&mut self.table, key.as_ptr(), key.len(), index, out) }
+    }
+
+    pub fn keys(&mut self, count: &mut usize) -> u32 {
+        // SAFETY: as in `visit`.
+        unsafe { lt_table_keys(&mut self.table, count) }
+    }
+
+    pub fn key_at(&mut self, index: usize, buffer: &mut [u8], len: &mut usize) -> u32 {
+        // SAFETY: as in `visit`.
+        unsafe { lt_table_key_at(&mut self.table, index, buffer.as_mut_ptr(), buffer.len(), len) }
+    }
+}
+
+impl Drop for Handle {
+    fn drop(&mut self) {
+        // SAFETY: the table is open, and after this call nobody uses the handle.
+        unsafe { lt_table_close(&mut self.table) };
+    }
+}
+
+pub(crate) fn shard_of(key: &[u8], shards: usize) -> usize {
+    // SAFETY: the slice has as many bytes as it says, and the call only reads them.
+    unsafe { lt_shard_of(key.as_ptr(), key.len(), shards) }
+}
+
+pub(crate) fn check(text: &[u8], report: &mut RawReport) -> u32 {
+    // SAFETY: the slice has as many bytes as it says, the call only reads them, and `report` is a whole value.
+    unsafe { lt_check(text.as_ptr(), text.len(), report) }
+}
+
+/// What the archive is told of a request for memory. If there is none, `at` is any address but null.
+#[repr(C)]
+pub struct Block {
+    ok: bool,
+    at: *mut c_void,
+}
+
+fn block_at(at: *mut c_void) -> Block {
+    let ok = !at.is_null();
+    Block { ok, at: if ok { at } else { core::ptr::NonNull::dangling().as_ptr() } }
+}
+
+// SAFETY: the name is the one by which the archive takes memory, and no other crate of this program defines it. The
+// block is aligned to 16 bytes, which is the most that the archive asks for.
+#[no_mangle]
+unsafe extern "C" fn rattle_alloc(size: usize, align: usize) -> Block {
+    block_at(malloc(if size > 0 { size } else { align }))
+}
+
+// SAFETY: as `rattle_alloc`; `at` is a block that one of these two functions gave and that was not freed.
+#[no_mangle]
+unsafe extern "C" fn rattle_realloc(at: *mut c_void, _kept: usize, size: usize, align: usize) -> Block {
+    block_at(realloc(at, if size > 0 { size } else { align }))
+}
+
+// SAFETY: as `rattle_realloc`.
+#[no_mangle]
+unsafe extern "C" fn rattle_dealloc(at: *mut c_void) {
+    free(at);
+}

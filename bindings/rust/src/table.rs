@@ -1,0 +1,303 @@
+//! How does a store keep its locks? [`LockTable`] is the lock table of one thread.
+
+use crate::codes;
+use crate::ffi::{self, Handle, RawKey, RawQueued, RawRequest, RawThrough, RawTxn};
+use crate::names::{
+    Access, Found, Holder, KeyState, Queued, Refused, Reply, Request, Through, Timestamp, TxnId, Writer,
+};
+use std::fmt;
+
+/// How many lets cross at once. A step with more of them takes further calls.
+const ROOM: usize = 16;
+
+/// A lock table. A key is 1 to 64 bytes, each from 0x21 to 0x7E. Every call that is refused changes nothing.
+///
+/// A step (`visit`, `acquire`, `update`, `finish`, `leave`) changes the record of one key as `docs/RULES.md` says. It
+/// empties `lets` and fills it with the requests that it let through, in order. A caller hands in the same vector each
+/// time, so that it is allocated once. The caller wakes these requests: the table does not know how they wait.
+///
+/// Dropping the table frees all of its memory, also if keys are held.
+///
+/// ```
+/// use locktable::{LockTable, Reply, Timestamp, TxnId};
+/// use std::sync::Mutex;
+///
+/// // Four threads share one table.
+/// let table = Mutex::new(LockTable::open().unwrap());
+/// std::thread::scope(|scope| {
+///     for thread in 1..=4u64 {
+///         let table = &table;
+///         scope.spawn(move || {
+///             let (txn, mut lets) = (TxnId::new(thread).unwrap(), Vec::new());
+///             let key = format!("key-of-{thread}");
+///             let mut table = table.lock().unwrap();
+///             assert_eq!(table.acquire(key.as_bytes(), txn, Timestamp::default(), &mut lets), Ok(Reply::Taken));
+///         });
+///     }
+/// });
+/// assert_eq!(table.lock().unwrap().keys().unwrap().len(), 4);
+/// ```
+///
+/// It cannot be shared without a lock:
+///
+/// ```compile_fail,E0277
+/// fn is_sync<T: Sync>() {}
+/// is_sync::<locktable::LockTable>();
+/// ```
+pub struct LockTable {
+    handle: Handle,
+    /// What the archive writes its lets into.
+    room: [RawThrough; ROOM],
+}
+
+impl LockTable {
+    /// Opens an empty table. It is refused only for memory.
+    pub fn open() -> Result<LockTable, Refused> {
+        match Handle::open() {
+            Ok(handle) => Ok(LockTable { handle, room: [RawThrough::default(); ROOM] }),
+            Err(code) => Err(refused(code)),
+        }
+    }
+
+    /// A request visits the key to read or to write: [`Reply::Passed`], [`Reply::MustWait`] or [`Reply::TooLong`]. A
+    /// visit lets nobody through.
+    pub fn visit(&mut self, key: &[u8], request: &Request, lets: &mut Vec<Through>) -> Result<Reply, Refused> {
+        let request = RawRequest {
+            number: request.number,
+            txn: request.txn.map_or(0, TxnId::get),
+            wall: request.ts.wall,
+            logical: request.ts.logical,
+            wait: request.wait,
+            pass: request.pass,
+            longest: request.longest,
+            writes: request.access == Access::Write,
+        };
+        self.step(lets, |handle, room, count| handle.visit(key, &request, room, count))
+    }
+
+    /// A transaction takes the lock, or raises the timestamp at which it holds the lock: [`Reply::Taken`],
+    /// [`Reply::Kept`], [`Reply::Raised`] or [`Reply::Other`].
+    pub fn acquire(
+        &mut self,
+        key: &[u8],
+        txn: TxnId,
+        ts: Timestamp,
+        lets: &mut Vec<Through>,
+    ) -> Result<Reply, Refused> {
+        let by = raw_txn(txn, ts);
+        self.step(lets, |handle, room, count| handle.acquire(key, &by, room, count))
+    }
+
+    /// A transaction raises the timestamp at which it holds the lock: [`Reply::Kept`], [`Reply::Raised`] or
+    /// [`Reply::Other`].
+    pub fn update(&mut self, key: &[u8], txn: TxnId, ts: Timestamp, lets: &mut Vec<Through>) -> Result<Reply, Refused> {
+        let by = raw_txn(txn, ts);
+        self.step(lets, |handle, room, count| handle.update(key, &by, room, count))
+    }
+
+    /// A transaction releases the lock: [`Reply::Freed`] or [`Reply::Other`].
+    pub fn finish(&mut self, key: &[u8], txn: TxnId, lets: &mut Vec<Through>) -> Result<Reply, Refused> {
+        self.step(lets, |handle, room, count| handle.finish(key, txn.get(), room, count))
+    }
+
+    /// The request with this number gives up its reservation, or stops waiting: [`Reply::Left`] or [`Reply::Absent`].
+    pub fn leave(&mut self, key: &[u8], number: u64, lets: &mut Vec<Through>) -> Result<Reply, Refused> {
+        self.step(lets, |handle, room, count| handle.leave(key, number, room, count))
+    }
+
+    /// What the request with this number finds at the key.
+    ///
+    /// ```
+    /// use locktable::{Access, Found, LockTable, Request, Timestamp, TxnId};
+    /// # fn main() -> Result<(), locktable::Refused> {
+    /// let (nine, ts, mut lets) = (TxnId::new(9).unwrap(), Timestamp::default(), Vec::new());
+    /// let mut table = LockTable::open()?;
+    /// table.acquire(b"a", nine, ts, &mut lets)?;
+    /// table.visit(b"a", &Request::new(1, ts, Access::Read), &mut lets)?;
+    /// assert_eq!(table.look(b"a", 1)?, Found::WaitFirst { txn: nine, held: true });
+    /// assert_eq!(table.look(b"a", 2)?, Found::Nothing);
+    /// # Ok(())
+    /// # }
+    /// ```
+    pub fn look(&mut self, key: &[u8], number: u64) -> Result<Found, Refused> {
+        let mut txn = 0;
+        let code = self.handle.look(key, number, &mut txn);
+        let found = |with: fn(TxnId) -> Found| Ok(with(named(txn, code)));
+        match code {
+            codes::NOTHING => Ok(Found::Nothing),
+            codes::RESERVED => Ok(Found::Reserved),
+            codes::IDLE => Ok(Found::Idle),
+            codes::WAIT_FOR_HELD => found(|txn| Found::WaitFor { txn, held: true }),
+            codes::WAIT_FOR_RESERVED => found(|txn| Found::WaitFor { txn, held: false }),
+            codes::WAIT_FIRST_HELD => found(|txn| Found::WaitFirst { txn, held: true }),
+            codes::WAIT_FIRST_RESERVED => found(|txn| Found::WaitFirst { txn, held: false }),
+            codes::WAIT_OWN => found(|txn| Found::WaitOwn { txn }),
+            code => Err(refused(code)),
+        }
+    }
+
+    /// The record of the key, with its queues. A key without a record has the default one. The call takes time in
+    /// proportion to the square of the queues, so it is for inspection and not for each request.
+    ///
+    /// ```
+    /// use locktable::{LockTable, Timestamp, TxnId};
+    /// # fn main() -> Result<(), locktable::Refused> {
+    /// let nine = TxnId::new(9).unwrap();
+    /// let mut table = LockTable::open()?;
+    /// table.acquire(b"a", nine, Timestamp { wall: 10, logical: 1 }, &mut Vec::new())?;
+    /// let state = table.key_state(b"a")?;
+    /// assert_eq!(state.holder.map(|holder| holder.txn), Some(nine));
+    /// assert!(state.writers.is_empty() && state.readers.is_empty());
+    /// # Ok(())
+    /// # }
+    /// ```
+    pub fn key_state(&mut self, key: &[u8]) -> Result<KeyState, Refused> {
+        let mut raw = RawKey::default();
+        done(self.handle.key(key, &mut raw))?;
+        let mut state = KeyState {
+            holder: TxnId::new(raw.holder).map(|txn| Holder { txn, ts: timestamp(raw.wall, raw.logical) }),
+            reservation: (raw.reservation.number != 0).then(|| queued(&raw.reservation)),
+            writers: Vec::with_capacity(raw.writers),
+            readers: Vec::with_capacity(raw.readers),
+            distinguished: (raw.distinguished != 0).then_some(raw.distinguished),
+        };
+        let mut entry = RawQueued::default();
+        for index in 0..raw.writers {
+            done(self.handle.writer(key, index, &mut entry))?;
+            state.writers.push(Writer { request: queued(&entry), active: entry.active });
+        }
+        for index in 0..raw.readers {
+            done(self.handle.reader(key, index, &mut entry))?;
+            state.readers.push(queued(&entry));
+        }
+        Ok(state)
+    }
+
+    /// The keys that have a record, in byte order: they are held, reserved or waited for. The call takes time in
+    /// proportion to the square of their number, so it is for inspection.
+    ///
+    /// ```
+    /// use locktable::{LockTable, Timestamp, TxnId};
+    /// # fn main() -> Result<(), locktable::Refused> {
+    /// let (nine, mut lets) = (TxnId::new(9).unwrap(), Vec::new());
+    /// let mut table = LockTable::open()?;
+    /// for key in [b"b", b"a"] {
+    ///     table.acquire(key, nine, Timestamp::default(), &mut lets)?;
+    /// }
+    /// assert_eq!(table.keys()?, [b"a", b"b"]);
+    /// # Ok(())
+    /// # }
+    /// ```
+    pub fn keys(&mut self) -> Result<Vec<Vec<u8>>, Refused> {
+        let mut count = 0;
+        done(self.handle.keys(&mut count))?;
+        let mut keys = Vec::with_capacity(count);
+        for index in 0..count {
+            let (mut buffer, mut len) = ([0; 64], 0);
+            done(self.handle.key_at(index, &mut buffer, &mut len))?;
+            keys.push(buffer[..len].to_vec());
+        }
+        Ok(keys)
+    }
+
+    /// Makes a step and collects all of its lets.
+    fn step(
+        &mut self,
+        lets: &mut Vec<Through>,
+        call: impl FnOnce(&mut Handle, &mut [RawThrough], &mut usize) -> u32,
+    ) -> Result<Reply, Refused> {
+        lets.clear();
+        let mut count = 0;
+        let code = call(&mut self.handle, &mut self.room, &mut count);
+        let reply = reply(code)?;
+        loop {
+            lets.extend(self.room[..count].iter().map(|raw| Through {
+                number: raw.number,
+                wait: raw.wait,
+                pass: raw.pass,
+            }));
+            if count < ROOM {
+                return Ok(reply);
+            }
+            done(self.handle.lets(&mut self.room, &mut count))?;
+        }
+    }
+}
+
+impl fmt::Debug for LockTable {
+    fn fmt(&self, f: &mut fmt::Formatter<'_>) -> fmt::Result {
+        f.debug_struct("LockTable").finish_non_exhaustive()
+    }
+}
+
+/// Which shard has the key, if a store spreads its keys over several tables: the sum of the key's bytes modulo
+/// `shards`. The result is below `shards`. It is 0 if there are more than 64 bytes, or if `shards` is 0.
+///
+/// ```
+/// assert_eq!(locktable::shard_of(b"ab", 10), (97 + 98) % 10);
+/// ```
+pub fn shard_of(key: &[u8], shards: usize) -> usize {
+    ffi::shard_of(key, shards)
+}
+
+fn timestamp(wall: u64, logical: u32) -> Timestamp {
+    Timestamp { wall, logical }
+}
+
+fn raw_txn(txn: TxnId, ts: Timestamp) -> RawTxn {
+    RawTxn { txn: txn.get(), wall: ts.wall, logical: ts.logical }
+}
+
+fn queued(raw: &RawQueued) -> Queued {
+    Queued {
+        number: raw.number,
+        txn: TxnId::new(raw.txn),
+        ts: timestamp(raw.wall, raw.logical),
+        wait: raw.wait,
+        pass: raw.pass,
+    }
+}
+
+/// The transaction that the reply of a look names.
+fn named(txn: u64, code: u32) -> TxnId {
+    TxnId::new(txn).unwrap_or_else(|| unreachable!("lt_table_look answered {code} without a transaction"))
+}
+
+fn done(code: u32) -> Result<(), Refused> {
+    if code == codes::DONE {
+        Ok(())
+    } else {
+        Err(refused(code))
+    }
+}
+
+fn reply(code: u32) -> Result<Reply, Refused> {
+    Ok(match code {
+        codes::PASSED => Reply::Passed,
+        codes::MUST_WAIT => Reply::MustWait,
+        codes::TOO_LONG => Reply::TooLong,
+        codes::TAKEN => Reply::Taken,
+        codes::KEPT => Reply::Kept,
+        codes::RAISED => Reply::Raised,
+        codes::OTHER => Reply::Other,
+        codes::FREED => Reply::Freed,
+        codes::LEFT => Reply::Left,
+        codes::ABSENT => Reply::Absent,
+        code => return Err(refused(code)),
+    })
+}
+
+/// The refusal with this code. The other refusals of the archive cannot happen here: the table is open, every step
+/// takes all of its lets, a transaction is not 0, and an index is below the number that was just told.
+fn refused(code: u32) -> Refused {
+    match code {
+        codes::MEMORY => Refused::Memory,
+        codes::BAD_KEY_EMPTY => Refused::KeyEmpty,
+        codes::BAD_KEY_LONG => Refused::KeyLong,
+        codes::BAD_KEY_BYTE => Refused::KeyByte,
+        codes::BAD_NUMBER => Refused::Number,
+        codes::BAD_WAIT => Refused::Wait,
+        codes::BAD_PASS => Refused::Pass,
+        code => unreachable!("the archive answered {code}"),
+    }
+}

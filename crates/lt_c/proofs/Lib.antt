@@ -1,0 +1,3 @@
+pub mod WalkSteps
+pub mod Boxes
+pub mod Copied

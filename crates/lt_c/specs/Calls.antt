@@ -1,0 +1,27 @@
+-- The calls that C asks for, and the first fault of a visit.
+use Rattle.std.specs.Prelude.{ℕ, ◌^◌, ◌||◌, nat_eq, nat_le, nat_lt, if◌then◌else◌, Option, Some, None}
+use Rattle.lt_ids.specs.declared.request.Access.TheVariants.{Read, Write}
+use Rattle.lt_plain.specs.declared.call.Call.{Call}
+use Rattle.lt_plain.specs.declared.call.Call.TheVariants.{Visit}
+use Rattle.lt_c.specs.declared.shapes.LtRequest.{LtRequest}
+
+-- a transaction as C names it, where 0 is none
+abbrev pub optional_txn : ℕ → Option ℕ
+optional_txn txn = if nat_eq txn 0 then None else Some txn
+
+-- the visit that C asks for
+abbrev pub requested_visit : LtRequest → Call
+requested_visit r = Visit
+    (record { number = r.number; wait = r.wait })
+    (optional_txn r.txn)
+    (record { wall = r.wall; logical = r.logical })
+    (if r.writes then Write else Read)
+    r.longest
+
+-- the code of the first number that is out of its range
+abbrev pub visit_fault : LtRequest → Option ℕ
+visit_fault r =
+    if nat_eq r.number 0 || nat_le (2 ^ 40) r.number then Some 9
+    else if nat_eq r.wait 0 || nat_le (2 ^ 24) r.wait then Some 10
+    else if nat_eq r.pass 0 || nat_lt 1024 r.pass then Some 11
+    else None

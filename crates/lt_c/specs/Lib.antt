@@ -1,0 +1,10 @@
+pub mod Held
+pub mod Blocks
+pub mod Slots
+pub mod Codes
+pub mod Shapes
+pub mod Calls
+pub mod Steps
+pub mod Looks
+pub mod Shard
+pub mod Checks

@@ -1,0 +1,144 @@
+//! What does an open handle hold? [`HeldTable`] has a lock table, and the lets of its last step until C has taken
+//! them all. Its methods make a step and give its lets, or look at a key, and answer a code.
+ghost use Rattle.std.specs.Prelude.{◌≡◌, ◌≢◌, ◌≤◌, ◌<◌, ◌++◌, [], IfOk, OnErr, IsOk, length, map, drop};
+ghost use Rattle.std.specs.FinMap as finmap;
+ghost use Rattle.lt_plain.specs.Rules.{TakesNoMemory};
+ghost use Rattle.lt_plain.specs.Step.{look, step};
+ghost use Rattle.lt_plain.specs.Table.{record_at};
+ghost use Rattle.lt_c.specs.Held.{new_table};
+ghost use Rattle.lt_c.specs.Shapes.{raw_let};
+ghost use Rattle.lt_c.specs.Steps.{StepsHeld, GivesLets, KeepsOut, MakesStep, AllocatesNothing, held_refusal};
+ghost use Rattle.lt_c.specs.Codes.{IsReplyUnless};
+
+use crate::calls::PassCall;
+use crate::codes::{FIRST_REPLY, LETS_LEFT, MEMORY, key_code, reply_code};
+use crate::shapes::{LtThrough, raw_let};
+use lt_ids::{Key, Through};
+use lt_lock::LinkedTable;
+use lt_plain::step::make;
+use lt_plain::{KeyState, KeyTable, Reply};
+use std::alloc::{AllocError, Global};
+use std::marker::Model;
+
+/// A lock table, and the lets of its last step: the first `given` of them have been given to C. The vector is kept
+/// from one step to the next, so that it is allocated once.
+#[derive(Drop)]
+pub struct HeldTable {
+    table: LinkedTable,
+    lets: Vec<Through>,
+    given: usize,
+}
+
+impl Model for HeldTable {
+    ghost use Rattle.std.specs.Prelude.{◌≤◌, drop, length};
+    ghost use Rattle.lt_c.specs.Held.{Held, held_code};
+
+    ghost Value = { Held };
+
+    ghost coded = { held_code };
+
+    ghost view = { λ t. record { records = t.table; lets = drop t.given t.lets.items } };
+
+    ghost invariant = { λ t. t.given ≤ length t.lets.items };
+}
+
+/// Writes these lets to the front of the array, which has room for them.
+fn write_lets(lets: &[Through], array: &mut [LtThrough])
+    requires { length lets.now ≤ length array.old }
+    ensures { array.new ≡ map raw_let lets.now ++ drop (length lets.now) array.old }
+{
+    for i in 0..lets.len() {
+        array[i] = raw_let(&lets[i]);
+    }
+}
+
+impl HeldTable {
+    /// A table without keys. This call allocates nothing.
+    pub fn new(alloc: Global) -> HeldTable
+        ensures { result ≡ new_table }
+    {
+        HeldTable {
+            table: LinkedTable::new(alloc),
+            lets: Vec::new(alloc),
+            given: 0,
+        }
+    }
+
+    /// Makes the call at the key. All lets of the step are then left to give.
+    fn make(&mut self, key: &Key, call: &PassCall) -> Result<Reply, AllocError>
+        requires { self.old.lets ≡ [] }
+        ensures ok { IfOk result (StepsHeld self.old self.new key.now (λ r. step r call.now.pass call.now.call)) }
+        ensures err { OnErr result (self.new ≡ self.old) }
+        ensures no_memory { TakesNoMemory (record_at self.old.records key.now)
+            (step (record_at self.old.records key.now) call.now.pass call.now.call) → IsOk result }
+    {
+        self.lets.clear();
+        self.given = 0;
+        make(&mut self.table, key, call.pass, &call.call, &mut self.lets)
+    }
+
+    /// Gives as many of the lets that are left as fit into the array, and returns how many.
+    pub fn give(&mut self, array: &mut [LtThrough]) -> usize
+        ensures { GivesLets array.old array.new result self.old self.new }
+    {
+        let left = &self.lets[self.given..];
+        let count = left.len().min(array.len());
+        write_lets(&left[..count], array);
+        self.given += count;
+        count
+    }
+
+    /// Makes the call at the key with these bytes, and gives its lets.
+    pub fn step(
+        &mut self,
+        alloc: Global,
+        key: &[u8],
+        call: &PassCall,
+        array: &mut [LtThrough],
+        count: &mut usize,
+    ) -> u32
+        ensures refused { IsReplyUnless (held_refusal self.old key.now) result }
+        ensures stepped { FIRST_REPLY ≤ result → MakesStep key.now (λ r. step r call.now.pass call.now.call) result
+            array.old array.new count.new self.old self.new }
+        ensures table_kept { result < FIRST_REPLY → self.new ≡ self.old }
+        ensures out_kept { result < FIRST_REPLY → KeepsOut array.old array.new count.old count.new }
+        ensures no_memory { AllocatesNothing key.now (λ r. step r call.now.pass call.now.call) self.old →
+            result ≢ MEMORY }
+    {
+        if self.given < self.lets.len() {
+            return LETS_LEFT;
+        }
+        let key = match Key::from_bytes(alloc, key) {
+            Ok(key) => key,
+            Err(error) => return key_code(&error),
+        };
+        match self.make(&key, call) {
+            Ok(reply) => {
+                *count = self.give(array);
+                reply_code(&reply)
+            }
+            Err(_) => MEMORY,
+        }
+    }
+
+    /// What the request with this number finds at the key.
+    pub fn look(&self, key: &Key, number: u64) -> Reply
+        ensures { result ≡ look (record_at self.now.records key.now) number }
+    {
+        self.table.look(key, number)
+    }
+
+    /// A copy of the key's record. It fails only when an allocation fails.
+    pub fn state(&self, alloc: Global, key: &Key) -> Result<KeyState, AllocError>
+        ensures { IfOk result (λ state. state ≡ record_at self.now.records key.now) }
+    {
+        self.table.state(alloc, key)
+    }
+
+    /// The keys that have a record, in byte order. It fails only when an allocation fails.
+    pub fn keys(&self, alloc: Global) -> Result<Vec<Key>, AllocError>
+        ensures { IfOk result (λ all. all.items ≡ finmap.keys self.now.records) }
+    {
+        self.table.keys(alloc)
+    }
+}

@@ -1,0 +1,38 @@
+//! The check of histories and the lock table of one thread, for C and for Rust.
+//!
+//! This static library has an export for each call. [`lt_check`](check::lt_check) decides whether a text is the text of
+//! legal histories. `lt_table_open` puts an empty table behind a handle, and the other calls that begin with
+//! `lt_table_` make its steps, give the lets of a step, look into the table and close it. A store keeps the handle
+//! behind a lock of its own, because two calls at once must not have one handle.
+//!
+//! What is promised:
+//!
+//! - Each step of the table is the step of the rules (`lt_plain`) on its key alone, and its code is that of the reply.
+//! - A call that answers a refusal has changed neither the table nor what it was to write its answer to.
+//! - No let is lost or given twice: the lets that do not fit into the caller's array stay in the handle, and no other
+//!   step is made until the caller has taken them.
+//! - Every argument is tested. A call requires nothing of a key, a number or a length.
+//!
+//! What C must do, because no proof covers it: declare the structs of `shapes.rt` and the functions as they are here,
+//! pass pointers to memory of these types that the call alone uses, set a handle to zero before its first call, and
+//! neither copy nor write a handle. A pointer and a length are a slice; the pointer is not null, even if the length
+//! is 0. `alloc` takes no bytes, so C does not pass it. The library takes memory by the three functions that begin
+//! with `rattle_`.
+//!
+//! Read next: `steps.rt`, `looks.rt`, `check.rt` and `shard.rt` have the exports, and `codes.rt` has what they answer.
+//! `handle.rt` and `slot.rt` have the handle, and `held.rt` what an open one holds. In `specs/`, `Steps` and `Looks`
+//! define what the contracts of the exports say.
+#![tactic(auto)]
+
+mod calls;
+mod check;
+mod codes;
+mod handle;
+mod held;
+mod looks;
+mod shapes;
+mod shard;
+mod slot;
+mod steps;
+#[cfg(test)]
+mod tests;

@@ -1,0 +1,201 @@
+//! How does C open a table, make its steps and close it? Each function here is an export. It tests every argument,
+//! and answers a code. A step writes its lets into the caller's array, and sets `count` to how many it wrote. The
+//! handle keeps those that do not fit, and refuses the next step until `lt_table_lets` has given them.
+ghost use Rattle.std.specs.Prelude.{◌≡◌, ◌≢◌, ◌≤◌, ◌<◌, Some, None, IsSome, IsNone};
+ghost use Rattle.lt_plain.specs.Rules.{acquire, update, finish, leave};
+ghost use Rattle.lt_plain.specs.Step.{step};
+ghost use Rattle.lt_c.specs.Calls.{requested_visit, visit_fault};
+ghost use Rattle.lt_c.specs.Codes.{IsReplyUnless};
+ghost use Rattle.lt_c.specs.Held.{new_table};
+ghost use Rattle.lt_c.specs.Shapes.{txn_time};
+ghost use Rattle.lt_c.specs.Steps.{step_refusal, txn_refusal, visit_refusal, OnTable, OnHandle, MakesStep, AllocatesNothing, GivesLets, KeepsOut};
+
+use crate::calls::{unnamed, visit_of};
+use crate::codes::{BAD_TXN, CLOSED, DONE, FIRST_REPLY, MEMORY, OPEN_ALREADY};
+use crate::handle::TableHandle;
+use crate::held::HeldTable;
+use crate::shapes::{LtRequest, LtThrough, LtTxn, txn_time};
+use lt_ids::TxnId;
+use lt_plain::Call;
+use std::alloc::Global;
+
+/// Opens a table without keys.
+#[unsafe(no_mangle)]
+pub extern "C" fn lt_table_open(alloc: Global, handle: &mut TableHandle) -> u32
+    ensures open_already { IsSome handle.old.slot.held → result ≡ OPEN_ALREADY }
+    ensures memory { IsNone handle.old.slot.held → result ≢ DONE → result ≡ MEMORY }
+    ensures opened { result ≡ DONE → handle.new.slot.held ≡ Some new_table }
+    ensures kept { result ≢ DONE → handle.new.slot.held ≡ handle.old.slot.held }
+{
+    if handle.is_open() {
+        return OPEN_ALREADY;
+    }
+    let Ok(table) = Box::new(alloc, HeldTable::new(alloc)) else {
+        return MEMORY;
+    };
+    handle.put(table);
+    DONE
+}
+
+/// Closes the table and gives its memory back. What it held is gone, lets that are left included.
+#[unsafe(no_mangle)]
+pub extern "C" fn lt_table_close(alloc: Global, handle: &mut TableHandle) -> u32
+    ensures done { IsSome handle.old.slot.held → result ≡ DONE }
+    ensures closed_already { IsNone handle.old.slot.held → result ≡ CLOSED }
+    ensures closed { handle.new.slot.held ≡ None }
+{
+    match handle.take(alloc) {
+        None => CLOSED,
+        Some(table) => {
+            drop(table);
+            DONE
+        }
+    }
+}
+
+/// A request visits the key. Its wait number is the number of the wait that begins if the request has to wait.
+#[unsafe(no_mangle)]
+pub extern "C" fn lt_table_visit(
+    alloc: Global,
+    handle: &mut TableHandle,
+    key: &[u8],
+    request: &LtRequest,
+    lets: &mut [LtThrough],
+    count: &mut usize,
+) -> u32
+    ensures refused { IsReplyUnless (visit_refusal request.now handle.old.slot.held key.now) result }
+    ensures stepped { FIRST_REPLY ≤ result → OnHandle
+        (MakesStep key.now (λ r. step r request.now.pass (requested_visit request.now)) result
+        lets.old lets.new count.new) handle.old.slot.held handle.new.slot.held }
+    ensures table_kept { result < FIRST_REPLY → handle.new.slot.held ≡ handle.old.slot.held }
+    ensures out_kept { result < FIRST_REPLY → KeepsOut lets.old lets.new count.old count.new }
+    ensures no_memory { OnTable (AllocatesNothing key.now (λ r. step r request.now.pass (requested_visit request.now)))
+        handle.old.slot.held → result ≢ MEMORY }
+{
+    match visit_of(request) {
+        Ok(call) => handle.step(alloc, key, &call, lets, count),
+        Err(code) => code,
+    }
+}
+
+/// A transaction takes the lock, or raises the timestamp of the lock that it holds.
+#[unsafe(no_mangle)]
+pub extern "C" fn lt_table_acquire(
+    alloc: Global,
+    handle: &mut TableHandle,
+    key: &[u8],
+    by: &LtTxn,
+    lets: &mut [LtThrough],
+    count: &mut usize,
+) -> u32
+    ensures refused { IsReplyUnless (txn_refusal by.now.txn handle.old.slot.held key.now) result }
+    ensures stepped { FIRST_REPLY ≤ result → OnHandle (MakesStep key.now (λ r. acquire r by.now.txn (txn_time by.now))
+        result lets.old lets.new count.new) handle.old.slot.held handle.new.slot.held }
+    ensures table_kept { result < FIRST_REPLY → handle.new.slot.held ≡ handle.old.slot.held }
+    ensures out_kept { result < FIRST_REPLY → KeepsOut lets.old lets.new count.old count.new }
+    ensures no_memory { OnTable (AllocatesNothing key.now (λ r. acquire r by.now.txn (txn_time by.now)))
+        handle.old.slot.held → result ≢ MEMORY }
+{
+    let Some(txn) = TxnId::new(by.txn) else {
+        return BAD_TXN;
+    };
+    let ts = txn_time(by);
+    let call = unnamed(Call::Acquire { txn, ts });
+    handle.step(alloc, key, &call, lets, count)
+}
+
+/// The holder raises its timestamp.
+#[unsafe(no_mangle)]
+pub extern "C" fn lt_table_update(
+    alloc: Global,
+    handle: &mut TableHandle,
+    key: &[u8],
+    by: &LtTxn,
+    lets: &mut [LtThrough],
+    count: &mut usize,
+) -> u32
+    ensures refused { IsReplyUnless (txn_refusal by.now.txn handle.old.slot.held key.now) result }
+    ensures stepped { FIRST_REPLY ≤ result → OnHandle (MakesStep key.now (λ r. update r by.now.txn (txn_time by.now))
+        result lets.old lets.new count.new) handle.old.slot.held handle.new.slot.held }
+    ensures table_kept { result < FIRST_REPLY → handle.new.slot.held ≡ handle.old.slot.held }
+    ensures out_kept { result < FIRST_REPLY → KeepsOut lets.old lets.new count.old count.new }
+    ensures no_memory { OnTable (AllocatesNothing key.now (λ r. update r by.now.txn (txn_time by.now)))
+        handle.old.slot.held → result ≢ MEMORY }
+{
+    let Some(txn) = TxnId::new(by.txn) else {
+        return BAD_TXN;
+    };
+    let ts = txn_time(by);
+    let call = unnamed(Call::Update { txn, ts });
+    handle.step(alloc, key, &call, lets, count)
+}
+
+/// The holder releases the lock.
+#[unsafe(no_mangle)]
+pub extern "C" fn lt_table_finish(
+    alloc: Global,
+    handle: &mut TableHandle,
+    key: &[u8],
+    txn: u64,
+    lets: &mut [LtThrough],
+    count: &mut usize,
+) -> u32
+    ensures refused { IsReplyUnless (txn_refusal txn handle.old.slot.held key.now) result }
+    ensures stepped { FIRST_REPLY ≤ result → OnHandle (MakesStep key.now (λ r. finish r txn)
+        result lets.old lets.new count.new) handle.old.slot.held handle.new.slot.held }
+    ensures table_kept { result < FIRST_REPLY → handle.new.slot.held ≡ handle.old.slot.held }
+    ensures out_kept { result < FIRST_REPLY → KeepsOut lets.old lets.new count.old count.new }
+    ensures no_memory { OnTable (AllocatesNothing key.now (λ r. finish r txn))
+        handle.old.slot.held → result ≢ MEMORY }
+{
+    let Some(txn) = TxnId::new(txn) else {
+        return BAD_TXN;
+    };
+    let call = unnamed(Call::Finish { txn });
+    handle.step(alloc, key, &call, lets, count)
+}
+
+/// A request stops waiting, or gives up its reservation.
+#[unsafe(no_mangle)]
+pub extern "C" fn lt_table_leave(
+    alloc: Global,
+    handle: &mut TableHandle,
+    key: &[u8],
+    number: u64,
+    lets: &mut [LtThrough],
+    count: &mut usize,
+) -> u32
+    ensures refused { IsReplyUnless (step_refusal handle.old.slot.held key.now) result }
+    ensures stepped { FIRST_REPLY ≤ result → OnHandle (MakesStep key.now (λ r. leave r number)
+        result lets.old lets.new count.new) handle.old.slot.held handle.new.slot.held }
+    ensures table_kept { result < FIRST_REPLY → handle.new.slot.held ≡ handle.old.slot.held }
+    ensures out_kept { result < FIRST_REPLY → KeepsOut lets.old lets.new count.old count.new }
+    ensures no_memory { OnTable (AllocatesNothing key.now (λ r. leave r number))
+        handle.old.slot.held → result ≢ MEMORY }
+{
+    let call = unnamed(Call::Leave { number });
+    handle.step(alloc, key, &call, lets, count)
+}
+
+/// Gives the next lets of the last step. There are none left if `count` is then below the length of the array.
+#[unsafe(no_mangle)]
+pub extern "C" fn lt_table_lets(
+    alloc: Global,
+    handle: &mut TableHandle,
+    lets: &mut [LtThrough],
+    count: &mut usize,
+) -> u32
+    ensures done { IsSome handle.old.slot.held → result ≡ DONE }
+    ensures closed { IsNone handle.old.slot.held → result ≡ CLOSED }
+    ensures given { result ≡ DONE → OnHandle (GivesLets lets.old lets.new count.new)
+        handle.old.slot.held handle.new.slot.held }
+    ensures table_kept { result ≢ DONE → handle.new.slot.held ≡ handle.old.slot.held }
+    ensures out_kept { result ≢ DONE → KeepsOut lets.old lets.new count.old count.new }
+{
+    let Some(mut table) = handle.take(alloc) else {
+        return CLOSED;
+    };
+    *count = table.give(lets);
+    handle.put(table);
+    DONE
+}
