@@ -45,6 +45,8 @@ TESTS = [
     ('lt_tool_tests', 'checks::'),
     ('lt_tool_tests', 'scripts::'),
     ('lt_tool_tests', 'words::'),
+    ('lt_trace', 'tests::'),
+    ('lt_picture', 'tests::'),
 ]
 
 # The calls of a table that take memory, each of which must have been refused in the schedules. The table over plain tables
@@ -54,10 +56,11 @@ CALLS_OF_BOTH = ['Prepare', 'Enter', 'Scan', 'Look', 'Leave', 'Acquire', 'Acquir
 TABLE_CALLS = [f'{table} {call}' for table in ('linked', 'plain') for call in CALLS_OF_BOTH]
 TABLE_CALLS += ['linked Open', 'plain OpenWith']
 
-# These need two threads, which cannot be made where memory for one is refused: the passes then run in turn. The last one
-# takes no memory.
+# These need two threads, which cannot be made where memory for one is refused: the passes then run in turn. The two before the
+# last one take no memory. The last one uses the system's folder, in which tests that run at the same time meet.
 OTHERS = ['scripts::passes_work_at_once', 'scripts::passes_take_turns_by_a_gate',
-          'scripts::passes_poll_until_they_are_let_through', 'words::failures_are_told']
+          'scripts::passes_poll_until_they_are_let_through', 'words::failures_are_told', 'tests::a_table_has_at_least_40_columns',
+          'tests::files_of_the_system_are_used']
 
 # The ways in which a table keeps its history.
 WAYS = ['whole', 'streamed', 'unrecorded']

@@ -15,5 +15,6 @@ pub mod PartsLaws
 pub mod LineLaws
 pub mod Loop
 pub mod Verdicts
+pub mod PieceLaws
 pub mod Written
 pub mod Ranks

@@ -1,9 +1,10 @@
 -- What is read is a line, and the bytes are its text. Reading the text of a line gives that line.
-use Rattle.std.proofs.Common.{◌≡◌, ◌≢◌, ℕ, ◌<◌, List, [], ◌∷◌, ◌++◌, length, Option, Some, None, Result, Ok, Err, eqb, sym, ap, subst, ◌∙◌, append_assoc, arith}
+use Rattle.std.proofs.Common.{◌≡◌, ◌≢◌, ℕ, ◌<◌, List, [], ◌∷◌, ◌++◌, false, length, Option, Some, None, Result, Ok, Err, eqb, sym, ap, subst, ◌∙◌, append_assoc, arith}
 use Rattle.std.specs.Prelude.{IfOk, IfErr}
-use Rattle.std.specs.List.{slice_split, join_with_byte}
-use Rattle.std.proofs.lemmas.Option.{some_pair_parts}
-use Rattle.std.proofs.lemmas.List.{append_cancel_right, length-append}
+use Rattle.std.specs.List.{slice_split, join_with_byte, All, position_or_len, before_first, after_first}
+use Rattle.std.proofs.lemmas.Option.{some_pair_parts, cond_some}
+use Rattle.std.proofs.lemmas.List.{append_cancel_right, length-append, length-take, get_or-take}
+use Rattle.std.proofs.lemmas.List.Sums.{fails_before_first}
 use Rattle.std.proofs.lemmas.List.Splits.{join_with_byte-slice_split}
 use Rattle.lt_history.specs.declared.error.Fault.TheVariants.{Header, Shape, KeyOrder, Index, WrongReply, WrongLets}
 use Rattle.lt_history.specs.declared.error.HistoryLineError.{HistoryLineError}
@@ -11,7 +12,7 @@ use Rattle.lt_history.specs.declared.error.HistoryLineError.TheVariants as refus
 use Rattle.lt_history.specs.declared.line.Line.{Line}
 use Rattle.lt_text.specs.Words.{cut_of}
 use Rattle.lt_history.specs.Lines.{Parts, IsLine, line_words, line_text, parts_at, parts_of, IsReadAs, IsShapeless}
-use Rattle.lt_history.specs.Text.{Spot, IsOf, IsShapelessIn, Follows, IsWrongOr, HasFault, HasFaultOr, TakesLine, spot_after}
+use Rattle.lt_history.specs.Text.{Spot, IsOf, IsShapelessIn, IsWrongOr, HasFault, HasFaultOr}
 use Rattle.lt_text.proofs.Plain.{cut_again, cut_takes, split_join, no_line_end}
 use Rattle.lt_history.proofs.PartsLaws.{parts_takes, parts_again, parts_plain}
 
@@ -85,6 +86,19 @@ shapeless version s text bytes rest (refusals.Fault Index) lt cut h = absurd h
 shapeless version s text bytes rest (refusals.Fault WrongReply) lt cut h = absurd h
 shapeless version s text bytes rest (refusals.Fault WrongLets) lt cut h = absurd h
 
+-- The bytes before the first line end have none, so the first line of a text stays the same whatever comes after it.
+no_end_before : (text bytes rest : List ℕ) → cut_of 10 text ≡ Some (bytes, rest) → All (λ b. eqb b 10 ≡ false) bytes
+no_end_before text bytes rest e =
+    let p = cond_some _ (before_first (λ b. eqb b 10) text, after_first (λ b. eqb b 10) text) (bytes, rest) e in
+    let n = position_or_len (λ b. eqb b 10) text in
+    subst (λ (t : List ℕ). All (λ b. eqb b 10 ≡ false) t) (ap (λ (t : List ℕ × List ℕ). t.0) p.1)
+    (λ k d lt. let low : k < n = omega (arith, length-take n text) in ap (λ (b : ℕ). eqb b 10) (get_or-take n text k d low) ∙ fails_before_first (λ b. eqb b 10) text k d low)
+
+pub cut_more : (text bytes rest more : List ℕ) → cut_of 10 text ≡ Some (bytes, rest) → cut_of 10 (text ++ more) ≡ Some (bytes, rest ++ more)
+cut_more text bytes rest more e =
+    ap (λ (t : List ℕ). cut_of 10 (t ++ more)) (cut_takes 10 text bytes rest e)
+    ∙ (ap (λ (t : List ℕ). cut_of 10 t) (append_assoc bytes (10 ∷ rest) more) ∙ cut_again 10 bytes (rest ++ more) (no_end_before text bytes rest e))
+
 joined_prefix : (text bytes rest : List ℕ) (p : Parts) → cut_of 10 text ≡ Some (bytes, rest) → line_text p ≡ bytes ++ 10 ∷ [] → text ≡ line_text p ++ rest
 joined_prefix text bytes rest p cut e =
     cut_takes 10 text bytes rest cut ∙ (sym (append_assoc bytes (10 ∷ []) rest) ∙ ap (λ (t : List ℕ). t ++ rest) (sym e))
@@ -97,9 +111,6 @@ wrong version s text bytes rest p (refusals.Fault KeyOrder) lt line old cut same
 wrong version s text bytes rest p (refusals.Fault Index) lt line old cut same h = (p, rest, line, old, joined_prefix text bytes rest p cut same, h)
 wrong version s text bytes rest p (refusals.Fault WrongReply) lt line old cut same h = (p, rest, line, old, joined_prefix text bytes rest p cut same, h)
 wrong version s text bytes rest p (refusals.Fault WrongLets) lt line old cut same h = (p, rest, line, old, joined_prefix text bytes rest p cut same, h)
-
-pub takes : (version : ℕ) (s next : Spot) (text bytes rest : List ℕ) (p : Parts) → IsLine p → IsOf version p → cut_of 10 text ≡ Some (bytes, rest) → line_text p ≡ bytes ++ 10 ∷ [] → Follows s p → next ≡ spot_after s p → TakesLine version s text next rest
-takes version s next text bytes rest p line old cut same follows leads = record { parts = p; line = line; of_version = old; joined = joined_prefix text bytes rest p cut same; follows = follows; leads = leads }
 
 -- ---- a text has one reading
 

@@ -1,5 +1,5 @@
 -- A text has one verdict.
-use Rattle.std.proofs.Common.{◌≡◌, ◌↔◌, ℕ, ◌+◌, ◌<◌, ◌≤◌, ◌^◌, ◌⊎◌, Bool, true, false, not, ◌&&◌, cond, map, drop, List, [], ◌∷◌, ◌++◌, length, Result, Ok, Err, refl, sym, ap, subst, ◌∙◌, inl, inr, append_assoc, arith}
+use Rattle.std.proofs.Common.{◌≡◌, ◌↔◌, ℕ, ◌+◌, ◌<◌, ◌^◌, ◌⊎◌, Bool, true, false, not, ◌&&◌, cond, map, drop, List, [], ◌∷◌, ◌++◌, length, Result, Ok, Err, refl, sym, ap, subst, ◌∙◌, inl, inr, append_assoc, arith}
 use Rattle.std.specs.Prelude.{slice_set}
 use Rattle.std.specs.List.{flat_map, AllByRecursion}
 use Rattle.std.proofs.Math.ListN.{get_or}
@@ -22,7 +22,7 @@ use Rattle.lt_history.specs.Histories.{AreLegalKeysBy, IsEntryOf, lines_from, li
 use Rattle.lt_entry.specs.Legal.{AreLegalKeys, event_of, key_part}
 use Rattle.lt_history.specs.Verdict.{IsLegalText, IsReported, Judges, Says, IsOrMemory, upgraded, of_latest}
 use Rattle.lt_history.proofs.LineLaws.{one_line, no_empty_line}
-use Rattle.lt_history.proofs.Loop.{IsSpoiled, spoiled, line_takes_room}
+use Rattle.lt_history.proofs.Loop.{IsSpoiled, spoiled, room_of}
 use Rattle.lt_history.proofs.Grouped.{sorted_keys}
 use Rattle.lt_history.proofs.Legal.{lines_legal}
 use Rattle.lt_history.proofs.Counts.{counted, sized}
@@ -233,7 +233,7 @@ part_of_version version key (e ∷ es) h = elim (bytes_eq e.key key) as (λ b. A
   | false ↦ part_of_version version key es h.1
 ]
 
-all_append : {X : Type 0} (P : X → Type 0) (xs ys : List X) → AllByRecursion P xs → AllByRecursion P ys → AllByRecursion P (xs ++ ys)
+pub all_append : {X : Type 0} (P : X → Type 0) (xs ys : List X) → AllByRecursion P xs → AllByRecursion P ys → AllByRecursion P (xs ++ ys)
 all_append P [] ys a b = b
 all_append P (x ∷ xs) ys a b = (a.0, all_append P xs ys a.1 b)
 
@@ -278,10 +278,6 @@ is_legal text report h =
       keys = h.keys ∙ (ap key_count (sym lines) ∙ counted es k.0 (λ key c. (k.1.each key).0 c));
       steps = h.steps ∙ sym (as_many start h.lines);
     }
-
-room_of : (ps : List Parts) → length ps ≤ length (flat_map line_text ps)
-room_of [] = omega arith
-room_of (p ∷ ps) = let more = room_of ps in let here = line_takes_room p in omega (arith, length-append (line_text p) (flat_map line_text ps))
 
 is_reported : (text : List ℕ) (report : Report) → length text < 2 ^ 64 → IsLegalText text report → IsReported text report
 is_reported text report room h =

@@ -12,7 +12,9 @@ use Rattle.lt_history.specs.declared.error.HistoryLineError.{HistoryLineError}
 use Rattle.lt_history.specs.declared.error.HistoryLineError.TheVariants as refusals
 use Rattle.lt_history.specs.declared.line.LineStep.{LineStep}
 use Rattle.lt_history.specs.declared.cursor.Cursor.{Cursor}
-use Rattle.lt_history.specs.Text.{Spot, index_after, record_before}
+use Rattle.lt_history.specs.declared.cursor.Expected.{Expected}
+use Rattle.lt_history.specs.Lines.{Parts}
+use Rattle.lt_history.specs.Text.{Spot, index_after, record_before, outcome, IsOrdered, HasItsIndex}
 
 -- The key of the latest line; before the first line, the empty key.
 abbrev pub latest_key : Option (List ℕ) → List ℕ
@@ -66,3 +68,10 @@ IsNotMade r s tickets refusals.Memory = Unit {0}
 IsNotMade r s tickets (refusals.Fault WrongReply) = s.reply ≡ (step r s.pass s.call).reply → ⊥
 IsNotMade r s tickets (refusals.Fault WrongLets) = (s.reply ≡ (step r s.pass s.call).reply) × (tickets ≡ map (λ t. t.ticket) (step r s.pass s.call).lets → ⊥)
 IsNotMade r s tickets (refusals.Fault _) = ⊥
+
+-- The line has its key in order and the right index, and this is what the rules give for its call.
+pub record IsGiven (s : Spot) (p : Parts) (x : Expected) : Type 0 where
+  pub ordered : IsOrdered s p
+  pub counted : HasItsIndex s p
+  pub reply_is : x.reply ≡ (outcome s p).reply
+  pub tickets_are : x.tickets.items ≡ map (λ t. t.ticket) (outcome s p).lets

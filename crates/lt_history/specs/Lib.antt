@@ -7,5 +7,6 @@ pub mod Cursor
 pub mod Verdict
 pub mod Print
 pub mod Histories
+pub mod Pieces
 pub mod Sorted
 pub mod Rank

@@ -7,7 +7,7 @@ ghost use Rattle.std.specs.Prelude.{◌≡◌, ◌<◌, ◌≤◌, ◌↔◌, If
 ghost use Rattle.lt_plain.specs.Table.{record_at};
 ghost use Rattle.lt_history.specs.Lines.{IsLine, parts_of};
 ghost use Rattle.lt_history.specs.Text.{Follows, IsWrongOr, start, spot_after};
-ghost use Rattle.lt_history.specs.Cursor.{spot, IsAtNewKey, IsNoFirst, IsNext, IsNoNext, FollowsRulesAt, IsNotMade};
+ghost use Rattle.lt_history.specs.Cursor.{spot, IsAtNewKey, IsNoFirst, IsNext, IsNoNext, FollowsRulesAt, IsNotMade, IsGiven};
 
 use crate::error::{Fault, HistoryLineError};
 use crate::line::{Line, LineStep};
@@ -100,6 +100,13 @@ fn is_same_reply(reply: Reply, expected: Reply) -> bool
     reply == expected
 }
 
+/// What the rules give for the call of a line: the reply, and the tickets that are let through, in their order.
+#[derive(Debug, Drop)]
+pub struct Expected {
+    pub reply: Reply,
+    pub tickets: Vec<Ticket>,
+}
+
 /// Makes the line's call and compares the reply and the lets with those of the line.
 fn make_step(
     alloc: Global,
@@ -144,4 +151,27 @@ pub(crate) fn follow(
         &line.step,
         &line.tickets,
     )
+}
+
+/// What the rules give for the line's call, if the line comes next. Its reply and its tickets are not looked at.
+pub(crate) fn expect(
+    alloc: Global,
+    cursor: &mut Cursor,
+    line: &Line,
+) -> Result<Expected, HistoryLineError>
+    requires { IsLine (parts_of line.now) }
+    ensures ok { IfOk result (λ x. IsGiven (spot cursor.old) (parts_of line.now) x) }
+    ensures err { IfErr result (λ e. IsWrongOr (spot cursor.old) (parts_of line.now) e) }
+{
+    go_to(alloc, cursor, &line.key, line.step.index)?;
+    let mut lets = Vec::new(alloc);
+    let reply = make(
+        &mut cursor.table,
+        &line.key,
+        line.step.pass,
+        &line.step.call,
+        &mut lets,
+    )?;
+    let tickets = tickets_of(alloc, &lets)?;
+    Ok(Expected { reply, tickets })
 }

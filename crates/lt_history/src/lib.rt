@@ -16,11 +16,13 @@
 //!   reports the version and the numbers of keys and steps. It refuses any other text with the first faulty line
 //!   and the first fault in that line. No text has two verdicts. Only running out of memory can keep `check` from
 //!   its verdict, and that cannot happen if the first line is wrong or is the only line (`specs/Verdict.antt`).
+//! - A [`Checker`] gives the verdict of `check` on a text that comes in pieces, wherever it is cut, and explains a
+//!   fault (`specs/Pieces.antt`).
 //! - `upgrade` changes only the first line of a legal text. The text stays legal, with the same numbers.
 //!
-//! Read next: `src/composer.rt` for the writer, `src/checker.rt` for the reader. `specs/Lines.antt` defines the
-//! form of a line, `specs/Text.antt` the faults and their order, `specs/Version.antt` the versions.
-//! `docs/FORMATS.md` describes the format for readers who do not know the project.
+//! Read next: `src/composer.rt` for the writer, `src/checker.rt` and `src/pieces.rt` for the reader.
+//! `specs/Lines.antt` defines the form of a line, `specs/Text.antt` the faults and their order, `specs/Version.antt`
+//! the versions. `docs/FORMATS.md` describes the format for readers who do not know the project.
 #![tactic(auto)]
 
 mod checker;
@@ -29,10 +31,15 @@ mod cursor;
 mod error;
 pub mod laws;
 mod line;
+mod pieces;
 mod printer;
+mod version;
 
 pub use checker::{CheckError, Report, check, upgrade};
 pub use composer::{compose, put_histories};
-pub use error::Fault;
+pub use cursor::Expected;
+pub use error::{Fault, HistoryLineError};
+pub use line::{Line, LineStep, read_line};
 pub use lt_entry::Entry;
+pub use pieces::Checker;
 pub use printer::{PrintError, print, write_out};

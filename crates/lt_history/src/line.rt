@@ -20,7 +20,7 @@ use std::alloc::Global;
 
 /// The parts of a line between its key and its lets.
 #[derive(Debug, Drop)]
-pub(crate) struct LineStep {
+pub struct LineStep {
     pub index: u64,
     pub pass: u32,
     pub call: Call,
@@ -28,7 +28,7 @@ pub(crate) struct LineStep {
 }
 
 #[derive(Debug, Drop)]
-pub(crate) struct Line {
+pub struct Line {
     pub key: Key,
     pub step: LineStep,
     pub tickets: Vec<Ticket>,
@@ -136,7 +136,7 @@ fn read_parts(alloc: Global, words: &mut Words) -> Result<Line, HistoryLineError
 
 /// Parses a line, given without its line end.
 #[tactic(auto, using(crate::proofs::LineLaws::read_is_line, crate::proofs::LineLaws::read_is_text, crate::proofs::LineLaws::unread))]
-pub(crate) fn read_line(alloc: Global, bytes: &[u8]) -> Result<Line, HistoryLineError>
+pub fn read_line(alloc: Global, bytes: &[u8]) -> Result<Line, HistoryLineError>
     // What was parsed is a line, and this is its text.
     ensures line { IfOk result (λ l. IsLine (parts_of l)) }
     ensures text { IfOk result (λ l. line_text (parts_of l) ≡ bytes.now ++ 10 ∷ []) }

@@ -1,0 +1,3 @@
+pub mod Graph
+pub mod Installed
+pub mod Values

@@ -1,0 +1,313 @@
+//! How is the store opened, used by threads and closed? [`serve`] does all of it for the table that `N` names.
+ghost use Rattle.std.specs.Prelude.{◌≡◌, ◌≢◌};
+
+use crate::error::StoreError;
+use crate::plan::StorePlan;
+use crate::session::{StoreSession, passes_back, sessions_of};
+use crate::skew::{PairRule, run_skew};
+use crate::store::Store;
+use crate::trace::{TraceTaker, histories_of, take_until, taker_of};
+use crate::transfer::{Teller, teller_of, total, work};
+use anyhow::bail;
+use lt_entry::Entry;
+use lt_table::{Config, Keeping, Ready, Rest, Rests, open};
+use lt_words::Name;
+use std::alloc::{AllocError, Global};
+use std::sync::Wait;
+use std::sync::atomic::{AtomicBool, Ordering};
+use std::thread::{Threads, join, map_vec};
+use std::time::{Clock, Duration, Instant};
+
+/// What each account has at first.
+const BALANCE: u64 = 1000;
+
+/// How many shards the table has.
+const SHARDS: usize = 16;
+
+/// The most steps that a shard holds until they are taken out for a trace.
+const HELD: u64 = 1 << 20;
+
+/// What came of a run.
+#[derive(Drop)]
+pub struct StoreRun {
+    pub total_before: u64,
+    pub total_after: u64,
+    pub transfers: u64,
+    pub waits: u64,
+    pub deadlocks: u64,
+    /// What two accounts had together before two transactions withdrew from them, and after.
+    pub skew: (u64, u64),
+    /// What should have stayed in the two accounts.
+    pub stays: u64,
+    /// The histories of the shards, if they were traced.
+    pub histories: Option<Vec<Vec<Entry>>>,
+}
+
+/// An open store, and those who work at it: two sessions of this thread, the tellers, and for a trace the taker.
+#[derive(Drop)]
+struct OpenStore<N: Name> {
+    store: Store<N>,
+    first: StoreSession<N>,
+    second: StoreSession<N>,
+    tellers: Vec<Teller<N>>,
+    taker: Option<TraceTaker<N>>,
+}
+
+/// How the table of a plan keeps its steps.
+pub fn keeping_of(plan: &StorePlan) -> Keeping
+    ensures { result ≢ Keeping.Whole }
+{
+    if plan.trace.is_some() {
+        Keeping::Streamed
+    } else {
+        Keeping::Unrecorded
+    }
+}
+
+/// The configuration of a plan's table: a pass for each teller, two for this thread, and for a trace one more.
+pub fn config_of(plan: &StorePlan) -> Config
+    ensures { result.shards ≡ SHARDS }
+{
+    let others = if plan.trace.is_some() { 3 } else { 2 };
+    Config {
+        shards: SHARDS,
+        passes: (plan.threads as usize).saturating_add(others),
+        max_steps: HELD,
+        max_requests: (1 << 40) - 1,
+        max_waits: (1 << 24) - 1,
+    }
+}
+
+/// One of the sessions.
+fn next_session<N: Name>(sessions: &mut Vec<StoreSession<N>>) -> anyhow::Result<StoreSession<N>> {
+    match sessions.pop() {
+        Some(session) => Ok(session),
+        None => bail!("there is no session left"),
+    }
+}
+
+/// A teller for each session.
+fn tellers_of<N: Name>(
+    alloc: Global,
+    sessions: Vec<StoreSession<N>>,
+) -> Result<Vec<Teller<N>>, AllocError> {
+    let mut tellers = Vec::new(alloc);
+    for session in sessions {
+        let seed = tellers.len() as u64;
+        tellers.push(teller_of(session, seed.wrapping_add(1)))?;
+    }
+    Ok(tellers)
+}
+
+/// Opens the table and the store over it, with two accounts more than the plan says.
+fn open_store<N: Name>(
+    alloc: Global,
+    ready: Ready,
+    plan: &StorePlan,
+) -> anyhow::Result<OpenStore<N>>
+    requires named { ready.of ≡ N.of }
+    requires shards { ready.of.shards ≡ SHARDS }
+    requires keeping { ready.of.keeping ≢ Keeping.Whole }
+{
+    let (table, passes) = open::<N>(alloc, ready)?;
+    let mut sessions = sessions_of::<N>(alloc, passes)?;
+    let first = next_session(&mut sessions)?;
+    let second = next_session(&mut sessions)?;
+    let taker = if plan.trace.is_some() {
+        let session = next_session(&mut sessions)?;
+        Some(taker_of(alloc, session, SHARDS)?)
+    } else {
+        None
+    };
+    let tellers = tellers_of(alloc, sessions)?;
+    let count = (plan.accounts as usize).saturating_add(2);
+    let store = Store::new(alloc, table, count, BALANCE)?;
+    Ok(OpenStore {
+        store,
+        first,
+        second,
+        tellers,
+        taker,
+    })
+}
+
+/// The time at which the tellers stop.
+fn end_of<C: Clock>(clock: &C, plan: &StorePlan) -> anyhow::Result<Instant> {
+    match Instant::now(clock)?.checked_add(Duration::from_secs(plan.seconds)) {
+        Some(end) => Ok(end),
+        None => bail!("the clock does not go so far"),
+    }
+}
+
+/// All tellers work, each on a thread.
+fn work_all<N: Name + Send + Sync, H: Threads + Wait + Clock + Sync>(
+    threads: &H,
+    store: &Store<N>,
+    tellers: Vec<Teller<N>>,
+    plan: &StorePlan,
+    end: Instant,
+) -> Result<Vec<Teller<N>>, AllocError> {
+    map_vec(
+        threads,
+        tellers,
+        &|teller: Teller<N>| -> Teller<N> { work(threads, store, teller, plan, end) },
+    )
+}
+
+/// All tellers work, and if there is a taker, it takes the table's steps meanwhile.
+fn work_traced<N: Name + Send + Sync, H: Threads + Wait + Clock + Sync>(
+    threads: &H,
+    alloc: Global,
+    opened: OpenStore<N>,
+    plan: &StorePlan,
+    end: Instant,
+) -> Result<OpenStore<N>, AllocError> {
+    let OpenStore {
+        store,
+        first,
+        second,
+        tellers,
+        taker,
+    } = opened;
+    let flag = AtomicBool::new(false);
+    let (done, shared) = (&flag, &store);
+    let (worked, taker) = join(
+        threads,
+        move || {
+            let worked = work_all(threads, shared, tellers, plan, end);
+            done.store(true, Ordering::SeqCst);
+            worked
+        },
+        move || match taker {
+            Some(taker) => Some(take_until(threads, alloc, shared, taker, done)),
+            None => None,
+        },
+    );
+    Ok(OpenStore {
+        store,
+        first,
+        second,
+        tellers: worked?,
+        taker,
+    })
+}
+
+/// The transfers and the deadlocks of all tellers. An error if a teller stopped before its time.
+fn count_all<N: Name>(tellers: &[Teller<N>]) -> anyhow::Result<(u64, u64)> {
+    let mut transfers = 0u64;
+    let mut deadlocks = 0u64;
+    for teller in tellers {
+        if let Some(fault) = teller.fault {
+            bail!("a transfer failed: {fault}");
+        }
+        transfers = transfers.saturating_add(teller.committed);
+        deadlocks = deadlocks.saturating_add(teller.deadlocks);
+    }
+    Ok((transfers, deadlocks))
+}
+
+/// Runs the second workload on the two accounts that no teller uses.
+fn skew_of<N: Name, H: Wait + Clock>(
+    rt: &H,
+    opened: &mut OpenStore<N>,
+    plan: &StorePlan,
+) -> Result<(u64, u64), StoreError> {
+    let one = plan.accounts as usize;
+    let pair = PairRule {
+        one,
+        other: one.saturating_add(1),
+        stays: BALANCE,
+    };
+    run_skew(
+        rt,
+        &opened.store,
+        &mut opened.first,
+        &mut opened.second,
+        &pair,
+    )
+}
+
+/// Opens the store over the prepared table, runs both workloads and closes the table.
+pub fn serve<N: Name + Send + Sync, H: Threads + Wait + Clock + Sync>(
+    threads: &H,
+    alloc: Global,
+    ready: Ready,
+    plan: &StorePlan,
+) -> anyhow::Result<StoreRun>
+    requires named { ready.of ≡ N.of }
+    requires shards { ready.of.shards ≡ SHARDS }
+    requires keeping { ready.of.keeping ≢ Keeping.Whole }
+{
+    let mut opened = open_store::<N>(alloc, ready, plan)?;
+    let total_before = total(threads, &opened.store, &mut opened.first, plan.accounts)?;
+    let end = end_of(threads, plan)?;
+    let mut opened = work_traced(threads, alloc, opened, plan, end)?;
+    let total_after = total(threads, &opened.store, &mut opened.first, plan.accounts)?;
+    let (transfers, deadlocks) = count_all(&opened.tellers)?;
+    let skew = skew_of(threads, &mut opened, plan)?;
+    Ok(StoreRun {
+        total_before,
+        total_after,
+        transfers,
+        waits: opened.store.waits(),
+        deadlocks,
+        skew,
+        stays: BALANCE,
+        histories: close_store(threads, alloc, opened)?,
+    })
+}
+
+/// Closes the store's table. Returns the histories of its shards, if they were traced.
+fn close_store<N: Name, H: Wait>(
+    rt: &H,
+    alloc: Global,
+    opened: OpenStore<N>,
+) -> anyhow::Result<Option<Vec<Vec<Entry>>>> {
+    let OpenStore {
+        store,
+        first,
+        second,
+        tellers,
+        taker,
+    } = opened;
+    let mut sessions = Vec::new(alloc);
+    sessions.push(first)?;
+    sessions.push(second)?;
+    for teller in tellers {
+        sessions.push(teller.session)?;
+    }
+    let Some(taker) = taker else {
+        close_table(rt, alloc, store, sessions)?;
+        return Ok(None);
+    };
+    sessions.push(taker.session)?;
+    if !taker.is_whole {
+        bail!("steps of the trace were lost");
+    }
+    let rests = close_table(rt, alloc, store, sessions)?;
+    match histories_of(alloc, taker.shards, rests) {
+        Some(histories) => Ok(Some(histories)),
+        None => bail!("the trace does not join what the close has left"),
+    }
+}
+
+/// Closes the store's table with the passes of all sessions. Returns what is left of each shard.
+fn close_table<N: Name, H: Wait>(
+    rt: &H,
+    alloc: Global,
+    store: Store<N>,
+    sessions: Vec<StoreSession<N>>,
+) -> anyhow::Result<Vec<Rest>> {
+    let passes = passes_back(alloc, sessions)?;
+    match store
+        .into_table()
+        .close_rest(rt, alloc, passes, Vec::new(alloc))
+    {
+        Ok(Rests { shards, draws: _ }) => Ok(shards),
+        Err(refused) => {
+            let error = refused.error;
+            refused.abandon();
+            bail!("the table was not closed: {error}");
+        }
+    }
+}

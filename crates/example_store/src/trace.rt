@@ -1,0 +1,157 @@
+//! How does the store write a trace of its table while it runs? A [`TraceTaker`] has a session of its own. It takes
+//! the steps out of every shard, again and again, until the tellers are done. [`histories_of`] joins what it took
+//! with what the close of the table leaves: the history of each shard from its first step on.
+ghost use Rattle.std.specs.Prelude.{◌≡◌, ◌≢◌, ◌<◌};
+ghost use Rattle.lt_words.specs.declared.keeping.Keeping.TheVariants.{Whole};
+
+use crate::session::StoreSession;
+use crate::store::Store;
+use lt_entry::Entry;
+use lt_table::{Keeping, Reader, Rest};
+use lt_words::{Name, Pass};
+use std::alloc::{AllocError, Global};
+use std::marker::PhantomData;
+use std::sync::Wait;
+use std::sync::atomic::{AtomicBool, Ordering};
+use std::thread::sleep;
+use std::time::{Clock, Duration};
+
+/// How many milliseconds the taker sleeps after each round over the shards.
+const PAUSE: u64 = 1;
+
+/// A reader of one shard's history, and the steps that it was given.
+#[derive(Drop)]
+pub struct ShardTrace<N: Name> {
+    reader: Reader,
+    entries: Vec<Entry>,
+    name: PhantomData<N>,
+    ghost below: { reader.shard < N.of.shards },
+}
+
+/// A caller that takes the steps of the table that `N` names.
+#[derive(Drop)]
+pub struct TraceTaker<N: Name> {
+    pub session: StoreSession<N>,
+    pub shards: Vec<ShardTrace<N>>,
+    /// Whether all steps that were taken were kept.
+    pub is_whole: bool,
+    ghost streamed: { N.of.keeping ≢ Whole },
+}
+
+/// A taker for a table with so many shards.
+pub fn taker_of<N: Name>(
+    alloc: Global,
+    session: StoreSession<N>,
+    shards: usize,
+) -> Result<TraceTaker<N>, AllocError>
+    requires shards { N.of.shards ≡ shards }
+    requires keeping { N.of.keeping ≢ Keeping.Whole }
+{
+    let mut traces = Vec::new(alloc);
+    for shard in 0..shards {
+        traces.push(ShardTrace {
+            reader: Reader { shard, next: 0 },
+            entries: Vec::new(alloc),
+            name: PhantomData,
+        })?;
+    }
+    Ok(TraceTaker {
+        session,
+        shards: traces,
+        is_whole: true,
+    })
+}
+
+/// Takes the new steps of one shard. True if they were taken and kept.
+fn take_steps<N: Name, R: Wait>(
+    rt: &R,
+    alloc: Global,
+    store: &Store<N>,
+    pass: &mut Pass,
+    trace: &mut ShardTrace<N>,
+) -> bool
+    requires pass { pass.old.of ≡ N.of }
+    requires keeping { N.of.keeping ≢ Keeping.Whole }
+    ensures { pass.new.of ≡ N.of }
+{
+    let mut steps = Vec::new(alloc);
+    let mut reader = trace.reader;
+    let taken = store.table.take_next(rt, pass, &mut reader, &mut steps);
+    trace.reader.next = reader.next;
+    taken.is_ok() && trace.entries.append(&mut steps).is_ok()
+}
+
+/// Takes the new steps of each shard in turn. True if all were taken and kept.
+fn take_all<N: Name, R: Wait>(
+    rt: &R,
+    alloc: Global,
+    store: &Store<N>,
+    pass: &mut Pass,
+    shards: &mut Vec<ShardTrace<N>>,
+) -> bool
+    requires pass { pass.old.of ≡ N.of }
+    requires keeping { N.of.keeping ≢ Keeping.Whole }
+    ensures { pass.new.of ≡ N.of }
+{
+    let mut is_whole = true;
+    for index in 0..shards.len() {
+        let Some(trace) = shards.get_mut(index) else {
+            break;
+        };
+        if !take_steps(rt, alloc, store, pass, trace) {
+            is_whole = false;
+        }
+    }
+    is_whole
+}
+
+/// Takes the steps of all shards, round after round, until the tellers are done. It goes on also after steps were
+/// lost, so that no shard stays full.
+pub fn take_until<N: Name, R: Wait + Clock>(
+    rt: &R,
+    alloc: Global,
+    store: &Store<N>,
+    taker: TraceTaker<N>,
+    done: &AtomicBool,
+) -> TraceTaker<N> {
+    let mut taker = taker;
+    let Some(mut pass) = taker.session.slot.take() else {
+        return taker;
+    };
+    for _ in rt.forever() {
+        if done.load(Ordering::SeqCst) {
+            break;
+        }
+        if !take_all(rt, alloc, store, &mut pass, &mut taker.shards) {
+            taker.is_whole = false;
+        }
+        sleep(rt, Duration::from_millis(PAUSE));
+    }
+    taker.session.slot.put(pass);
+    taker
+}
+
+/// The history of each shard: the steps that were taken, and those that the close has left. `None` if what is left
+/// does not continue what was taken, or an allocation fails.
+pub fn histories_of<N: Name>(
+    alloc: Global,
+    traces: Vec<ShardTrace<N>>,
+    rests: Vec<Rest>,
+) -> Option<Vec<Vec<Entry>>> {
+    let mut rests = rests.into_iter();
+    let mut histories = Vec::new(alloc);
+    for trace in traces {
+        let mut rest = rests.next()?;
+        let ShardTrace {
+            reader,
+            mut entries,
+            ..
+        } = trace;
+        if rest.from != reader.next {
+            return None;
+        }
+        entries.append(&mut rest.entries).ok()?;
+        histories.push(entries).ok()?;
+    }
+    Some(histories)
+}

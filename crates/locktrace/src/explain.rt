@@ -1,0 +1,194 @@
+//! How is a fault explained? [`explain_file`] checks a file, and for its first faulty line writes what the rules give,
+//! by which row of docs/RULES.md, the record of the key before the line, and the key's latest lines.
+use crate::failure::{TraceFailure, of_audit};
+use crate::follow::write_text;
+use crate::input::open_reader;
+use lt_audit::{AuditError, Explained, Rule, check_stream, explain, rule_of};
+use lt_history::{Expected, Fault};
+use lt_ids::Ticket;
+use lt_plain::{Holder, KeyState, QueuedRequest};
+use lt_text::put::{put_number, put_number_word, put_reply, put_ticket, put_time, put_word};
+use std::alloc::{AllocError, Global};
+use std::fs::Files;
+use std::io::Write;
+
+/// Appends a line of a text, indented.
+fn put_line(out: &mut Vec<u8>, line: &[u8]) -> Result<(), AllocError> {
+    out.extend_from_slice(b"    ")?;
+    out.extend_from_slice(line)?;
+    out.push(b'\n')?;
+    Ok(())
+}
+
+fn put_holder(out: &mut Vec<u8>, holder: Option<Holder>) -> Result<(), AllocError> {
+    let Some(holder) = holder else {
+        return put_word(out, b"nobody");
+    };
+    put_number_word(out, holder.txn.number())?;
+    put_word(out, b"at")?;
+    put_time(out, holder.ts)
+}
+
+fn put_reservation(out: &mut Vec<u8>, first: &Option<QueuedRequest>) -> Result<(), AllocError> {
+    match first {
+        None => put_word(out, b"nobody"),
+        Some(request) => put_number_word(out, request.ticket.number()),
+    }
+}
+
+/// Appends the number of a waiter. `*` marks the distinguished one.
+fn put_waiter(
+    out: &mut Vec<u8>,
+    number: u64,
+    distinguished: Option<u64>,
+) -> Result<(), AllocError> {
+    put_number_word(out, number)?;
+    if distinguished == Some(number) {
+        out.push(b'*')?;
+    }
+    Ok(())
+}
+
+/// Appends the writers. Parentheses mark one that is inactive.
+fn put_writers(out: &mut Vec<u8>, state: &KeyState) -> Result<(), AllocError> {
+    if state.writers.is_empty() {
+        return put_word(out, b"none");
+    }
+    for writer in &state.writers {
+        let number = writer.request.ticket.number();
+        if writer.active {
+            put_waiter(out, number, state.distinguished)?;
+        } else {
+            put_word(out, b"(")?;
+            put_number(out, number)?;
+            out.push(b')')?;
+        }
+    }
+    Ok(())
+}
+
+fn put_readers(out: &mut Vec<u8>, state: &KeyState) -> Result<(), AllocError> {
+    if state.readers.is_empty() {
+        return put_word(out, b"none");
+    }
+    for reader in &state.readers {
+        put_waiter(out, reader.ticket.number(), state.distinguished)?;
+    }
+    Ok(())
+}
+
+/// Appends the record of a key.
+fn put_record(out: &mut Vec<u8>, state: &KeyState) -> Result<(), AllocError> {
+    out.extend_from_slice(b"the record of the key before it:\n    holder")?;
+    put_holder(out, state.holder)?;
+    out.extend_from_slice(b"; reserved for")?;
+    put_reservation(out, &state.reservation)?;
+    out.extend_from_slice(b"; writers")?;
+    put_writers(out, state)?;
+    out.extend_from_slice(b"; readers")?;
+    put_readers(out, state)?;
+    out.push(b'\n')?;
+    Ok(())
+}
+
+fn put_lets(out: &mut Vec<u8>, tickets: &[Ticket]) -> Result<(), AllocError> {
+    if tickets.is_empty() {
+        return Ok(());
+    }
+    put_word(out, b"let")?;
+    for ticket in tickets {
+        put_ticket(out, *ticket)?;
+    }
+    Ok(())
+}
+
+/// Appends what the rules give, and the row by which they do.
+fn put_expected(out: &mut Vec<u8>, expected: &Expected, rule: &Rule) -> Result<(), AllocError> {
+    out.extend_from_slice(b"the rules give:\n    =")?;
+    put_reply(out, expected.reply)?;
+    put_lets(out, &expected.tickets)?;
+    out.extend_from_slice(b"\nby docs/RULES.md, \"")?;
+    out.extend_from_slice(rule.section.as_bytes())?;
+    out.extend_from_slice(b"\":\n    ")?;
+    out.extend_from_slice(rule.row.as_bytes())?;
+    out.push(b'\n')?;
+    Ok(())
+}
+
+/// Appends the latest lines of a key.
+fn put_before(out: &mut Vec<u8>, before: &[Vec<u8>]) -> Result<(), AllocError> {
+    if before.is_empty() {
+        return Ok(());
+    }
+    out.extend_from_slice(b"the latest lines before it:\n")?;
+    for line in before {
+        put_line(out, line)?;
+    }
+    Ok(())
+}
+
+/// The explanation of a line with this number and this fault.
+fn explanation(
+    alloc: Global,
+    explained: &Explained,
+    line: usize,
+    fault: Fault,
+) -> Result<Vec<u8>, AllocError> {
+    let mut out = Vec::new(alloc);
+    out.extend_from_slice(b"line")?;
+    put_number_word(&mut out, line as u64)?;
+    out.extend_from_slice(b": ")?;
+    out.extend_from_slice(fault.name().as_bytes())?;
+    out.push(b'\n')?;
+    put_line(&mut out, &explained.line)?;
+    if let Some((call, state)) = &explained.asked {
+        if let Some(expected) = &explained.expected {
+            put_expected(&mut out, expected, &rule_of(state, call))?;
+        }
+        put_record(&mut out, state)?;
+    }
+    put_before(&mut out, &explained.before)?;
+    Ok(out)
+}
+
+/// Explains the line of the file with this fault, and ends with it.
+fn explain_line<F: Files, W: Write>(
+    files: &F,
+    alloc: Global,
+    name: &str,
+    output: &mut W,
+    line: usize,
+    fault: Fault,
+) -> Result<(), TraceFailure> {
+    let failure = of_audit(AuditError::Refused { line, fault });
+    if line < 2 {
+        return Err(failure);
+    }
+    let mut reader = open_reader(files, alloc, name)?;
+    let explained = match explain(alloc, &mut reader, line) {
+        Ok(explained) => explained,
+        Err(error) => return Err(of_audit(error)),
+    };
+    write_text(output, &explanation(alloc, &explained, line, fault)?)?;
+    Err(failure)
+}
+
+/// Checks the file. Writes the numbers of a legal text, or the explanation of the first faulty line, and ends with it.
+pub fn explain_file<F: Files, W: Write>(
+    files: &F,
+    alloc: Global,
+    name: &str,
+    output: &mut W,
+) -> Result<(), TraceFailure> {
+    let mut reader = open_reader(files, alloc, name)?;
+    match check_stream(alloc, &mut reader) {
+        Ok(report) => {
+            let text = format!(in alloc; "ok {} keys {} steps\n", report.keys, report.steps)?;
+            write_text(output, text.as_bytes())
+        }
+        Err(AuditError::Refused { line, fault }) => {
+            explain_line(files, alloc, name, output, line, fault)
+        }
+        Err(error) => Err(of_audit(error)),
+    }
+}

@@ -1,0 +1,127 @@
+//! How does the program end if it could not do its work?
+ghost use Rattle.std.specs.Prelude.{◌≡◌};
+ghost use Rattle.locktrace.specs.declared.failure.TraceFailure.TheVariants.{Memory};
+
+use lt_audit::AuditError;
+use lt_history::{CheckError, HistoryLineError};
+use lt_picture::PictureError;
+use lt_trace::{SortError, TraceFault};
+use std::alloc::{AllocError, AllocFailed};
+use thiserror::Error;
+
+/// Why the program did not do its work. Displayed, it is what stands after `locktrace: ` on standard error.
+#[derive(Clone, Copy, Debug, PartialEq, Eq, Error)]
+pub enum TraceFailure {
+    /// The words after the program's name are not a command line of the program.
+    #[error("the words are no command line; see locktrace --help")]
+    Words,
+    /// The first faulty line, counted from 1, and the name of the first fault in it.
+    #[error("line {line}: {name}")]
+    Refused { line: u64, name: &'static str },
+    /// No line is about the key, or none of its steps is in the range.
+    #[error("no such step")]
+    NoStep,
+    /// A picture shows at most 400 steps.
+    #[error("too many steps for a picture: choose at most 400 by --from and --to")]
+    TooManySteps,
+    #[error("memory")]
+    Memory,
+    #[error("read")]
+    Read,
+    #[error("write")]
+    Write,
+    /// The trace has 2^64 steps of a key or more.
+    #[error("the trace is too long")]
+    TooLong,
+    /// A temporary file failed.
+    #[error("temporary file")]
+    Temporary,
+}
+
+impl From<AllocError> for TraceFailure {
+    ghost from_gives = { λ _ e. e ≡ Memory };
+
+    fn from(_e: AllocError) -> TraceFailure {
+        TraceFailure::Memory
+    }
+}
+
+impl<T: Drop> From<AllocFailed<T>> for TraceFailure {
+    ghost from_gives = { λ _ e. e ≡ Memory };
+
+    fn from(_e: AllocFailed<T>) -> TraceFailure {
+        TraceFailure::Memory
+    }
+}
+
+/// The failure of a check.
+pub fn of_check(error: CheckError) -> TraceFailure {
+    match error {
+        CheckError::Refused { line, fault } => TraceFailure::Refused {
+            line: line as u64,
+            name: fault.name(),
+        },
+        CheckError::Memory => TraceFailure::Memory,
+    }
+}
+
+/// The failure of an audit.
+pub fn of_audit(error: AuditError) -> TraceFailure {
+    match error {
+        AuditError::Refused { line, fault } => of_check(CheckError::Refused { line, fault }),
+        AuditError::Memory => TraceFailure::Memory,
+        AuditError::Read => TraceFailure::Read,
+        AuditError::TooLong => TraceFailure::TooLong,
+    }
+}
+
+/// The failure of a line that a check has taken already.
+pub fn of_line(error: HistoryLineError) -> TraceFailure {
+    match error {
+        HistoryLineError::Memory => TraceFailure::Memory,
+        HistoryLineError::Fault(_) => TraceFailure::Read,
+    }
+}
+
+/// The failure of a sort.
+pub fn of_sort(error: SortError) -> TraceFailure {
+    match error {
+        SortError::Refused { line, fault } => TraceFailure::Refused {
+            line,
+            name: match fault {
+                TraceFault::Shape => "Shape",
+                TraceFault::Json => "Json",
+            },
+        },
+        SortError::Memory => TraceFailure::Memory,
+        SortError::Read => TraceFailure::Read,
+        SortError::Temporary => TraceFailure::Temporary,
+        SortError::Write => TraceFailure::Write,
+        SortError::TooManySteps => TraceFailure::TooLong,
+    }
+}
+
+/// The failure of a picture.
+pub fn of_picture(error: PictureError) -> TraceFailure {
+    match error {
+        PictureError::Memory => TraceFailure::Memory,
+        PictureError::TooManySteps => TraceFailure::TooManySteps,
+    }
+}
+
+/// The exit status of the program: 0 if it did its work; 1 if a trace or a text was refused, or cannot be drawn; 2 if
+/// the command line was refused; 4 if memory ran out; 5 if a read or a write failed.
+pub fn status(ending: &Result<(), TraceFailure>) -> u8 {
+    match ending {
+        Ok(()) => 0,
+        Err(
+            TraceFailure::Refused { .. }
+            | TraceFailure::NoStep
+            | TraceFailure::TooManySteps
+            | TraceFailure::TooLong,
+        ) => 1,
+        Err(TraceFailure::Words) => 2,
+        Err(TraceFailure::Memory) => 4,
+        Err(TraceFailure::Read | TraceFailure::Write | TraceFailure::Temporary) => 5,
+    }
+}

@@ -1,0 +1,252 @@
+//! What does each command do? [`perform`] opens the file of a task, or takes standard input, and does the task.
+use crate::explain::explain_file;
+use crate::failure::{TraceFailure, of_audit, of_picture, of_sort};
+use crate::follow::{StepTaker, follow_steps, write_text};
+use crate::input::buffered;
+use crate::words::{PictureWords, SortWords, Task, WantedSteps};
+use lt_audit::check_stream;
+use lt_ids::Key;
+use lt_picture::{Layout, ShownStep, html, picture, put_heading, put_key, put_shown};
+use lt_trace::{SortOptions, TraceForm, sort_trace};
+use std::alloc::Global;
+use std::fs::{File, Files};
+use std::io::{BufRead, BufWriter, Read, Write};
+
+/// How many columns a table of steps has.
+const WIDTH: u16 = 120;
+
+/// How many runs a sort merges at once.
+const WAYS: usize = 64;
+
+/// How many bytes one write takes.
+const PIECE: usize = 1 << 16;
+
+/// Whether a step is wanted.
+fn is_wanted(wanted: &WantedSteps, key: &Key, index: u64) -> bool {
+    let is_of_key = match wanted.key {
+        Some(name) => name.as_bytes() == key.as_bytes(),
+        None => true,
+    };
+    is_of_key && wanted.from <= index && index <= wanted.to
+}
+
+/// Makes a line of a table of each step.
+#[derive(Drop)]
+struct Shower<'a> {
+    alloc: Global,
+    wanted: WantedSteps<'a>,
+    layout: Layout,
+    /// The key of the latest step.
+    key: Option<Key>,
+}
+
+impl<'a> StepTaker for Shower<'a> {
+    fn wants(&self, key: &Key, index: u64) -> bool {
+        is_wanted(&self.wanted, key, index)
+    }
+
+    fn take(&mut self, key: Key, step: ShownStep) -> Result<Vec<u8>, TraceFailure> {
+        let mut text = Vec::new(self.alloc);
+        let is_new = match &self.key {
+            Some(latest) => *latest != key,
+            None => true,
+        };
+        if is_new {
+            put_key(&mut text, self.layout, &key)?;
+            put_heading(&mut text, self.layout)?;
+            self.key = Some(key);
+        }
+        put_shown(&mut text, self.layout, &step)?;
+        Ok(text)
+    }
+}
+
+/// Collects the steps of a key for a picture.
+#[derive(Drop)]
+struct Collector<'a> {
+    alloc: Global,
+    wanted: WantedSteps<'a>,
+    /// The key of the steps.
+    key: Option<Key>,
+    steps: Vec<ShownStep>,
+}
+
+impl<'a> StepTaker for Collector<'a> {
+    fn wants(&self, key: &Key, index: u64) -> bool {
+        is_wanted(&self.wanted, key, index) && self.steps.len() <= lt_picture::MOST_STEPS
+    }
+
+    fn take(&mut self, key: Key, step: ShownStep) -> Result<Vec<u8>, TraceFailure> {
+        self.steps.push(step)?;
+        self.key = Some(key);
+        Ok(Vec::new(self.alloc))
+    }
+}
+
+/// Checks the text, and writes the numbers of its keys and steps.
+fn check<R: BufRead, W: Write>(
+    alloc: Global,
+    reader: &mut R,
+    output: &mut W,
+) -> Result<(), TraceFailure> {
+    let report = match check_stream(alloc, reader) {
+        Ok(report) => report,
+        Err(error) => return Err(of_audit(error)),
+    };
+    let line = format!(in alloc; "ok {} keys {} steps\n", report.keys, report.steps)?;
+    write_text(output, line.as_bytes())
+}
+
+/// Writes the wanted steps as a table.
+fn show<R: BufRead, W: Write>(
+    alloc: Global,
+    reader: &mut R,
+    output: &mut W,
+    wanted: &WantedSteps,
+) -> Result<(), TraceFailure> {
+    let Some(layout) = Layout::new(WIDTH, false) else {
+        return Err(TraceFailure::Words);
+    };
+    let mut shower = Shower {
+        alloc,
+        wanted: *wanted,
+        layout,
+        key: None,
+    };
+    follow_steps(alloc, reader, output, &mut shower)?;
+    if shower.key.is_none() {
+        return Err(TraceFailure::NoStep);
+    }
+    Ok(())
+}
+
+/// Draws the steps that were collected.
+fn drawn(alloc: Global, collected: &Collector, is_html: bool) -> Result<Vec<u8>, TraceFailure> {
+    let Some(key) = &collected.key else {
+        return Err(TraceFailure::NoStep);
+    };
+    let text = if is_html {
+        html(alloc, key, &collected.steps)
+    } else {
+        picture(alloc, key, &collected.steps)
+    };
+    match text {
+        Ok(text) => Ok(text),
+        Err(error) => Err(of_picture(error)),
+    }
+}
+
+/// Draws the wanted steps of a key, and writes the picture to its file or to the output.
+fn draw<F: Files, R: BufRead, W: Write>(
+    files: &F,
+    alloc: Global,
+    reader: &mut R,
+    output: &mut W,
+    wanted: &WantedSteps,
+    picture: &PictureWords,
+) -> Result<(), TraceFailure> {
+    if wanted.key.is_none() {
+        return Err(TraceFailure::Words);
+    }
+    let mut collector = Collector {
+        alloc,
+        wanted: *wanted,
+        key: None,
+        steps: Vec::new(alloc),
+    };
+    follow_steps(alloc, reader, output, &mut collector)?;
+    let text = drawn(alloc, &collector, picture.html)?;
+    let Some(name) = picture.out else {
+        return write_text(output, &text);
+    };
+    match File::create(files, name) {
+        Ok(mut file) => write_text(&mut file, &text),
+        Err(_) => Err(TraceFailure::Write),
+    }
+}
+
+/// Sorts the trace, and writes the text of histories.
+fn sort<F: Files, R: BufRead, W: Write>(
+    files: &F,
+    alloc: Global,
+    reader: &mut R,
+    output: &mut W,
+    words: &SortWords,
+) -> Result<(), TraceFailure> {
+    let options = SortOptions {
+        form: if words.json {
+            TraceForm::Json
+        } else {
+            TraceForm::Words
+        },
+        memory: words.memory as usize,
+        ways: WAYS,
+        folder: words.folder,
+    };
+    match sort_trace(files, alloc, &options, reader, output) {
+        Ok(_) => Ok(()),
+        Err(error) => Err(of_sort(error)),
+    }
+}
+
+/// Does the task over this reader and this output.
+fn perform_over<F: Files, R: BufRead, W: Write>(
+    files: &F,
+    alloc: Global,
+    task: &Task,
+    reader: &mut R,
+    output: &mut W,
+) -> Result<(), TraceFailure> {
+    match task {
+        Task::Sort(_, words) => sort(files, alloc, reader, output, words),
+        Task::Check(_) => check(alloc, reader, output),
+        Task::Explain(name) => explain_file(files, alloc, name, output),
+        Task::Show(_, wanted) => show(alloc, reader, output, wanted),
+        Task::Picture(_, wanted, picture) => draw(files, alloc, reader, output, wanted, picture),
+    }
+}
+
+/// Does the task over this input and this output.
+fn perform_on<F: Files, R: Read + Drop, W: Write + Drop>(
+    alloc: Global,
+    files: &F,
+    task: &Task,
+    input: R,
+    output: W,
+) -> Result<(), TraceFailure> {
+    let mut reader = buffered(alloc, input)?;
+    let Ok(mut writer) = BufWriter::with_capacity(alloc, PIECE, output) else {
+        return Err(TraceFailure::Memory);
+    };
+    perform_over(files, alloc, task, &mut reader, &mut writer)?;
+    match writer.flush() {
+        Ok(()) => Ok(()),
+        Err(_) => Err(TraceFailure::Write),
+    }
+}
+
+/// The file of the task.
+fn file_of<'a>(task: &Task<'a>) -> Option<&'a str> {
+    match task {
+        Task::Sort(file, _) | Task::Check(file) | Task::Show(file, _) | Task::Picture(file, _, _) =>
+            *file,
+        Task::Explain(_) => None,
+    }
+}
+
+/// Does the task: over its file, or over the input if it has none.
+pub fn perform<F: Files, R: Read + Drop, W: Write + Drop>(
+    alloc: Global,
+    files: &F,
+    task: &Task,
+    input: R,
+    output: W,
+) -> Result<(), TraceFailure> {
+    match file_of(task) {
+        Some(name) => match File::open(files, name) {
+            Ok(file) => perform_on(alloc, files, task, file, output),
+            Err(_) => Err(TraceFailure::Read),
+        },
+        None => perform_on(alloc, files, task, input, output),
+    }
+}

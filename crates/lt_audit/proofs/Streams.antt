@@ -1,0 +1,205 @@
+-- A stream is read line by line and given to a checker.
+use Rattle.std.proofs.Common.{◌≡◌, ℕ, ◌+◌, ◌≤◌, ◌⊎◌, Bool, true, false, cond, eqb, List, [], ◌∷◌, ◌++◌, length, drop, Option, Some, None, Result, Ok, Err, refl, sym, ap, subst, ◌∙◌, inl, inr, append_assoc, arith, length-append}
+use Rattle.std.specs.Prelude.{IfSome, IfOk, IfErr}
+use Rattle.std.specs.Io.{StartsWith}
+use Rattle.std.specs.Io.BufRead.{take_through, drop_through, DropsThrough}
+use Rattle.std.specs.Io.KnownBytes.{Consumes, IsAtEnd}
+use Rattle.std.proofs.lemmas.List.{append-nil, take-append-drop}
+use Rattle.lt_history.specs.declared.checker.Report.{Report}
+use Rattle.lt_history.specs.declared.checker.CheckError.{CheckError}
+use Rattle.lt_history.specs.declared.checker.CheckError.TheVariants as checks
+use Rattle.lt_history.specs.declared.error.Fault.TheVariants.{Header}
+use Rattle.lt_history.specs.declared.pieces.Checker.{Checker}
+use Rattle.lt_history.specs.Pieces.{IsCountable, HasTaken, HasBegun, LacksHeader, TakesLines, RefusesFrom, GivesByRules}
+use Rattle.lt_history.specs.Verdict.{Judges}
+use Rattle.lt_history.specs.Version.{header_of}
+use Rattle.lt_history.proofs.Verdicts.{is_said, legal_is_said, fault_is_said}
+use Rattle.lt_audit.specs.Audit.{IsLineRead, IsBeginning, IsReading, RefusesPending, EndsWith, EndsAs, IsAudited, IsAuditedAs, stopped, IsSplit, IsCallWithRecord, IsExplained}
+use Rattle.lt_audit.specs.declared.explained.Explained.{Explained}
+use Rattle.lt_audit.specs.declared.error.AuditError.{AuditError}
+use Rattle.lt_audit.specs.declared.error.AuditError.TheVariants as errors
+
+-- ---- one line
+
+through : (xs : List ℕ) → xs ≡ take_through 10 xs ++ drop_through 10 xs
+through [] = refl
+through (x ∷ xs) = by_byte (eqb x 10) (through xs)
+  where
+    by_byte : (b : Bool) → xs ≡ take_through 10 xs ++ drop_through 10 xs → x ∷ xs ≡ cond b (x ∷ []) (x ∷ take_through 10 xs) ++ cond b xs (drop_through 10 xs)
+    by_byte true more = refl
+    by_byte false more = ap (λ (t : List ℕ). x ∷ t) more
+
+none_through : (xs : List ℕ) → length (take_through 10 xs) ≡ 0 → xs ≡ []
+none_through [] e = refl
+none_through (x ∷ xs) e = absurd (by_byte (eqb x 10) e)
+  where
+    by_byte : (b : Bool) → length (cond b (x ∷ []) (x ∷ take_through 10 xs)) ≡ 0 → ⊥
+    by_byte true e = omega (arith, e)
+    by_byte false e = omega (arith, e)
+
+pub line_read : (source now : Option (List ℕ)) (old new : List ℕ) (n : ℕ) → StartsWith new old → length new ≡ length old + n → IfSome source (λ xs. new ≡ old ++ take_through 10 xs) → DropsThrough source now 10 → IsLineRead source now old new n
+line_read None now old new n starts size known drops = record {
+  bytes = drop (length old) new;
+  grown = sym (take-append-drop (length old) new) ∙ ap (λ (t : List ℕ). t ++ drop (length old) new) starts;
+  count = omega (arith, size, ap length (sym (take-append-drop (length old) new) ∙ ap (λ (t : List ℕ). t ++ drop (length old) new) starts), length-append old (drop (length old) new));
+  taken = tt;
+  at_end = λ z. tt;
+}
+line_read (Some xs) now old new n starts size known drops = record {
+  bytes = take_through 10 xs;
+  grown = known;
+  count = omega (arith, size, ap length known, length-append old (take_through 10 xs));
+  taken = subst (λ (o : Option (List ℕ)). Consumes (Some xs) o (take_through 10 xs)) (sym drops) (through xs);
+  at_end = λ z. none_through xs (omega (arith, z, size, ap length known, length-append old (take_through 10 xs)));
+}
+
+consumes_both : (first mid last : Option (List ℕ)) (prefix bytes : List ℕ) → Consumes first mid prefix → Consumes mid last bytes → Consumes first last (prefix ++ bytes)
+consumes_both None mid last prefix bytes p q = tt
+consumes_both (Some xs) None last prefix bytes p q = absurd p
+consumes_both (Some xs) (Some ys) None prefix bytes p q = q
+consumes_both (Some xs) (Some ys) (Some zs) prefix bytes p q = p ∙ (ap (λ (t : List ℕ). prefix ++ t) q ∙ sym (append_assoc prefix bytes zs))
+
+consumes_all : (first last : Option (List ℕ)) (text : List ℕ) → Consumes first last text → IsAtEnd last → IfSome first (λ all. text ≡ all)
+consumes_all None last text h e = tt
+consumes_all (Some xs) None text h e = absurd h
+consumes_all (Some xs) (Some ys) text h e = sym (h ∙ (ap (λ (t : List ℕ). text ++ t) e ∙ append-nil text))
+
+nothing_more : (old new bytes : List ℕ) → new ≡ old ++ bytes → length bytes ≡ 0 → new ≡ old
+nothing_more old new [] e z = e ∙ append-nil old
+nothing_more old new (b ∷ bs) e z = absurd (omega (arith, z))
+
+-- ---- the beginning
+
+pub consumes_nothing : (source : Option (List ℕ)) → Consumes source source []
+consumes_nothing None = tt
+consumes_nothing (Some xs) = refl
+
+pub reads_on : (source mid now : Option (List ℕ)) (old new : List ℕ) (n : ℕ) → Consumes source mid old → IsLineRead mid now old new n → Consumes source now new
+reads_on source mid now old new n h r = subst (Consumes source now) (sym r.grown) (consumes_both source mid now old r.bytes h r.taken)
+
+pub is_all : (source mid now : Option (List ℕ)) (old new : List ℕ) (n : ℕ) → Consumes source mid old → IsLineRead mid now old new n → n ≡ 0 → IfSome source (λ all. new ≡ all)
+is_all source mid now old new n h r z =
+    subst (λ (t : List ℕ). IfSome source (λ all. t ≡ all)) (sym (nothing_more old new r.bytes r.grown (r.count ∙ z))) (consumes_all source mid old h (r.at_end z))
+
+pub begins_short : (source mid now : Option (List ℕ)) (old new : List ℕ) (n : ℕ) → Consumes source mid old → IsLineRead mid now old new n → n ≡ 0 → IsBeginning source now new
+begins_short source mid now old new n h r z = record { taken = reads_on source mid now old new n h r; enough = inr (is_all source mid now old new n h r z) }
+
+-- ---- verdicts
+
+judged : (source : Option (List ℕ)) (text : List ℕ) (verdict : Result Report CheckError) → IfSome source (λ all. text ≡ all) → (IsCountable text → Judges text verdict) → IsAudited source verdict
+judged source text verdict given j = record {
+  text = text;
+  is_given = given;
+  right = λ fits. record {
+    says = is_said text verdict (j fits);
+    accepts = legal_is_said text verdict (omega (arith, fits)) (j fits);
+    refuses = fault_is_said text verdict (j fits);
+  };
+}
+
+pub lacks_first_line : (source now : Option (List ℕ)) (bytes : List ℕ) → IsBeginning source now bytes → LacksHeader bytes → IsAudited source (Err (checks.Refused 1 Header))
+lacks_first_line None now bytes b lacks = judged None (bytes ++ []) (Err (checks.Refused 1 Header)) tt (λ fits. lacks [] (inr refl))
+lacks_first_line (Some xs) None bytes b lacks = absurd b.taken
+lacks_first_line (Some xs) (Some ys) bytes b lacks = by_size b.enough
+  where
+    by_size : (8 ≤ length bytes) ⊎ (bytes ≡ xs) → IsAudited (Some xs) (Err (checks.Refused 1 Header))
+    by_size (inl long) = judged (Some xs) (bytes ++ ys) (Err (checks.Refused 1 Header)) (sym b.taken) (λ fits. lacks ys (inl long))
+    by_size (inr all) = judged (Some xs) (bytes ++ []) (Err (checks.Refused 1 Header)) (append-nil bytes ∙ all) (λ fits. lacks [] (inr refl))
+
+-- ---- the loop
+
+pub starts_reading : (source now : Option (List ℕ)) (bytes lines : List ℕ) (c : Checker) → Consumes source now bytes → HasBegun bytes c lines → IsReading source now c lines
+starts_reading source now bytes lines c h b = record {
+  before = header_of c.report.version;
+  has_taken = λ fits. b.has_taken;
+  taken = subst (Consumes source now) b.joined h;
+}
+
+pub takes_pending : (source now : Option (List ℕ)) (old new : Checker) (pending rest : List ℕ) → IsReading source now old pending → TakesLines old pending new rest → IsReading source now new rest
+takes_pending source now old new pending rest h t =
+    let joined : h.before ++ pending ≡ (h.before ++ t.0.taken) ++ rest = ap (λ (xs : List ℕ). h.before ++ xs) t.0.joined ∙ sym (append_assoc h.before t.0.taken rest) in
+    record {
+      before = h.before ++ t.0.taken;
+      has_taken = λ fits. t.0.has_taken h.before (h.has_taken (omega (arith, fits, length-append h.before t.0.taken))) fits;
+      taken = subst (Consumes source now) joined h.taken;
+    }
+
+pub reads_line : (source mid now : Option (List ℕ)) (c : Checker) (old new : List ℕ) (n : ℕ) → IsReading source mid c old → IsLineRead mid now old new n → IsReading source now c new
+reads_line source mid now c old new n h r = record {
+  before = h.before;
+  has_taken = h.has_taken;
+  taken = subst (Consumes source now) (append_assoc h.before old r.bytes ∙ ap (λ (t : List ℕ). h.before ++ t) (sym r.grown)) (consumes_both source mid now (h.before ++ old) r.bytes h.taken r.taken);
+}
+
+pub refused_pending : (source now : Option (List ℕ)) (c : Checker) (pending : List ℕ) (e : AuditError) → IsReading source now c pending → RefusesPending c pending e → IsAuditedAs source e
+refused_pending source now c pending errors.Read h r = tt
+refused_pending source now c pending errors.Memory h r = tt
+refused_pending source now c pending errors.TooLong h r = tt
+refused_pending source now c pending (errors.Refused line fault) h r = by_source source now h.taken
+  where
+    verdict : Result Report CheckError
+    verdict = Err (checks.Refused line fault)
+
+    judges : (after : List ℕ) → IsCountable (h.before ++ (pending ++ after)) → Judges (h.before ++ (pending ++ after)) verdict
+    judges after fits =
+        let sizes = length-append h.before (pending ++ after) in
+        let more = length-append pending after in
+        r h.before after (h.has_taken (omega (arith, fits, sizes, more))) (omega (arith, fits, sizes, more, length-append h.before pending))
+
+    by_source : (s n : Option (List ℕ)) → Consumes s n (h.before ++ pending) → IsAudited s verdict
+    by_source None n k = judged None (h.before ++ (pending ++ [])) verdict tt (judges [])
+    by_source (Some xs) None k = absurd k
+    by_source (Some xs) (Some ys) k = judged (Some xs) (h.before ++ (pending ++ ys)) verdict (sym (append_assoc h.before pending ys) ∙ sym k) (judges ys)
+
+pub refused_by_check : (c : Checker) (pending : List ℕ) (e : CheckError) → RefusesFrom c pending e → RefusesPending c pending (stopped e)
+refused_by_check c pending checks.Memory r = tt
+refused_by_check c pending (checks.Refused line fault) r = r
+
+pub ends_by_check : (c : Checker) (pending : List ℕ) (e : CheckError) → EndsWith c pending (Err e) → EndsAs c pending (stopped e)
+ends_by_check c pending checks.Memory h = tt
+ends_by_check c pending (checks.Refused line fault) h = h
+
+ended : (source mid now : Option (List ℕ)) (c : Checker) (old new : List ℕ) (n : ℕ) (verdict : Result Report CheckError) → IsReading source mid c old → IsLineRead mid now old new n → n ≡ 0 → EndsWith c new verdict → IsAudited source verdict
+ended source mid now c old new n verdict h r z e =
+    let same = nothing_more old new r.bytes r.grown (r.count ∙ z) in
+    let small : IsCountable (h.before ++ new) → HasTaken c h.before = λ fits. h.has_taken (omega (arith, fits, length-append h.before new)) in
+    record {
+      text = h.before ++ new;
+      is_given = subst (λ (t : List ℕ). IfSome source (λ all. h.before ++ t ≡ all)) (sym same) (consumes_all source mid (h.before ++ old) h.taken (r.at_end z));
+      right = λ fits. record {
+        says = e.says h.before (small fits) fits;
+        accepts = e.accepts h.before (small fits) fits;
+        refuses = e.refuses h.before (small fits) fits;
+      };
+    }
+
+ended_as : (source mid now : Option (List ℕ)) (c : Checker) (old new : List ℕ) (n : ℕ) (e : AuditError) → IsReading source mid c old → IsLineRead mid now old new n → n ≡ 0 → EndsAs c new e → IsAuditedAs source e
+ended_as source mid now c old new n errors.Read h r z k = tt
+ended_as source mid now c old new n errors.Memory h r z k = tt
+ended_as source mid now c old new n errors.TooLong h r z k = tt
+ended_as source mid now c old new n (errors.Refused line fault) h r z k = ended source mid now c old new n (Err (checks.Refused line fault)) h r z k
+
+pub accepted : (source mid now : Option (List ℕ)) (c : Checker) (old new shown : List ℕ) (n : ℕ) (r : Result Report AuditError) → IsReading source mid c old → IsLineRead mid now old new n → n ≡ 0 → shown ≡ new → IfOk r (λ report. EndsWith c shown (Ok report))
+    → IfOk r (λ report. IsAudited source (Ok report))
+accepted source mid now c old new shown n (Ok report) h l z same e = ended source mid now c old new n (Ok report) h l z (subst (λ (t : List ℕ). EndsWith c t (Ok report)) same e)
+accepted source mid now c old new shown n (Err e) h l z same k = tt
+
+pub refused : (source mid now : Option (List ℕ)) (c : Checker) (old new shown : List ℕ) (n : ℕ) (r : Result Report AuditError) → IsReading source mid c old → IsLineRead mid now old new n → n ≡ 0 → shown ≡ new → IfErr r (EndsAs c shown) → IfErr r (IsAuditedAs source)
+refused source mid now c old new shown n (Ok report) h l z same e = tt
+refused source mid now c old new shown n (Err e) h l z same k = ended_as source mid now c old new n e h l z (subst (λ (t : List ℕ). EndsAs c t e) same k)
+
+-- ---- one line
+
+pub explained : (source now : Option (List ℕ)) (c : Checker) (pending : List ℕ) (x : Explained) → IsReading source now c pending → IsSplit pending x.line.items → IfSome x.asked (λ a. IsCallWithRecord c x.line.items a.0 a.1) → IfSome x.expected (GivesByRules c x.line.items)
+    → IsExplained source x
+explained source now c pending x h split asked given = by_source source now h.taken split
+  where
+    with_rest : (s : Option (List ℕ)) (after : List ℕ) → IfSome s (λ all. all ≡ h.before ++ (x.line.items ++ after)) → IsExplained s x
+    with_rest s after is_given = record { checker = c; before = h.before; has_taken = h.has_taken; after = after; is_given = is_given; asked = asked; given = given }
+
+    by_source : (s n : Option (List ℕ)) → Consumes s n (h.before ++ pending) → IsSplit pending x.line.items → IsExplained s x
+    by_source None n k split = with_rest None [] tt
+    by_source (Some xs) None k split = absurd k
+    by_source (Some xs) (Some ys) k (inl same) = with_rest (Some xs) ys (k ∙ (append_assoc h.before pending ys ∙ ap (λ (t : List ℕ). h.before ++ (t ++ ys)) same))
+    by_source (Some xs) (Some ys) k (inr cut) =
+        with_rest (Some xs) (10 ∷ ys) (k ∙ (append_assoc h.before pending ys ∙ ap (λ (t : List ℕ). h.before ++ t) (ap (λ (t : List ℕ). t ++ ys) cut ∙ append_assoc x.line.items (10 ∷ []) ys)))

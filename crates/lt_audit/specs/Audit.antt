@@ -1,0 +1,103 @@
+-- What the check of a stream says of the text that the stream gives.
+use Rattle.std.specs.Prelude.{ℕ, ◌≡◌, ◌⊎◌, ◌≤◌, List, ◌++◌, length, Option, Result, Ok, Err, IfSome, ◌∷◌, []}
+use Rattle.std.specs.Io.KnownBytes.{Consumes, IsAtEnd}
+use Rattle.lt_history.specs.declared.checker.Report.{Report}
+use Rattle.lt_history.specs.declared.checker.CheckError.{CheckError}
+use Rattle.lt_history.specs.declared.checker.CheckError.TheVariants as checks
+use Rattle.lt_history.specs.declared.pieces.Checker.{Checker}
+use Rattle.lt_history.specs.Pieces.{IsCountable, HasTaken, RefusesFrom, GivesByRules, SaysAtEnd, AcceptsAtEnd, RefusesAtEnd}
+use Rattle.lt_plain.specs.declared.call.Call.{Call}
+use Rattle.lt_plain.specs.Rules.{Record}
+use Rattle.lt_history.specs.Cursor.{spot}
+use Rattle.lt_history.specs.Lines.{Parts, IsLine, line_text}
+use Rattle.lt_history.specs.Text.{record_before}
+use Rattle.lt_history.specs.Verdict.{IsLegalText, Says, IsOrMemory, RefusesFaulty}
+use Rattle.lt_audit.specs.declared.explained.Explained.{Explained}
+use Rattle.lt_audit.specs.declared.error.AuditError.{AuditError}
+use Rattle.lt_audit.specs.declared.error.AuditError.TheVariants as errors
+
+-- ---- reading
+
+-- A read appended these bytes to the pending ones and took them from the source. It brings none only at the end.
+pub record IsLineRead (source now : Option (List ℕ)) (old new : List ℕ) (n : ℕ) : Type 0 where
+  pub bytes : List ℕ
+  pub grown : new ≡ old ++ bytes
+  pub count : length bytes ≡ n
+  pub taken : Consumes source now bytes
+  pub at_end : n ≡ 0 → IsAtEnd source
+
+-- These bytes came first. They are as long as a first line, or they are all.
+pub record IsBeginning (source now : Option (List ℕ)) (bytes : List ℕ) : Type 0 where
+  pub taken : Consumes source now bytes
+  pub enough : (8 ≤ length bytes) ⊎ IfSome source (λ all. bytes ≡ all)
+
+-- What was read so far: the checker has taken the first part, and these bytes are pending.
+pub record IsReading (source now : Option (List ℕ)) (c : Checker) (pending : List ℕ) : Type 0 where
+  pub before : List ℕ
+  pub has_taken : IsCountable before → HasTaken c before
+  pub taken : Consumes source now (before ++ pending)
+
+-- ---- the verdict
+
+-- The error of a stream whose check was refused in this way.
+abbrev pub stopped : CheckError → AuditError
+stopped (checks.Refused line fault) = errors.Refused line fault
+stopped checks.Memory = errors.Memory
+
+-- A text that goes on with the pending bytes is refused in this way.
+abbrev pub RefusesPending : Checker → List ℕ → AuditError → Type 0
+RefusesPending c pending (errors.Refused line fault) = RefusesFrom c pending (checks.Refused line fault)
+RefusesPending c pending _ = Unit {0}
+
+-- This is the verdict on each text that ends with the pending bytes.
+pub record EndsWith (c : Checker) (pending : List ℕ) (verdict : Result Report CheckError) : Type 0 where
+  pub says : SaysAtEnd c pending verdict
+  pub accepts : AcceptsAtEnd c pending verdict
+  pub refuses : RefusesAtEnd c pending verdict
+
+-- The same for a text that is refused with this error.
+abbrev pub EndsAs : Checker → List ℕ → AuditError → Type 0
+EndsAs c pending (errors.Refused line fault) = EndsWith c pending (Err (checks.Refused line fault))
+EndsAs c pending _ = Unit {0}
+
+-- The verdict is right for the text, and no other verdict is.
+pub record IsVerdictOn (text : List ℕ) (verdict : Result Report CheckError) : Type 0 where
+  pub says : Says text verdict
+  pub accepts : (report : Report) → IsLegalText text report → IsOrMemory verdict (Ok report)
+  pub refuses : RefusesFaulty text verdict
+
+-- The source gives this text, and this is the verdict on it. If the bytes of the source are known, the text is those
+-- bytes. Texts of 2 ^ 64 bytes are not spoken of.
+pub record IsAudited (source : Option (List ℕ)) (verdict : Result Report CheckError) : Type 0 where
+  pub text : List ℕ
+  pub is_given : IfSome source (λ all. text ≡ all)
+  pub right : IsCountable text → IsVerdictOn text verdict
+
+-- A refused stream gives a text that is refused so. Any other error says nothing of the text.
+abbrev pub IsAuditedAs : Option (List ℕ) → AuditError → Type 0
+IsAuditedAs source (errors.Refused line fault) = IsAudited source (Err (checks.Refused line fault))
+IsAuditedAs source _ = Unit {0}
+
+-- ---- one line
+
+-- The line is the bytes without the line end at their end, if they have one.
+abbrev pub IsSplit : List ℕ → List ℕ → Type 0
+IsSplit bytes line = (bytes ≡ line) ⊎ (bytes ≡ line ++ 10 ∷ [])
+
+-- The line, given without its line end, has this call, and this is the record of its key before it.
+pub record IsCallWithRecord (c : Checker) (bytes : List ℕ) (call : Call) (state : Record) : Type 0 where
+  pub parts : Parts
+  pub line : IsLine parts
+  pub is_text : line_text parts ≡ bytes ++ 10 ∷ []
+  pub call_is : call ≡ parts.step.call
+  pub state_is : state ≡ record_before (spot c.cursor) parts.key
+
+-- The source gives legal lines and then this line, and this is what the rules give for its call there.
+pub record IsExplained (source : Option (List ℕ)) (x : Explained) : Type 0 where
+  pub checker : Checker
+  pub before : List ℕ
+  pub has_taken : IsCountable before → HasTaken checker before
+  pub after : List ℕ
+  pub is_given : IfSome source (λ all. all ≡ before ++ (x.line.items ++ after))
+  pub asked : IfSome x.asked (λ a. IsCallWithRecord checker x.line.items a.0 a.1)
+  pub given : IfSome x.expected (GivesByRules checker x.line.items)

@@ -1,0 +1,136 @@
+//! What do the rules say of one line of a text?
+//!
+//! [`explain`] reads a text up to a line that a check refused. It gives the record of the line's key before it, the
+//! reply and the lets that the rules give for its call, and the key's latest lines. Read next: `rule.rt`, which names
+//! the row of docs/RULES.md that applies.
+ghost use Rattle.std.specs.Prelude.{◌≡◌, IfOk, IfErr, IfSome};
+ghost use Rattle.lt_history.specs.Pieces.{GivesByRules};
+ghost use Rattle.lt_audit.specs.Audit.{IsReading, IsAuditedAs, IsExplained, IsCallWithRecord, IsSplit};
+
+use crate::error::AuditError;
+use crate::stream::{begin, read_line, take_pending};
+use lt_history::{Checker, Expected, HistoryLineError, Line};
+use lt_plain::{Call, KeyState};
+use std::alloc::{AllocError, Global};
+use std::io::BufRead;
+
+/// How many lines of the key before the line are kept.
+pub const MOST_LINES: usize = 5;
+
+/// A line of a text, and what the rules say of it.
+#[derive(Debug, Drop)]
+pub struct Explained {
+    /// The line, without its line end.
+    pub line: Vec<u8>,
+    /// The line's call, and the record of its key before it. `None` if the line does not have the form of a line.
+    pub asked: Option<(Call, KeyState)>,
+    /// What the rules give for the call. `None` if the line does not have the form of a line, or does not come next.
+    pub expected: Option<Expected>,
+    /// The latest lines before it, at most [`MOST_LINES`] and all of one key, in their order.
+    pub before: Vec<Vec<u8>>,
+}
+
+/// Keeps the latest lines of a key: this one is the key's line with this index.
+fn note_line(
+    alloc: Global,
+    recent: &mut Vec<Vec<u8>>,
+    line: &[u8],
+    index: u64,
+) -> Result<(), AllocError> {
+    if index == 1 {
+        recent.clear();
+    }
+    if recent.len() >= MOST_LINES {
+        let _oldest = recent.remove(0);
+    }
+    recent.push(Vec::from_slice(alloc, line)?)?;
+    Ok(())
+}
+
+/// The line without its line end, if it has one.
+fn without_end(line: &[u8]) -> &[u8]
+    ensures { IsSplit line.now result.now }
+{
+    match line.split_last() {
+        Some((b'\n', rest)) => rest,
+        _ => line,
+    }
+}
+
+/// The index of the latest line, or 1 before the first one.
+fn latest_index(checker: &Checker) -> u64 {
+    match checker.latest() {
+        Some((_, index)) => index,
+        None => 1,
+    }
+}
+
+/// The call of a line, and the record of its key before it, if the line has the form of a line.
+fn asked(
+    alloc: Global,
+    checker: &Checker,
+    line: &[u8],
+) -> Result<Option<(Call, KeyState)>, AuditError>
+    ensures ok { IfOk result (λ x. IfSome x (λ a. IsCallWithRecord checker.now line.now a.0 a.1)) }
+    ensures err { IfErr result (λ e. e ≡ AuditError.Memory) }
+{
+    match lt_history::read_line(alloc, line) {
+        Ok(Line { key, step, .. }) => {
+            let state = checker.state_before(alloc, &key)?;
+            Ok(Some((step.call, state)))
+        }
+        Err(HistoryLineError::Memory) => Err(AuditError::Memory),
+        Err(HistoryLineError::Fault(_)) => Ok(None),
+    }
+}
+
+/// What the rules give for the call of this line, if it comes next.
+fn expected(alloc: Global, checker: Checker, line: &[u8]) -> Result<Option<Expected>, AuditError>
+    ensures ok { IfOk result (λ x. IfSome x (GivesByRules checker line.now)) }
+    ensures err { IfErr result (λ e. e ≡ AuditError.Memory) }
+{
+    match checker.expected(alloc, line) {
+        Ok(expected) => Ok(Some(expected)),
+        Err(HistoryLineError::Memory) => Err(AuditError::Memory),
+        Err(HistoryLineError::Fault(_)) => Ok(None),
+    }
+}
+
+/// Reads the text up to the line with this number, counted from 1, and says what the rules give for it. The lines
+/// before it must be legal, as they are if a check refused this one. `Read` also means that the text has fewer lines.
+pub fn explain<R: BufRead>(
+    alloc: Global,
+    reader: &mut R,
+    number: usize,
+) -> Result<Explained, AuditError>
+    ensures ok { IfOk result (IsExplained (R.remaining reader.old)) }
+    ensures err { IfErr result (IsAuditedAs (R.remaining reader.old)) }
+{
+    let (mut checker, mut pending) = match begin(alloc, reader) {
+        Ok(begun) => begun,
+        Err(error) => return Err(error),
+    };
+    let mut recent = Vec::new(alloc);
+    for _ in 2..number {
+        if read_line(reader, &mut pending)? == 0 {
+            return Err(AuditError::Read);
+        }
+        let line = Vec::from_slice(alloc, without_end(&pending))?;
+        if let Err(error) = take_pending(alloc, &mut checker, &mut pending) {
+            return Err(error);
+        }
+        note_line(alloc, &mut recent, &line, latest_index(&checker))?;
+    }
+    if read_line(reader, &mut pending)? == 0 {
+        return Err(AuditError::Read);
+    }
+    let line = Vec::from_slice(alloc, without_end(&pending))?;
+    let asked = asked(alloc, &checker, &line)?;
+    let expected = expected(alloc, checker, &line)?;
+    Ok(Explained {
+        line,
+        asked,
+        expected,
+        before: recent,
+    })
+}

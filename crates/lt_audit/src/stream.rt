@@ -1,0 +1,116 @@
+//! Is the text that a reader gives the text of legal histories?
+//!
+//! [`check_stream`] reads line by line and gives each line to a checker of `lt_history`. It stops at the first fault.
+//! Read next: `specs/Audit.antt`, and `lt_history/src/pieces.rt` for the checker.
+ghost use Rattle.std.specs.Prelude.{◌≡◌, ◌+◌, ◌≤◌, length, IfOk, IfErr, Ok, Err};
+ghost use Rattle.lt_history.specs.Pieces.{TakesLines, HasBegun, LacksHeader};
+ghost use Rattle.lt_audit.specs.Audit.{IsLineRead, IsBeginning, IsReading, RefusesPending, EndsWith, EndsAs, IsAudited, IsAuditedAs, stopped};
+
+use crate::error::{AuditError, stopped};
+use lt_history::{Checker, Fault, Report};
+use std::alloc::Global;
+use std::io::BufRead;
+
+/// The length of the first line of a text, with its line end.
+const HEADER: usize = 8;
+
+/// Appends the next line to these bytes, with its line end if it has one. Returns how many bytes came; 0 means the end.
+pub(crate) fn read_line<R: BufRead>(
+    reader: &mut R,
+    pending: &mut Vec<u8>,
+) -> Result<usize, AuditError>
+    ensures ok { IfOk result
+        (IsLineRead (R.remaining reader.old) (R.remaining reader.new) pending.old.items pending.new.items) }
+    ensures err { IfErr result (λ e. e ≡ AuditError.Read) }
+{
+    match reader.read_until(b'\n', pending) {
+        Ok(n) => Ok(n),
+        Err(_) => Err(AuditError::Read),
+    }
+}
+
+/// Reads lines until a first line of a text must be among them.
+fn read_beginning<R: BufRead>(alloc: Global, reader: &mut R) -> Result<Vec<u8>, AuditError>
+    ensures ok { IfOk result (λ pending. IsBeginning (R.remaining reader.old) (R.remaining reader.new) pending.items) }
+    ensures err { IfErr result (λ e. e ≡ AuditError.Read) }
+{
+    let mut pending = Vec::new(alloc);
+    while pending.len() < HEADER {
+        if read_line(reader, &mut pending)? == 0 {
+            return Ok(pending);
+        }
+    }
+    Ok(pending)
+}
+
+/// Gives the whole lines of these bytes to the checker, and keeps what comes after them.
+pub(crate) fn take_pending(
+    alloc: Global,
+    checker: &mut Checker,
+    pending: &mut Vec<u8>,
+) -> Result<(), AuditError>
+    ensures ok { IfOk result (λ _. TakesLines checker.old pending.old.items checker.new pending.new.items) }
+    ensures err { IfErr result (RefusesPending checker.old pending.old.items) }
+{
+    let rest = match checker.take_lines(alloc, pending) {
+        Ok(rest) => rest,
+        Err(refusal) => return Err(stopped(refusal)),
+    };
+    let kept = Vec::from_slice(alloc, rest)?;
+    *pending = kept;
+    Ok(())
+}
+
+/// The verdict on a text that ends with these bytes.
+fn end(alloc: Global, checker: Checker, pending: &[u8]) -> Result<Report, AuditError>
+    ensures ok { IfOk result (λ report. EndsWith checker pending.now (Ok report)) }
+    ensures err { IfErr result (EndsAs checker pending.now) }
+{
+    match checker.end(alloc, pending) {
+        Ok(report) => Ok(report),
+        Err(refusal) => Err(stopped(refusal)),
+    }
+}
+
+/// Reads the first line of a text, and what was read with it.
+pub(crate) fn begin<R: BufRead>(
+    alloc: Global,
+    reader: &mut R,
+) -> Result<(Checker, Vec<u8>), AuditError>
+    ensures ok { IfOk result
+        (λ begun. IsReading (R.remaining reader.old) (R.remaining reader.new) begun.0 begun.1.items) }
+    ensures err { IfErr result (IsAuditedAs (R.remaining reader.old)) }
+{
+    let beginning = read_beginning(alloc, reader)?;
+    let Some((checker, lines)) = Checker::begin(alloc, &beginning) else {
+        return Err(AuditError::Refused {
+            line: 1,
+            fault: Fault::Header,
+        });
+    };
+    let pending = Vec::from_slice(alloc, lines)?;
+    Ok((checker, pending))
+}
+
+/// Checks the text that the reader gives, of any length, and stops at the first fault. The verdict is that of
+/// [`check`](lt_history::check) on the whole text. It holds the longest line and the record of one key.
+///
+/// `Refused`, `Read` and `Memory` are as [`AuditError`] says. `TooLong` means 2^64 lines.
+pub fn check_stream<R: BufRead>(alloc: Global, reader: &mut R) -> Result<Report, AuditError>
+    ensures ok { IfOk result (λ report. IsAudited (R.remaining reader.old) (Ok report)) }
+    ensures err { IfErr result (IsAuditedAs (R.remaining reader.old)) }
+{
+    let (mut checker, mut pending) = match begin(alloc, reader) {
+        Ok(begun) => begun,
+        Err(error) => return Err(error),
+    };
+    for _ in 0..u64::MAX {
+        if let Err(error) = take_pending(alloc, &mut checker, &mut pending) {
+            return Err(error);
+        }
+        if read_line(reader, &mut pending)? == 0 {
+            return end(alloc, checker, &pending);
+        }
+    }
+    Err(AuditError::TooLong)
+}

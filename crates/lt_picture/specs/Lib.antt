@@ -1,0 +1,4 @@
+pub mod Escape
+pub mod Cells
+pub mod Phases
+pub mod Bars

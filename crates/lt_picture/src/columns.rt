@@ -1,0 +1,90 @@
+//! How wide is each column of the table? The columns fill the width of the terminal exactly. Each has its least width,
+//! and the rest goes first to what a usual step needs, and then to what a crowded key needs.
+ghost use Rattle.std.specs.Prelude.{◌≡◌, ◌≤◌, ◌+◌, ◌<◌, ◌^◌, ◌↔◌, All, IsSome, IfSome, sum};
+
+/// The columns: step, pass, call, reply, holder, reserved, writers, readers, let.
+pub(crate) const COLUMNS: usize = 9;
+
+/// The least widths of all columns together.
+const LEAST: usize = 40;
+
+/// How the table is laid out.
+#[derive(Clone, Copy, Debug, PartialEq, Eq)]
+pub struct Layout {
+    /// The width of a line in columns of the terminal, from 40 to 65535.
+    width: usize,
+    /// Whether ANSI colours mark the columns.
+    pub colours: bool,
+    ghost wide: { 40 ≤ width },
+    ghost bounded: { width < 2 ^ 16 },
+}
+
+impl Layout {
+    ghost use Rattle.std.specs.Prelude.{◌≡◌, ◌≤◌, ◌<◌, ◌^◌, ◌↔◌, IsSome, IfSome};
+
+    /// The layout for a terminal of this width, or `None` below 40 columns.
+    pub fn new(width: u16, colours: bool) -> Option<Layout>
+        ensures some { IsSome result ↔ (40 ≤ width) }
+        ensures width { IfSome result (λ layout. layout.width ≡ width) }
+        ensures colours { IfSome result (λ layout. layout.colours ≡ colours) }
+    {
+        let width = width as usize;
+        if width < LEAST {
+            return None;
+        }
+        Some(Layout { width, colours })
+    }
+
+    /// The width of a line in columns of the terminal.
+    pub fn width(&self) -> usize
+        ensures value { result ≡ self.now.width }
+        ensures wide { 40 ≤ result }
+        ensures bounded { result < 2 ^ 16 }
+    {
+        self.width
+    }
+}
+
+/// Takes from what is left, at most this much.
+fn take(left: &mut usize, most: usize) -> usize
+    ensures { result + left.new ≡ left.old }
+{
+    let taken = most.min(*left);
+    *left -= taken;
+    taken
+}
+
+/// The widths of the columns. A column's width includes the space before its text.
+pub(crate) fn widths(width: usize) -> [usize; COLUMNS]
+    requires wide { 40 ≤ width }
+    requires bounded { width < 2 ^ 16 }
+    ensures sum { sum result ≡ width }
+    ensures each { All (λ w. 1 ≤ w) result }
+{
+    let mut left = width - LEAST;
+    let call = 8 + take(&mut left, 12);
+    let step = 4 + take(&mut left, 2);
+    let pass = 3 + take(&mut left, 2);
+    let reply = 5 + take(&mut left, 2);
+    let holder = 5 + take(&mut left, 5);
+    let writers = 4 + take(&mut left, 4);
+    let lets = 3 + take(&mut left, 5);
+    let readers = 4 + take(&mut left, 4);
+    let reserved = 4 + take(&mut left, 5);
+    let more_call = take(&mut left, 8);
+    let more_writers = take(&mut left, 8);
+    let more_readers = take(&mut left, 8);
+    let more_reply = take(&mut left, 9);
+    let more_holder = take(&mut left, 8);
+    [
+        step,
+        pass,
+        call + more_call,
+        reply + more_reply,
+        holder + more_holder,
+        reserved,
+        writers + more_writers,
+        readers + more_readers,
+        lets + left,
+    ]
+}

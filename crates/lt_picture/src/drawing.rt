@@ -1,0 +1,131 @@
+//! How is a shape written in SVG? Each function appends one element, or the start of one. Numbers are pixels.
+use lt_text::put::put_number;
+use std::alloc::AllocError;
+
+/// A rectangle.
+#[derive(Clone, Copy)]
+pub(crate) struct Area {
+    pub x: u64,
+    pub y: u64,
+    pub width: u64,
+    pub height: u64,
+}
+
+/// Appends the bytes as they are.
+pub(crate) fn put(out: &mut Vec<u8>, bytes: &[u8]) -> Result<(), AllocError> {
+    out.extend_from_slice(bytes)
+}
+
+/// Appends an attribute with a number.
+pub(crate) fn put_attribute(out: &mut Vec<u8>, name: &[u8], value: u64) -> Result<(), AllocError> {
+    put(out, b" ")?;
+    put(out, name)?;
+    put(out, b"=\"")?;
+    put_number(out, value)?;
+    put(out, b"\"")
+}
+
+/// Appends an attribute with the name of a class.
+fn put_class(out: &mut Vec<u8>, class: &[u8]) -> Result<(), AllocError> {
+    put(out, b" class=\"")?;
+    put(out, class)?;
+    put(out, b"\"")
+}
+
+/// Appends the attributes of a rectangle.
+fn put_area(out: &mut Vec<u8>, area: Area) -> Result<(), AllocError> {
+    put_attribute(out, b"x", area.x)?;
+    put_attribute(out, b"y", area.y)?;
+    put_attribute(out, b"width", area.width)?;
+    put_attribute(out, b"height", area.height)
+}
+
+/// Appends a rectangle.
+pub(crate) fn put_rect(out: &mut Vec<u8>, class: &[u8], area: Area) -> Result<(), AllocError> {
+    put(out, b"<rect")?;
+    put_class(out, class)?;
+    put_area(out, area)?;
+    put(out, b"/>\n")
+}
+
+/// Appends the start of a rectangle that has a title. The caller appends the title and calls [`end_titled_rect`].
+pub(crate) fn start_titled_rect(
+    out: &mut Vec<u8>,
+    class: &[u8],
+    area: Area,
+) -> Result<(), AllocError> {
+    put(out, b"<rect")?;
+    put_class(out, class)?;
+    put_area(out, area)?;
+    put(out, b"><title>")
+}
+
+pub(crate) fn end_titled_rect(out: &mut Vec<u8>) -> Result<(), AllocError> {
+    put(out, b"</title></rect>\n")
+}
+
+/// Appends the start of a text. The caller appends the text itself and calls [`end_text`].
+pub(crate) fn start_text(
+    out: &mut Vec<u8>,
+    class: &[u8],
+    x: u64,
+    y: u64,
+) -> Result<(), AllocError> {
+    put(out, b"<text")?;
+    put_class(out, class)?;
+    put_attribute(out, b"x", x)?;
+    put_attribute(out, b"y", y)?;
+    put(out, b">")
+}
+
+pub(crate) fn end_text(out: &mut Vec<u8>) -> Result<(), AllocError> {
+    put(out, b"</text>\n")
+}
+
+/// Appends a text that needs no escape.
+pub(crate) fn put_text(
+    out: &mut Vec<u8>,
+    class: &[u8],
+    x: u64,
+    y: u64,
+    text: &[u8],
+) -> Result<(), AllocError> {
+    start_text(out, class, x, y)?;
+    put(out, text)?;
+    end_text(out)
+}
+
+/// Appends a vertical line.
+pub(crate) fn put_vertical(
+    out: &mut Vec<u8>,
+    class: &[u8],
+    x: u64,
+    from: u64,
+    to: u64,
+) -> Result<(), AllocError> {
+    put(out, b"<path")?;
+    put_class(out, class)?;
+    put(out, b" d=\"M")?;
+    put_number(out, x)?;
+    put(out, b" ")?;
+    put_number(out, from)?;
+    put(out, b"V")?;
+    put_number(out, to)?;
+    put(out, b"\"/>\n")
+}
+
+/// Appends a circle with a letter in it.
+pub(crate) fn put_marker(
+    out: &mut Vec<u8>,
+    class: &[u8],
+    x: u64,
+    y: u64,
+    letter: &[u8],
+) -> Result<(), AllocError> {
+    put(out, b"<circle")?;
+    put_class(out, class)?;
+    put_attribute(out, b"cx", x)?;
+    put_attribute(out, b"cy", y)?;
+    put(out, b" r=\"9\"/>\n")?;
+    put_text(out, b"letter", x, y.saturating_add(4), letter)
+}

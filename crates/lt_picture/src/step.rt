@@ -1,0 +1,18 @@
+//! What is drawn? The steps of one key, each with the key's state after it.
+use lt_ids::Ticket;
+use lt_plain::{Call, KeyState, Reply};
+
+/// A step of a key.
+#[derive(Debug, Drop)]
+pub struct ShownStep {
+    /// The step's index among the steps of its key, from 1. It is the number that the table and the picture show.
+    pub index: u64,
+    /// The pass that made the call.
+    pub pass: u32,
+    pub call: Call,
+    pub reply: Reply,
+    /// The tickets of the waits that the step ended, in order.
+    pub tickets: Vec<Ticket>,
+    /// The state of the key after the step.
+    pub state: KeyState,
+}

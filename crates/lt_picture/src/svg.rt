@@ -1,0 +1,343 @@
+//! How does the layout become a picture? From the back to the front: the lanes and the steps' columns, the bars, the
+//! arrows, and a marker for each call; then the legend. The bars differ in their patterns and outlines and not only in
+//! their colours, so the picture can be printed in grey.
+ghost use Rattle.std.specs.Prelude.{◌≡◌, ◌<◌, ◌↔◌, Err, length};
+
+use crate::drawing::{
+    Area, end_text, end_titled_rect, put, put_attribute, put_marker, put_rect, put_vertical,
+    start_text, start_titled_rect,
+};
+use crate::error::PictureError;
+use crate::escape::put_escaped;
+use crate::grid::{BAR, Grid};
+use crate::lanes::{Arrow, Bar, Lanes, lanes_of};
+use crate::legend::put_legend;
+use crate::step::ShownStep;
+use crate::timeline::{Lane, Phase, lane_of};
+use crate::words::put_step_words;
+use lt_ids::{Access, Key};
+use lt_plain::{Call, Reply};
+use lt_text::put::put_number;
+use std::alloc::{AllocError, Global};
+
+/// The styles, the patterns and the head of an arrow.
+const STYLE: &[u8] = b"<style>\
+text{font-family:Helvetica,Arial,sans-serif;font-size:13px;fill:#222}\
+.key{font-size:17px;font-weight:bold}\
+.steps,.number{fill:#555}\
+.number{font-size:11px;text-anchor:middle}\
+.name{text-anchor:end}\
+.letter{font-size:11px;font-weight:bold;text-anchor:middle;pointer-events:none}\
+.even{fill:#f4f5f7}.odd{fill:#fff}\
+.column{fill:#000;fill-opacity:0}.column:hover{fill-opacity:.06}\
+.rule{stroke:#d9dce1;stroke-width:1}\
+.holds{fill:#0072b2;stroke:#00466e}\
+.reserved{fill:url(#dots);stroke:#a86400;stroke-width:1.5}\
+.waits{fill:url(#stripes);stroke:#6b6b6b}\
+.idle{fill:#fff;stroke:#6b6b6b;stroke-dasharray:4 3}\
+.halo{stroke:#fff;stroke-width:5;fill:none}\
+.arrow{stroke:#111;stroke-width:1.8;fill:none;marker-end:url(#head)}\
+.marker{fill:#fff;stroke:#222;stroke-width:1.4}\
+.none{stroke-dasharray:2.5 2}\
+</style>\n<defs>\
+<pattern id=\"stripes\" width=\"7\" height=\"7\" patternUnits=\"userSpaceOnUse\" patternTransform=\"rotate(45)\">\
+<rect width=\"7\" height=\"7\" fill=\"#ececec\"/><rect width=\"2.2\" height=\"7\" fill=\"#a9a9a9\"/></pattern>\
+<pattern id=\"dots\" width=\"7\" height=\"7\" patternUnits=\"userSpaceOnUse\">\
+<rect width=\"7\" height=\"7\" fill=\"#f0a830\"/><circle cx=\"3.5\" cy=\"3.5\" r=\"1.3\" fill=\"#7a4700\"/></pattern>\
+<marker id=\"head\" viewBox=\"0 0 10 10\" refX=\"9\" refY=\"5\" markerWidth=\"6\" markerHeight=\"6\" orient=\"auto\">\
+<path d=\"M0 0L10 5L0 10Z\" fill=\"#111\"/></marker></defs>\n";
+
+/// Appends the name of a lane's owner.
+fn put_name(out: &mut Vec<u8>, lane: Lane) -> Result<(), AllocError> {
+    match lane {
+        Lane::Txn(number) => {
+            put(out, b"txn ")?;
+            put_number(out, number)
+        }
+        Lane::Request(number) => {
+            put(out, b"request ")?;
+            put_number(out, number)
+        }
+    }
+}
+
+/// Appends the start of the picture, with its size.
+fn put_start(out: &mut Vec<u8>, grid: Grid) -> Result<(), AllocError> {
+    put(out, b"<svg xmlns=\"http://www.w3.org/2000/svg\"")?;
+    put_attribute(out, b"width", grid.width())?;
+    put_attribute(out, b"height", grid.height())?;
+    put(out, b" viewBox=\"0 0 ")?;
+    put_number(out, grid.width())?;
+    put(out, b" ")?;
+    put_number(out, grid.height())?;
+    put(out, b"\">\n")?;
+    put(out, STYLE)
+}
+
+/// Appends `steps FIRST to LAST`.
+pub(crate) fn put_range(out: &mut Vec<u8>, steps: &[ShownStep]) -> Result<(), AllocError> {
+    let (Some(first), Some(last)) = (steps.first(), steps.last()) else {
+        return put(out, b"no steps");
+    };
+    put(out, b"steps ")?;
+    put_number(out, first.index)?;
+    put(out, b" to ")?;
+    put_number(out, last.index)
+}
+
+/// Appends the key and the range of the steps.
+fn put_head(out: &mut Vec<u8>, key: &Key, steps: &[ShownStep]) -> Result<(), AllocError> {
+    start_text(out, b"key", 24, 26)?;
+    put(out, b"key ")?;
+    put_escaped(out, key.as_bytes())?;
+    end_text(out)?;
+    start_text(out, b"steps", 24, 46)?;
+    put_range(out, steps)?;
+    end_text(out)
+}
+
+/// Appends the background of a lane and its name.
+fn put_lane(out: &mut Vec<u8>, grid: Grid, index: u64, lane: Lane) -> Result<(), AllocError> {
+    let area = Area {
+        x: grid.left(),
+        y: grid.top(index),
+        width: grid.right().saturating_sub(grid.left()),
+        height: grid.lane(),
+    };
+    put_rect(out, if index % 2 == 0 { b"even" } else { b"odd" }, area)?;
+    start_text(
+        out,
+        b"name",
+        grid.left().saturating_sub(10),
+        grid.middle(index).saturating_add(4),
+    )?;
+    put_name(out, lane)?;
+    end_text(out)
+}
+
+/// Appends the column of a step: a rule, an area that shows the step's words to a pointer, and the step's number.
+fn put_step_column(
+    out: &mut Vec<u8>,
+    grid: Grid,
+    number: u64,
+    step: &ShownStep,
+) -> Result<(), AllocError> {
+    let x = grid.x(number);
+    put_vertical(out, b"rule", x, grid.top(0), grid.bottom())?;
+    let area = Area {
+        x: x.saturating_sub(grid.step() / 2),
+        y: grid.top(0),
+        width: grid.step(),
+        height: grid.bottom().saturating_sub(grid.top(0)),
+    };
+    start_titled_rect(out, b"column", area)?;
+    put_step_words(out, step)?;
+    end_titled_rect(out)?;
+    start_text(out, b"number", x, grid.bottom().saturating_add(18))?;
+    put_number(out, step.index)?;
+    end_text(out)
+}
+
+/// The class of a phase's bar, and what the phase is in words.
+fn phase_words(phase: Phase) -> (&'static [u8], &'static [u8]) {
+    match phase {
+        Phase::Out => (b"out", b" is not here"),
+        Phase::Waits(_) => (b"waits", b" waits"),
+        Phase::Idle => (b"idle", b" is queued and does not wait"),
+        Phase::Reserved => (b"reserved", b" has the reservation"),
+        Phase::Holds => (b"holds", b" holds the lock"),
+    }
+}
+
+/// Appends the index of the step with this number, or `on` if there is no such step.
+fn put_index_of(out: &mut Vec<u8>, steps: &[ShownStep], number: usize) -> Result<(), AllocError> {
+    match steps.get(number.saturating_sub(1)) {
+        Some(step) => {
+            put(out, b" to step ")?;
+            put_number(out, step.index)
+        }
+        None => put(out, b" on"),
+    }
+}
+
+/// Appends what the bar says in words.
+fn put_bar_words(
+    out: &mut Vec<u8>,
+    layout: &Lanes,
+    steps: &[ShownStep],
+    bar: &Bar,
+) -> Result<(), AllocError> {
+    if let Some(lane) = layout.lanes.get(bar.lane) {
+        put_name(out, *lane)?;
+    }
+    let (_, words) = phase_words(bar.phase);
+    put(out, words)?;
+    if let Some(step) = steps.get(bar.first.saturating_sub(1)) {
+        put(out, b", from step ")?;
+        put_number(out, step.index)?;
+    }
+    put_index_of(out, steps, bar.end)
+}
+
+/// Appends a bar.
+fn put_bar(
+    out: &mut Vec<u8>,
+    grid: Grid,
+    layout: &Lanes,
+    steps: &[ShownStep],
+    bar: &Bar,
+) -> Result<(), AllocError> {
+    let (class, _) = phase_words(bar.phase);
+    let x = grid.x(bar.first as u64);
+    let area = Area {
+        x,
+        y: grid.middle(bar.lane as u64).saturating_sub(BAR / 2),
+        width: grid.bar_end(bar.end as u64).saturating_sub(x),
+        height: BAR,
+    };
+    start_titled_rect(out, class, area)?;
+    put_bar_words(out, layout, steps, bar)?;
+    end_titled_rect(out)
+}
+
+/// Appends the line of an arrow. It leads from the marker of the call to the edge of the bar whose wait the call ended.
+fn put_arrow(out: &mut Vec<u8>, grid: Grid, class: &[u8], arrow: &Arrow) -> Result<(), AllocError> {
+    let from = grid.middle(arrow.from as u64);
+    let to = grid.middle(arrow.to as u64);
+    let tip = if from < to {
+        to.saturating_sub(BAR / 2)
+    } else {
+        to.saturating_add(BAR / 2)
+    };
+    put_vertical(out, class, grid.x(arrow.step as u64), from, tip)
+}
+
+/// Appends the arrows. White lines behind all of them set them off from the bars.
+fn put_arrows(out: &mut Vec<u8>, grid: Grid, arrows: &[Arrow]) -> Result<(), AllocError> {
+    for arrow in arrows {
+        put_arrow(out, grid, b"halo", arrow)?;
+    }
+    for arrow in arrows {
+        put_arrow(out, grid, b"arrow", arrow)?;
+    }
+    Ok(())
+}
+
+/// The letter of a call.
+fn letter(call: Call) -> &'static [u8] {
+    match call {
+        Call::Visit {
+            access: Access::Read,
+            ..
+        } => b"r",
+        Call::Visit {
+            access: Access::Write,
+            ..
+        } => b"w",
+        Call::Acquire { .. } => b"A",
+        Call::Update { .. } => b"U",
+        Call::Finish { .. } => b"F",
+        Call::Leave { .. } => b"L",
+        Call::Look { .. } => b"?",
+    }
+}
+
+/// The class of the marker of a call with this reply. Some replies tell that nothing changed.
+fn marker_class(reply: Reply) -> &'static [u8] {
+    match reply {
+        Reply::TooLong | Reply::Other | Reply::Kept | Reply::Absent => b"marker none",
+        _ => b"marker",
+    }
+}
+
+/// Appends the marker of a call, in the caller's lane.
+fn put_call_marker(
+    out: &mut Vec<u8>,
+    grid: Grid,
+    layout: &Lanes,
+    number: u64,
+    step: &ShownStep,
+) -> Result<(), AllocError> {
+    let lane = lane_of(step.call);
+    let Some(index) = layout.lanes.iter().position(|l| *l == lane) else {
+        return Ok(());
+    };
+    put(out, b"<g><title>")?;
+    put_step_words(out, step)?;
+    put(out, b"</title>\n")?;
+    put_marker(
+        out,
+        marker_class(step.reply),
+        grid.x(number),
+        grid.middle(index as u64),
+        letter(step.call),
+    )?;
+    put(out, b"</g>\n")
+}
+
+/// Appends the lanes and the columns of the steps.
+fn put_background(
+    out: &mut Vec<u8>,
+    grid: Grid,
+    layout: &Lanes,
+    steps: &[ShownStep],
+) -> Result<(), AllocError> {
+    let mut index = 0u64;
+    for lane in &layout.lanes {
+        put_lane(out, grid, index, *lane)?;
+        index = index.saturating_add(1);
+    }
+    let mut number = 1u64;
+    for step in steps {
+        put_step_column(out, grid, number, step)?;
+        number = number.saturating_add(1);
+    }
+    Ok(())
+}
+
+/// Appends the bars, the arrows and the markers.
+fn put_foreground(
+    out: &mut Vec<u8>,
+    grid: Grid,
+    layout: &Lanes,
+    steps: &[ShownStep],
+) -> Result<(), AllocError> {
+    for bar in &layout.bars {
+        put_bar(out, grid, layout, steps, bar)?;
+    }
+    put_arrows(out, grid, &layout.arrows)?;
+    let mut number = 1u64;
+    for step in steps {
+        put_call_marker(out, grid, layout, number, step)?;
+        number = number.saturating_add(1);
+    }
+    Ok(())
+}
+
+/// Appends the picture with this layout.
+pub(crate) fn put_picture(
+    out: &mut Vec<u8>,
+    key: &Key,
+    layout: &Lanes,
+    steps: &[ShownStep],
+) -> Result<(), AllocError> {
+    let grid = Grid::new(layout, steps);
+    put_start(out, grid)?;
+    put_head(out, key, steps)?;
+    put_background(out, grid, layout, steps)?;
+    put_foreground(out, grid, layout, steps)?;
+    put_legend(out, grid)?;
+    put(out, b"</svg>\n")
+}
+
+/// An SVG picture of these steps of the key, as ASCII text: the steps from left to right, and a lane for each
+/// transaction and each request. It fails with `TooManySteps` exactly for more than 400 steps, and otherwise only when
+/// an allocation fails.
+pub fn picture(alloc: Global, key: &Key, steps: &[ShownStep]) -> Result<Vec<u8>, PictureError>
+    ensures too_many { (result ≡ Err PictureError.TooManySteps) ↔ (400 < length steps.now) }
+{
+    let layout = lanes_of(alloc, steps)?;
+    let mut out = Vec::new(alloc);
+    put_picture(&mut out, key, &layout, steps)?;
+    Ok(out)
+}

@@ -1,0 +1,5 @@
+pub mod HeadLaws
+pub mod StepLaws
+pub mod JsonLaws
+pub mod Numbered
+pub mod LineEnds

@@ -1,0 +1,9 @@
+pub mod Step
+pub mod Trace
+pub mod Json
+pub mod Members
+pub mod Heads
+pub mod Page
+pub mod Form
+pub mod Errors
+pub mod Laws

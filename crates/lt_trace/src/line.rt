@@ -1,0 +1,170 @@
+//! What is a line of a trace? [`TraceLine::read`] reads one in the form of words, given without its line end: the
+//! line of a step of histories without its index. Read next: `specs/Step.antt`, which defines what is read, and
+//! `object.rt` for the form of JSON.
+ghost use Rattle.std.specs.Prelude.{◌≡◌, ◌==◌, ◌^◌, ◌++◌, ◌∷◌, [], OnOk, IfOk, is_some, true};
+ghost use Rattle.std.specs.Ordering.{nat_cmp};
+ghost use Rattle.std.specs.Cmp.Lexicographic.{slice_cmp};
+ghost use Rattle.std.specs.Option.{option_map};
+ghost use Rattle.lt_text.specs.Fields.{number_within};
+ghost use Rattle.lt_text.specs.Calls.{Gives};
+ghost use Rattle.lt_history.specs.Lines.{tickets_of, lets_in_words};
+ghost use Rattle.lt_history.specs.Lines.{key_if_legal};
+ghost use Rattle.lt_trace.specs.Step.{unnumbered_step_at, is_step_text, line_of_parts, trace_line_of};
+
+use lt_ids::{IdError, Key};
+use lt_plain::Reply;
+use lt_text::call::call;
+use lt_text::field::ticket;
+use lt_text::number::number;
+use lt_text::put::{put_number_word, put_word};
+use lt_text::reply::{is_reply_of, reply};
+use lt_text::words::{Words, cut};
+use std::alloc::{AllocError, Global};
+
+/// A line of a trace: its key, and the bytes of its step after the key and a space.
+#[derive(Drop)]
+pub(crate) struct TraceLine {
+    pub key: Key,
+    step: Vec<u8>,
+    ghost is_step: { is_step_text step.items ≡ true },
+}
+
+/// Whether the word is the number of a pass, from 1 to 1024.
+fn pass(word: &[u8]) -> Option<u64>
+    ensures { result ≡ number_within 1 1025 word.now }
+{
+    let n = number(word)?;
+    if n == 0 || n > 1024 {
+        return None;
+    }
+    Some(n)
+}
+
+/// Reads the pass, the call, the sign `=` and the reply.
+#[tactic(auto, unfolding(crate::specs::Step::unnumbered_step_at, lt_history::specs::Lines::equals_of))]
+fn read_step(words: &mut Words) -> Option<Reply>
+    ensures { Gives result words.new (unnumbered_step_at words.old) }
+{
+    pass(words.next()?)?;
+    let call = call(words)?;
+    let equals = words.next()?;
+    if equals != b"=".as_slice() {
+        return None;
+    }
+    let reply = reply(words)?;
+    if !is_reply_of(call, reply) {
+        return None;
+    }
+    Some(reply)
+}
+
+/// Whether all remaining words are tickets.
+fn are_tickets(words: &mut Words) -> bool
+    ensures { result ≡ is_some (tickets_of words.old) }
+{
+    while let Some(word) = words.next() {
+        if ticket(word).is_none() {
+            return false;
+        }
+    }
+    true
+}
+
+/// Whether the remaining words are `let` and one ticket or more, or none.
+#[tactic(auto, unfolding(lt_history::specs::Lines::lets_in_words))]
+fn are_lets(words: &mut Words) -> bool
+    ensures { result ≡ is_some (lets_in_words words.old) }
+{
+    let Some(word) = words.next() else {
+        return true;
+    };
+    if word != b"let".as_slice() || words.peek().is_none() {
+        return false;
+    }
+    are_tickets(words)
+}
+
+/// Whether these bytes, which stand after a key and a space, spell a step.
+#[tactic(auto, unfolding(crate::specs::Step::are_step_words))]
+fn is_step(bytes: &[u8]) -> bool
+    ensures { result ≡ is_step_text bytes.now }
+{
+    let mut words = Words::new(bytes);
+    read_step(&mut words).is_some() && are_lets(&mut words)
+}
+
+/// The key with these bytes, or `None` if they are not those of a key.
+fn key(alloc: Global, word: &[u8]) -> Result<Option<Key>, AllocError>
+    ensures { IfOk result (λ o. o ≡ key_if_legal word.now) }
+{
+    match Key::from_bytes(alloc, word) {
+        Ok(key) => Ok(Some(key)),
+        Err(IdError::Memory) => Err(AllocError),
+        Err(_) => Ok(None),
+    }
+}
+
+impl TraceLine {
+    ghost use Rattle.lt_trace.specs.Trace.{parts_of_line, plain_text, numbered_text};
+
+    /// The line with this key and these bytes after it and a space, or `None` if they spell no line of a trace.
+    pub(crate) fn from_parts(
+        alloc: Global,
+        word: &[u8],
+        step: &[u8],
+    ) -> Result<Option<TraceLine>, AllocError>
+        ensures { IfOk result (λ o. option_map parts_of_line o ≡ line_of_parts word.now step.now) }
+    {
+        if !is_step(step) {
+            return Ok(None);
+        }
+        let Some(key) = key(alloc, word)? else {
+            return Ok(None);
+        };
+        let mut bytes = Vec::new(alloc);
+        bytes.extend_from_slice(step)?;
+        Ok(Some(TraceLine { key, step: bytes }))
+    }
+
+    /// Reads a line in the form of words, given without its line end. `None` if it is no line of a trace.
+    pub(crate) fn read(alloc: Global, bytes: &[u8]) -> Result<Option<TraceLine>, AllocError>
+        ensures { IfOk result (λ o. option_map parts_of_line o ≡ trace_line_of bytes.now) }
+    {
+        match cut(bytes, b' ') {
+            None => Ok(None),
+            Some((word, step)) => TraceLine::from_parts(alloc, word, step),
+        }
+    }
+
+    /// How many bytes of memory it takes beside its entry in a list. A key of more than 22 bytes is in an allocation
+    /// of its own.
+    pub(crate) fn size(&self) -> usize {
+        let key: usize = if self.key.as_bytes().len() > 22 {
+            64
+        } else {
+            0
+        };
+        self.step.capacity().saturating_add(key)
+    }
+
+    /// Appends the line as it was read, with its line end.
+    pub(crate) fn put(&self, out: &mut Vec<u8>) -> Result<(), AllocError>
+        ensures { OnOk result (out.new.items ≡ out.old.items ++ plain_text self.now) }
+    {
+        out.extend_from_slice(self.key.as_bytes())?;
+        put_word(out, &self.step)?;
+        out.push(b'\n')?;
+        Ok(())
+    }
+
+    /// Appends the line with this index after its key, and its line end.
+    pub(crate) fn put_numbered(&self, out: &mut Vec<u8>, index: u64) -> Result<(), AllocError>
+        ensures { OnOk result (out.new.items ≡ out.old.items ++ numbered_text index self.now) }
+    {
+        out.extend_from_slice(self.key.as_bytes())?;
+        put_number_word(out, index)?;
+        put_word(out, &self.step)?;
+        out.push(b'\n')?;
+        Ok(())
+    }
+}
