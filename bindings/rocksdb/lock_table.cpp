@@ -69,7 +69,7 @@ bool Session::sleep_at(const std::string &key) {
 }
 
 /* Releases the session's mutex meanwhile, because the search asks all sessions for whom they wait. It asks them one
- * after the other, so it may find a cycle that never stood at one time. Such a cycle is gone at the second search. A
+ * after the other, so it may find a cycle that never existed at any one time. Such a cycle is gone at the second search. A
  * deadlock stays. */
 bool Session::must_give_way(std::unique_lock<std::mutex> &hold) {
     hold.unlock();

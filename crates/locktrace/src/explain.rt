@@ -6,8 +6,8 @@ use crate::input::open_reader;
 use lt_audit::{AuditError, Explained, Rule, check_stream, explain, rule_of};
 use lt_history::{Expected, Fault};
 use lt_ids::Ticket;
-use lt_plain::{Holder, KeyState, QueuedRequest};
-use lt_text::put::{put_number, put_number_word, put_reply, put_ticket, put_time, put_word};
+use lt_picture::put_state;
+use lt_text::put::{put_number_word, put_reply, put_ticket, put_word};
 use std::alloc::{AllocError, Global};
 use std::fs::Files;
 use std::io::Write;
@@ -16,77 +16,6 @@ use std::io::Write;
 fn put_line(out: &mut Vec<u8>, line: &[u8]) -> Result<(), AllocError> {
     out.extend_from_slice(b"    ")?;
     out.extend_from_slice(line)?;
-    out.push(b'\n')?;
-    Ok(())
-}
-
-fn put_holder(out: &mut Vec<u8>, holder: Option<Holder>) -> Result<(), AllocError> {
-    let Some(holder) = holder else {
-        return put_word(out, b"nobody");
-    };
-    put_number_word(out, holder.txn.number())?;
-    put_word(out, b"at")?;
-    put_time(out, holder.ts)
-}
-
-fn put_reservation(out: &mut Vec<u8>, first: &Option<QueuedRequest>) -> Result<(), AllocError> {
-    match first {
-        None => put_word(out, b"nobody"),
-        Some(request) => put_number_word(out, request.ticket.number()),
-    }
-}
-
-/// Appends the number of a waiter. `*` marks the distinguished one.
-fn put_waiter(
-    out: &mut Vec<u8>,
-    number: u64,
-    distinguished: Option<u64>,
-) -> Result<(), AllocError> {
-    put_number_word(out, number)?;
-    if distinguished == Some(number) {
-        out.push(b'*')?;
-    }
-    Ok(())
-}
-
-/// Appends the writers. Parentheses mark one that is inactive.
-fn put_writers(out: &mut Vec<u8>, state: &KeyState) -> Result<(), AllocError> {
-    if state.writers.is_empty() {
-        return put_word(out, b"none");
-    }
-    for writer in &state.writers {
-        let number = writer.request.ticket.number();
-        if writer.active {
-            put_waiter(out, number, state.distinguished)?;
-        } else {
-            put_word(out, b"(")?;
-            put_number(out, number)?;
-            out.push(b')')?;
-        }
-    }
-    Ok(())
-}
-
-fn put_readers(out: &mut Vec<u8>, state: &KeyState) -> Result<(), AllocError> {
-    if state.readers.is_empty() {
-        return put_word(out, b"none");
-    }
-    for reader in &state.readers {
-        put_waiter(out, reader.ticket.number(), state.distinguished)?;
-    }
-    Ok(())
-}
-
-/// Appends the record of a key.
-fn put_record(out: &mut Vec<u8>, state: &KeyState) -> Result<(), AllocError> {
-    out.extend_from_slice(b"the record of the key before it:\n    holder")?;
-    put_holder(out, state.holder)?;
-    out.extend_from_slice(b"; reserved for")?;
-    put_reservation(out, &state.reservation)?;
-    out.extend_from_slice(b"; writers")?;
-    put_writers(out, state)?;
-    out.extend_from_slice(b"; readers")?;
-    put_readers(out, state)?;
     out.push(b'\n')?;
     Ok(())
 }
@@ -145,7 +74,9 @@ fn explanation(
         if let Some(expected) = &explained.expected {
             put_expected(&mut out, expected, &rule_of(state, call))?;
         }
-        put_record(&mut out, state)?;
+        out.extend_from_slice(b"the record of the key before it:\n   ")?;
+        put_state(&mut out, state)?;
+        out.push(b'\n')?;
     }
     put_before(&mut out, &explained.before)?;
     Ok(out)

@@ -97,7 +97,8 @@ fn expected(alloc: Global, checker: Checker, line: &[u8]) -> Result<Option<Expec
 }
 
 /// Reads the text up to the line with this number, counted from 1, and says what the rules give for it. The lines
-/// before it must be legal, as they are if a check refused this one. `Read` also means that the text has fewer lines.
+/// before it must be legal, as they are if a check refused this one. `Read` also means that there is no such line of a
+/// step: the number is below 2, or the text has fewer lines.
 pub fn explain<R: BufRead>(
     alloc: Global,
     reader: &mut R,
@@ -106,6 +107,9 @@ pub fn explain<R: BufRead>(
     ensures ok { IfOk result (IsExplained (R.remaining reader.old)) }
     ensures err { IfErr result (IsAuditedAs (R.remaining reader.old)) }
 {
+    if number < 2 {
+        return Err(AuditError::Read);
+    }
     let (mut checker, mut pending) = match begin(alloc, reader) {
         Ok(begun) => begun,
         Err(error) => return Err(error),

@@ -9,38 +9,33 @@ use Rattle.lt_picture.specs.Escape.{is_printable, IsPrintable, hex_digit, printa
 printable_digit : (b : ℕ) → IsPrintable (hex_digit b)
 printable_digit b = grind (arith, nat_tests)
 
--- three or four printable bytes
-printable_hex : (a b : ℕ) → All IsPrintable (codes "\\x" ++ hex_digit a ∷ hex_digit b ∷ [])
-printable_hex a b =
-    let backslash : IsPrintable 92 = search rules in
-    let x : IsPrintable 120 = search rules in
-    let digits : All IsPrintable (hex_digit a ∷ hex_digit b ∷ []) = All-cons IsPrintable (hex_digit a) (hex_digit b ∷ []) (printable_digit a) (All-cons IsPrintable (hex_digit b) [] (printable_digit b) (All-nil IsPrintable)) in
-    All-cons IsPrintable 92 (120 ∷ hex_digit a ∷ hex_digit b ∷ []) backslash (All-cons IsPrintable 120 (hex_digit a ∷ hex_digit b ∷ []) x digits)
+-- A backslash, an `x` and two hexadecimal digits.
+each_hex : (P : ℕ → Type 0) → P 92 → P 120 → ((b : ℕ) → P (hex_digit b)) → (a b : ℕ) → All P (codes "\\x" ++ hex_digit a ∷ hex_digit b ∷ [])
+each_hex P backslash x digit a b =
+    All-cons P 92 (120 ∷ hex_digit a ∷ hex_digit b ∷ []) backslash
+    (All-cons P 120 (hex_digit a ∷ hex_digit b ∷ []) x (All-cons P (hex_digit a) (hex_digit b ∷ []) (digit a) (All-cons P (hex_digit b) [] (digit b) (All-nil P))))
+
+-- What holds of all that is written for each byte holds of the whole text.
+each_of : (P : ℕ → Type 0) (f : ℕ → List ℕ) → ((b : ℕ) → All P (f b)) → (bs : List ℕ) → All P (flat_map f bs)
+each_of P f each [] = All-nil P
+each_of P f each (b ∷ bs) = All-append P (f b) (flat_map f bs) (each b) (each_of P f each bs)
 
 printable_if : (t : Bool) (b : ℕ) → is_printable b ≡ t → All IsPrintable (if t then (b ∷ []) else (codes "\\x" ++ hex_digit (b / 16) ∷ hex_digit b ∷ []))
 printable_if true b h = All-cons IsPrintable b [] h (All-nil IsPrintable)
-printable_if false b h = printable_hex (b / 16) b
+printable_if false b h = each_hex IsPrintable (search rules) (search rules) printable_digit (b / 16) b
 
 pub printable_each : (b : ℕ) → All IsPrintable (printable_byte b)
 printable_each b = printable_if (is_printable b) b refl
 
 pub all_printable : (bs : List ℕ) → All IsPrintable (flat_map printable_byte bs)
-all_printable [] = All-nil IsPrintable
-all_printable (b ∷ bs) = All-append IsPrintable (printable_byte b) (flat_map printable_byte bs) (printable_each b) (all_printable bs)
+all_printable bs = each_of IsPrintable printable_byte printable_each bs
 
 free_digit : (b : ℕ) → IsMarkupFree (hex_digit b)
 free_digit b = grind (arith, nat_tests)
 
-free_hex : (a b : ℕ) → All IsMarkupFree (codes "\\x" ++ hex_digit a ∷ hex_digit b ∷ [])
-free_hex a b =
-    let backslash : IsMarkupFree 92 = search rules in
-    let x : IsMarkupFree 120 = search rules in
-    let digits : All IsMarkupFree (hex_digit a ∷ hex_digit b ∷ []) = All-cons IsMarkupFree (hex_digit a) (hex_digit b ∷ []) (free_digit a) (All-cons IsMarkupFree (hex_digit b) [] (free_digit b) (All-nil IsMarkupFree)) in
-    All-cons IsMarkupFree 92 (120 ∷ hex_digit a ∷ hex_digit b ∷ []) backslash (All-cons IsMarkupFree 120 (hex_digit a ∷ hex_digit b ∷ []) x digits)
-
 free_printable : (t : Bool) (b : ℕ) → is_printable b ≡ t → (b == 60) ≡ false → (b == 62) ≡ false → (b == 34) ≡ false → All IsMarkupFree (if t then (b ∷ []) else (codes "\\x" ++ hex_digit (b / 16) ∷ hex_digit b ∷ []))
 free_printable true b h less more quote = All-cons IsMarkupFree b [] (simp (h, less, more, quote)) (All-nil IsMarkupFree)
-free_printable false b h less more quote = free_hex (b / 16) b
+free_printable false b h less more quote = each_hex IsMarkupFree (search rules) (search rules) free_digit (b / 16) b
 
 free_if : (amp less more quote : Bool) (b : ℕ) → (b == 60) ≡ less → (b == 62) ≡ more → (b == 34) ≡ quote → All IsMarkupFree (if amp then codes "&amp;" else (if less then codes "&lt;" else (if more then codes "&gt;" else (if quote then codes "&quot;" else printable_byte b))))
 free_if true _ _ _ b _ _ _ = search rules
@@ -53,5 +48,4 @@ pub free_each : (b : ℕ) → All IsMarkupFree (escaped_byte b)
 free_each b = free_if (b == 38) (b == 60) (b == 62) (b == 34) b refl refl refl
 
 pub all_free : (bs : List ℕ) → All IsMarkupFree (flat_map escaped_byte bs)
-all_free [] = All-nil IsMarkupFree
-all_free (b ∷ bs) = All-append IsMarkupFree (escaped_byte b) (flat_map escaped_byte bs) (free_each b) (all_free bs)
+all_free bs = each_of IsMarkupFree escaped_byte free_each bs

@@ -35,6 +35,7 @@ pub use show::{put_heading, put_key, put_shown};
 pub use step::ShownStep;
 pub use svg::picture;
 pub use timeline::{Lane, Phase};
+pub use words::put_state;
 
 #[cfg(test)]
 mod tests;

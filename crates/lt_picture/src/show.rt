@@ -1,6 +1,7 @@
 //! How is the life of a key printed in a terminal? [`put_heading`] writes the key and the names of the columns, and
-//! [`put_shown`] one line for each step, so that a caller can print the steps one after the other. `columns.rt` has the
-//! widths of the columns, `words.rt` what each cell says, and `cell.rt` how it is cut.
+//! [`put_shown`] one line for each step, so that a caller can print the steps one after the other. If memory runs out,
+//! each of them may have appended a part of its line. `columns.rt` has the widths of the columns, `words.rt` what each
+//! cell says, and `cell.rt` how it is cut.
 ghost use Rattle.std.specs.Prelude.{◌≡◌, ◌≤◌, ◌<◌, ◌^◌, OnOk, IfOk, All, false, length, vec_len};
 ghost use Rattle.lt_picture.specs.Escape.{IsPrintable};
 ghost use Rattle.lt_picture.specs.Cells.{AddsLine};
@@ -12,8 +13,8 @@ use crate::words::{put_column, put_column_name};
 use lt_ids::Key;
 use std::alloc::{AllocError, Global};
 
-/// The line of a step: its cells, each as wide as its column.
-fn step_line(alloc: Global, width: usize, step: &ShownStep) -> Result<Vec<u8>, AllocError>
+/// A line of cells, each as wide as its column: what the step has there, or the names of the columns if there is none.
+fn cells_line(alloc: Global, width: usize, step: Option<&ShownStep>) -> Result<Vec<u8>, AllocError>
     requires wide { 40 ≤ width }
     requires bounded { width < 2 ^ 16 }
     ensures width { IfOk result (λ line. vec_len line ≡ width) }
@@ -23,24 +24,10 @@ fn step_line(alloc: Global, width: usize, step: &ShownStep) -> Result<Vec<u8>, A
     let mut line = Vec::new(alloc);
     for column in 0..COLUMNS {
         let mut cell = Vec::new(alloc);
-        put_column(&mut cell, step, column)?;
-        put_cell(&mut line, &cell, widths[column])?;
-    }
-    Ok(line)
-}
-
-/// The line with the names of the columns.
-fn names_line(alloc: Global, width: usize) -> Result<Vec<u8>, AllocError>
-    requires wide { 40 ≤ width }
-    requires bounded { width < 2 ^ 16 }
-    ensures width { IfOk result (λ line. vec_len line ≡ width) }
-    ensures printable { IfOk result (λ line. All IsPrintable line.items) }
-{
-    let widths = widths(width);
-    let mut line = Vec::new(alloc);
-    for column in 0..COLUMNS {
-        let mut cell = Vec::new(alloc);
-        put_column_name(&mut cell, column)?;
+        match step {
+            Some(step) => put_column(&mut cell, step, column)?,
+            None => put_column_name(&mut cell, column)?,
+        }
         put_cell(&mut line, &cell, widths[column])?;
     }
     Ok(line)
@@ -140,7 +127,7 @@ pub fn put_key(out: &mut Vec<u8>, layout: Layout, key: &Key) -> Result<(), Alloc
 pub fn put_heading(out: &mut Vec<u8>, layout: Layout) -> Result<(), AllocError>
     ensures { OnOk result (layout.colours ≡ false → AddsLine layout.width out.old.items out.new.items) }
 {
-    let line = names_line(*out.allocator(), layout.width())?;
+    let line = cells_line(*out.allocator(), layout.width(), None)?;
     put_title(out, layout, &line)
 }
 
@@ -149,7 +136,7 @@ pub fn put_heading(out: &mut Vec<u8>, layout: Layout) -> Result<(), AllocError>
 pub fn put_shown(out: &mut Vec<u8>, layout: Layout, step: &ShownStep) -> Result<(), AllocError>
     ensures { OnOk result (layout.colours ≡ false → AddsLine layout.width out.old.items out.new.items) }
 {
-    let line = step_line(*out.allocator(), layout.width(), step)?;
+    let line = cells_line(*out.allocator(), layout.width(), Some(step))?;
     if layout.colours {
         return put_coloured(out, &line, &widths(layout.width()));
     }

@@ -95,6 +95,20 @@ fn put_tickets(out: &mut Vec<u8>, tickets: &[Ticket]) -> Result<(), AllocError> 
     Ok(())
 }
 
+/// Appends the state of a key in words, with a space before each: `holder`, `reserved`, `writers` and `readers`, and
+/// after each who that is. `-` stands for nobody, `*` marks the distinguished waiter, and parentheses a writer that is
+/// inactive. If memory runs out, it may have appended a part.
+pub fn put_state(out: &mut Vec<u8>, state: &KeyState) -> Result<(), AllocError> {
+    put_word(out, b"holder")?;
+    put_holder(out, state.holder)?;
+    put_word(out, b"reserved")?;
+    put_reservation(out, state.reservation)?;
+    put_word(out, b"writers")?;
+    put_writers(out, state)?;
+    put_word(out, b"readers")?;
+    put_readers(out, state)
+}
+
 /// Appends the heading of a column.
 pub(crate) fn put_column_name(out: &mut Vec<u8>, column: usize) -> Result<(), AllocError> {
     match column {

@@ -1,7 +1,7 @@
 use Rattle.std.proofs.Common.{◌≡◌, All, take}
 use Rattle.std.specs.Prelude.{sum, vec_len}
 use Rattle.lt_picture.specs.Escape.{IsPrintable}
-use Rattle.lt_picture.proofs.show.names_line.Given as goal
+use Rattle.lt_picture.proofs.show.cells_line.Given as goal
 
 abbrev pub invariant-loop-column : goal.invariant-loop-column
 invariant-loop-column l = record {
