@@ -46,6 +46,7 @@ impl Bytes {
         }
     }
 
+    #[inline]
     fn copy(&self) -> Result<Bytes, AllocError>
         requires within { AreWithin self.now }
         requires needed { NeedTheirRoom self.now }
@@ -56,10 +57,11 @@ impl Bytes {
     {
         match self {
             Bytes::Short(len, bytes) => Ok(Bytes::Short(*len, *bytes)),
-            Bytes::Long(len, bytes) => Ok(Bytes::Long(*len, bytes.clone()?)),
+            Bytes::Long(len, bytes) => Ok(Bytes::Long(*len, copy_long(bytes)?)),
         }
     }
 
+    #[inline]
     fn as_slice(&self) -> &[u8]
         requires { AreWithin self.now }
         ensures { result.now ≡ bytes_of self.now }
@@ -69,6 +71,16 @@ impl Bytes {
             Bytes::Long(len, bytes) => &bytes[..*len as usize],
         }
     }
+}
+
+/// A copy of the bytes of a long key. It stays out of line, so that the copy of a short key is a few instructions
+/// wherever a key is copied.
+#[cold]
+#[inline(never)]
+fn copy_long(bytes: &Box<[u8; 64]>) -> Result<Box<[u8; 64]>, AllocError>
+    ensures { IfOk result (λ copy. copy.value ≡ bytes.now.value) }
+{
+    bytes.clone()
 }
 
 /// The name of a lockable item: 1 to 64 printable ASCII bytes (0x21 to 0x7E), ordered bytewise. A key of up to 22
@@ -113,6 +125,7 @@ impl Key {
     }
 
     /// A copy of this key. It fails only when an allocation fails; up to 22 bytes allocate nothing.
+    #[inline]
     pub fn copy(&self) -> Result<Key, AllocError>
         ensures same { IfOk result (λ key. key ≡ self.now) }
         ensures short { length self.now ≤ 22 → IsOk result }
@@ -121,6 +134,7 @@ impl Key {
         Ok(Key { bytes })
     }
 
+    #[inline]
     pub fn as_bytes(&self) -> &[u8]
         ensures bytes { result.now ≡ self.now }
         ensures is_key { IsKey result.now }

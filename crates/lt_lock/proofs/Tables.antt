@@ -65,6 +65,14 @@ found m rows k r e = ap (λ o. unwrap_or o empty) (get_of m rows k ∙ ap (optio
 pub missing : (m : Maps) (rows : Rows) (k : List ℕ) → None ≡ row_at rows k → record_at (records_of m rows) k ≡ empty
 missing m rows k e = ap (λ o. unwrap_or o empty) (get_of m rows k ∙ ap (option_map (record_of m)) (sym e))
 
+nil_of : {X : Type 0} (xs : List X) → length xs ≡ 0 → xs ≡ []
+nil_of [] e = refl
+nil_of (x ∷ xs) e = absurd (omega arith)
+
+-- a map without entries has no row
+pub no_row : (rows : Rows) (k : List ℕ) → length rows.entries ≡ 0 → None ≡ row_at rows k
+no_row rows k e = rw (nil_of rows.entries e) refl
+
 -- a row that a lookup finds is linked, and its record is lawful
 pub linked_at : (m : Maps) (rows : Rows) (k : List ℕ) (r : Row) → AreLinked m rows → Some r ≡ row_at rows k → HasQueues m r.id
 linked_at m rows k r linked e = linked.each k r (sym e)

@@ -1,5 +1,5 @@
 -- The effect of a call on a row and its queues.
-use Rattle.std.specs.Prelude.{◌≡◌, ◌≢◌, ℕ, Some, None, List, [], ◌++◌, drop, filter, not, slice_get, suc}
+use Rattle.std.specs.Prelude.{◌≡◌, ◌≢◌, ℕ, Bool, Some, None, List, [], ◌++◌, ◌&&◌, drop, filter, is_none, length, nat_eq, not, slice_get, suc}
 use Rattle.std.specs.List.{find}
 use Rattle.std.specs.Option.{option_map}
 use Rattle.lt_ids.specs.declared.ticket.Through.{Through}
@@ -85,6 +85,10 @@ with_next_reserved r = record r {
 abbrev pub with_set_back : ℕ → Record → Record
 with_set_back txn r =
     record r { reservation = None; writers = filter (λ w. not (is_of txn w)) (set_back r.reservation) ++ r.writers }
+
+-- whether nobody is queued at the key or has its reservation
+abbrev pub has_nobody : Record → Bool
+has_nobody r = is_none r.reservation && nat_eq (length r.writers) 0 && nat_eq (length r.readers) 0
 
 -- The act was applied to the record at the key, with these lets and this reply, and no other key's record changed.
 abbrev pub UpdatesRows : Maps → Maps → Rows → Rows → List ℕ → (Record → Outcome) → List Through → Reply → Type 0

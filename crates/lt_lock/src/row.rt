@@ -8,7 +8,7 @@ ghost use Rattle.lt_plain.specs.Rules.{is_empty, free, free_with, raise, raise_t
 ghost use Rattle.lt_plain.specs.Step.{look, look_waiter, reserved_txn};
 ghost use Rattle.lt_plain.specs.Lawful.{IsLawful};
 ghost use Rattle.lt_lock.specs.Linked.{queue_at, record_of, writer_of, HasQueues};
-ghost use Rattle.lt_lock.specs.RowStepped.{IsRow, IsRewritten, UpdatesRow, RowUsesNoMemory, with_first_reserved, with_next_reserved, with_set_back};
+ghost use Rattle.lt_lock.specs.RowStepped.{IsRow, IsRewritten, UpdatesRow, RowUsesNoMemory, with_first_reserved, with_next_reserved, with_set_back, has_nobody};
 
 use crate::find::find;
 use crate::queue_edit::{move_to_front, replace_stand, take_out};
@@ -77,9 +77,18 @@ fn release_to_next(links: &mut Links, row: &Row)
     reserve_first(links, row);
 }
 
-/// Sets the holder, and releases the lock to the requests that are next. The lock has just lost its previous
-/// holder or its reservation.
-fn free(
+/// Whether nobody is queued at the key or has its reservation.
+fn has_nobody(links: &Links, row: &Row) -> bool
+    requires { HasQueues links.now row.now.id }
+    ensures { result ≡ has_nobody (record_of links.now row.now) }
+{
+    links.first(queue(row, QueueKind::Reservation)).is_none()
+        && links.first(queue(row, QueueKind::Writers)).is_none()
+        && links.first(queue(row, QueueKind::Readers)).is_none()
+}
+
+/// [`free`], if somebody is queued at the key or has its reservation.
+fn free_to_next(
     links: &mut Links,
     row: &mut Row,
     holder: Option<Holder>,
@@ -96,6 +105,29 @@ fn free(
     release_to_next(links, row);
     row.holder = holder;
     settle(links, row);
+    Ok(())
+}
+
+/// Sets the holder, and releases the lock to the requests that are next. The lock has just lost its previous
+/// holder or its reservation.
+fn free(
+    links: &mut Links,
+    row: &mut Row,
+    holder: Option<Holder>,
+    lets: &mut Vec<Through>,
+) -> Result<(), AllocError>
+    requires linked { HasQueues links.old row.old.id }
+    requires lawful { IsLawful (free_with (record_of links.old row.old) holder).after }
+    requires lets { lets.old.items ≡ [] }
+    ensures ok { OnOk result (UpdatesRow links.old links.new row.old row.new
+        (λ r. free_with r holder) lets.new.items Freed) }
+    ensures err { OnErr result ((links.new ≡ links.old) × (row.new ≡ row.old) × (lets.new.items ≡ [])) }
+{
+    if !has_nobody(links, row) {
+        return free_to_next(links, row, holder, lets);
+    }
+    row.holder = holder;
+    row.distinguished = None;
     Ok(())
 }
 
@@ -336,9 +368,5 @@ pub(crate) fn is_empty(links: &Links, row: &Row) -> bool
     requires { HasQueues links.now row.now.id }
     ensures { result ≡ is_empty (record_of links.now row.now) }
 {
-    row.holder.is_none()
-        && links.first(queue(row, QueueKind::Reservation)).is_none()
-        && links.first(queue(row, QueueKind::Writers)).is_none()
-        && links.first(queue(row, QueueKind::Readers)).is_none()
-        && row.distinguished.is_none()
+    row.holder.is_none() && has_nobody(links, row) && row.distinguished.is_none()
 }

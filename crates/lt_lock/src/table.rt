@@ -121,6 +121,31 @@ fn visit_at(
     visit(links, row, stand, longest, access)
 }
 
+/// [`visit_at`], without a search if no key has a row.
+fn visit_key(
+    links: &mut Links,
+    rows: &mut Rows,
+    key: &Key,
+    stand: &Stand,
+    longest: u32,
+    access: Access,
+) -> Result<Reply, AllocError>
+    requires table { IsTable links.old rows.old }
+    requires active { stand.now.active ≡ true }
+    requires named { IsNamed stand.now }
+    ensures ok { IfOk result (UpdatesRows links.old links.new rows.old rows.new key.now
+        (visit_by stand.now longest access) []) }
+    ensures table { IsTable links.new rows.new }
+    ensures err { OnErr result (records_of links.new rows.new ≡ records_of links.old rows.old) }
+    ensures no_memory { UsesNoMemoryAt (records_of links.old) rows.old key.now
+        (visit_by stand.now longest access) → IsOk result }
+{
+    if rows.is_empty() {
+        return Ok(Reply::Passed);
+    }
+    visit_at(links, rows, key, stand, longest, access)
+}
+
 fn update_at(
     links: &mut Links,
     rows: &mut Rows,
@@ -186,6 +211,29 @@ fn leave_at(
     row::leave(links, row, number, lets)
 }
 
+/// [`leave_at`], without a search if no key has a row.
+fn leave_key(
+    links: &mut Links,
+    rows: &mut Rows,
+    key: &Key,
+    number: u64,
+    lets: &mut Vec<Through>,
+) -> Result<Reply, AllocError>
+    requires table { IsTable links.old rows.old }
+    requires lets { lets.old.items ≡ [] }
+    ensures ok { IfOk result (UpdatesRows links.old links.new rows.old rows.new key.now
+        (λ r. leave r number) lets.new.items) }
+    ensures linked { AreLinked links.new rows.new }
+    ensures absent { IfOk result (λ reply. reply ≡ Absent → AreSound (records_of links.new rows.new)) }
+    ensures err { OnErr result (KeepsRows links.old links.new rows.old rows.new lets.new.items) }
+    ensures no_memory { UsesNoMemoryAt (records_of links.old) rows.old key.now (λ r. leave r number) → IsOk result }
+{
+    if rows.is_empty() {
+        return Ok(Reply::Absent);
+    }
+    leave_at(links, rows, key, number, lets)
+}
+
 fn look_at(links: &Links, rows: &Rows, key: &Key, number: u64) -> Reply
     requires { IsTable links.now rows.now }
     ensures { result ≡ look (record_at (records_of links.now rows.now) key.now) number }
@@ -246,6 +294,24 @@ fn insert_held(
     Ok(Reply::Taken)
 }
 
+/// A transaction acquires a key that has no row.
+fn acquire_free(
+    links: &mut Links,
+    rows: &mut Rows,
+    key: &Key,
+    txn: TxnId,
+    ts: Timestamp,
+) -> Result<Reply, AllocError>
+    requires table { IsTable links.old rows.old }
+    requires none { record_at (records_of links.old rows.old) key.now ≡ empty }
+    ensures ok { IfOk result (UpdatesRows links.old links.new rows.old rows.new key.now (λ r. acquire r txn ts) []) }
+    ensures table { IsTable links.new rows.new }
+    ensures err { OnErr result (records_of links.new rows.new ≡ records_of links.old rows.old) }
+    ensures no_memory { UsesNoMemoryAt (records_of links.old) rows.old key.now (λ r. acquire r txn ts) → IsOk result }
+{
+    insert_held(links, rows, key, &Holder { txn, ts })
+}
+
 fn acquire_at(
     links: &mut Links,
     rows: &mut Rows,
@@ -263,9 +329,32 @@ fn acquire_at(
     ensures no_memory { UsesNoMemoryAt (records_of links.old) rows.old key.now (λ r. acquire r txn ts) → IsOk result }
 {
     let Some(row) = rows.get_mut(key) else {
-        return insert_held(links, rows, key, &Holder { txn, ts });
+        return acquire_free(links, rows, key, txn, ts);
     };
     row::acquire(links, row, txn, ts, lets)
+}
+
+/// [`acquire_at`], without a search if no key has a row.
+fn acquire_key(
+    links: &mut Links,
+    rows: &mut Rows,
+    key: &Key,
+    txn: TxnId,
+    ts: Timestamp,
+    lets: &mut Vec<Through>,
+) -> Result<Reply, AllocError>
+    requires table { IsTable links.old rows.old }
+    requires lets { lets.old.items ≡ [] }
+    ensures ok { IfOk result (UpdatesRows links.old links.new rows.old rows.new key.now
+        (λ r. acquire r txn ts) lets.new.items) }
+    ensures table { IsTable links.new rows.new }
+    ensures err { OnErr result (KeepsRows links.old links.new rows.old rows.new lets.new.items) }
+    ensures no_memory { UsesNoMemoryAt (records_of links.old) rows.old key.now (λ r. acquire r txn ts) → IsOk result }
+{
+    if rows.is_empty() {
+        return acquire_free(links, rows, key, txn, ts);
+    }
+    acquire_at(links, rows, key, txn, ts, lets)
 }
 
 impl KeyTable for LinkedTable {
@@ -280,7 +369,7 @@ impl KeyTable for LinkedTable {
         lets: &mut Vec<Through>,
     ) -> Result<Reply, AllocError> {
         let stand = stand_of(request, wait);
-        visit_at(
+        visit_key(
             &mut self.links,
             &mut self.rows,
             key,
@@ -297,7 +386,7 @@ impl KeyTable for LinkedTable {
         ts: Timestamp,
         lets: &mut Vec<Through>,
     ) -> Result<Reply, AllocError> {
-        acquire_at(&mut self.links, &mut self.rows, key, txn, ts, lets)
+        acquire_key(&mut self.links, &mut self.rows, key, txn, ts, lets)
     }
 
     fn update(
@@ -327,7 +416,7 @@ impl KeyTable for LinkedTable {
         number: u64,
         lets: &mut Vec<Through>,
     ) -> Result<Reply, AllocError> {
-        let reply = leave_at(&mut self.links, &mut self.rows, key, number, lets)?;
+        let reply = leave_key(&mut self.links, &mut self.rows, key, number, lets)?;
         if reply != Reply::Absent {
             drop_if_empty(&mut self.links, &mut self.rows, key);
         }

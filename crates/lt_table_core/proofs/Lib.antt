@@ -4,6 +4,7 @@ pub mod Parting
 pub mod Follows
 pub mod KeyLists
 pub mod OneList
+pub mod FewKeys
 pub mod UnderWay
 pub mod InPlace
 pub mod WentOn

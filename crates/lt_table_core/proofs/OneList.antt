@@ -13,19 +13,19 @@ use Rattle.lt_ids.specs.declared.request.Access.{Access}
 use Rattle.lt_ids.specs.declared.request.Access.TheVariants.{Read, Write}
 use Rattle.lt_table_core.specs.Keys.{AreTheKeys, IsKeyList}
 
-none_in_nil : {X : Type 0} (k : X) → Contains [] k → ⊥
+pub none_in_nil : {X : Type 0} (k : X) → Contains [] k → ⊥
 none_in_nil k c = let below : c.0 < 0 = c.1 in omega arith
 
-cons_cases : {X : Type 0} (x : X) (xs : List X) (k : X) → Contains (x ∷ xs) k → (x ≡ k) ⊎ Contains xs k
+pub cons_cases : {X : Type 0} (x : X) (xs : List X) (k : X) → Contains (x ∷ xs) k → (x ≡ k) ⊎ Contains xs k
 cons_cases x xs k c = elim (Contains-append_cases (x ∷ []) xs k c) [
   | inl one ↦ elim (Contains-push_cases [] x k one) [ inl none ↦ absurd (none_in_nil k none) | inr e ↦ inl e ]
   | inr rest ↦ inr rest
 ]
 
-first_in : {X : Type 0} (x : X) (xs : List X) → Contains (x ∷ xs) x
+pub first_in : {X : Type 0} (x : X) (xs : List X) → Contains (x ∷ xs) x
 first_in x xs = Contains-append_left (x ∷ []) xs x (Contains-push [] x)
 
-later_in : {X : Type 0} (x : X) (xs : List X) (k : X) → Contains xs k → Contains (x ∷ xs) k
+pub later_in : {X : Type 0} (x : X) (xs : List X) (k : X) → Contains xs k → Contains (x ∷ xs) k
 later_in x xs k c = Contains-append_right (x ∷ []) xs k c
 
 each_of : {X : Type 0} (P : X → Type 0) (xs : List X) (k : X) → AllByRecursion P xs → Contains xs k → P k

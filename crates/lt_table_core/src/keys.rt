@@ -1,13 +1,14 @@
 //! Which keys does a request visit, and in which order? `IsKeyList` in `specs/Keys.antt` is the definition, and
-//! `key_list` below computes it. Read next `src/entering.rt`.
-ghost use Rattle.std.specs.Prelude.{◌≡◌, ◌≢◌, ◌≤◌, ◌<◌, ◌↔◌, ◌++◌, [], map, length, IfOk, Contains, IsTrue};
+//! `key_list` below computes it: for one or two accesses without a sort. Read next `src/entering.rt`.
+ghost use Rattle.std.specs.Prelude.{◌≡◌, ◌≢◌, ◌≤◌, ◌<◌, ◌↔◌, ◌++◌, ◌∷◌, [], map, length, IfOk, Contains, IsTrue};
 ghost use Rattle.std.specs.List.Sorted.{IsStrictlySortedBy};
 ghost use Rattle.std.specs.Cmp.Lexicographic.{slice_cmp};
 ghost use Rattle.std.specs.Ordering.{nat_cmp};
-ghost use Rattle.lt_table_core.specs.Keys.{AreTheKeys, IsKeyList, IsOnlyRead, IsReadOnlyKey, Among};
+ghost use Rattle.lt_table_core.specs.Keys.{AreTheKeys, IsKeyList, IsOnlyRead, IsReadOnlyKey, Among, either_access, is_first_of_two};
 
 use lt_ids::{Access, Key};
 use std::alloc::{AllocError, Global};
+use std::cmp::Ordering;
 use thiserror::Error;
 
 /// Why a request did not enter.
@@ -103,6 +104,98 @@ fn add_all(list: &mut Vec<(Key, Access)>, keys: Vec<Key>, access: Access) -> Res
     Ok(())
 }
 
+/// The key list of three accesses or more.
+fn many_keys(alloc: Global, accesses: &[(Key, Access)]) -> Result<Vec<(Key, Access)>, AllocError>
+    ensures { IfOk result (λ list. IsKeyList accesses.now list.items) }
+{
+    let writes = written(alloc, accesses)?;
+    let reads = only_read(alloc, accesses, writes.as_slice())?;
+    let mut list = Vec::new(alloc);
+    add_all(&mut list, writes, Access::Write)?;
+    add_all(&mut list, reads, Access::Read)?;
+    Ok(list)
+}
+
+/// A list of one key.
+fn one_key(alloc: Global, key: &Key, access: Access) -> Result<Vec<(Key, Access)>, AllocError>
+    ensures { IfOk result (λ list. list.items ≡ (key.now, access) ∷ []) }
+{
+    let mut list = Vec::with_capacity(alloc, 1)?;
+    list.push_reserved((key.copy()?, access));
+    Ok(list)
+}
+
+/// The key list of one access.
+fn single_key(alloc: Global, only: &(Key, Access)) -> Result<Vec<(Key, Access)>, AllocError>
+    ensures { IfOk result (λ list. IsKeyList (only.now ∷ []) list.items) }
+{
+    one_key(alloc, &only.0, only.1)
+}
+
+/// A list of two keys.
+fn two_keys(
+    alloc: Global,
+    first: &(Key, Access),
+    second: &(Key, Access),
+) -> Result<Vec<(Key, Access)>, AllocError>
+    ensures { IfOk result (λ list. list.items ≡ first.now ∷ second.now ∷ []) }
+{
+    let mut list = Vec::with_capacity(alloc, 2)?;
+    list.push_reserved((first.0.copy()?, first.1));
+    list.push_reserved((second.0.copy()?, second.1));
+    Ok(list)
+}
+
+/// The access of a key that is named twice: a write if either of the two writes.
+fn either_access(first: Access, second: Access) -> Access
+    ensures { result ≡ either_access first second }
+{
+    match first {
+        Access::Write => Access::Write,
+        Access::Read => second,
+    }
+}
+
+/// Whether the first of two accesses comes first in the key list. Its key is the lesser one, if `is_less`.
+fn is_first_of_two(first: Access, second: Access, is_less: bool) -> bool
+    ensures { result ≡ is_first_of_two first second is_less }
+{
+    match first {
+        Access::Write => is_less || second == Access::Read,
+        Access::Read => is_less && second == Access::Read,
+    }
+}
+
+/// The key list of two accesses.
+fn pair_of_keys(
+    alloc: Global,
+    first: &(Key, Access),
+    second: &(Key, Access),
+) -> Result<Vec<(Key, Access)>, AllocError>
+    ensures { IfOk result (λ list. IsKeyList (first.now ∷ second.now ∷ []) list.items) }
+{
+    let order = first.0.cmp(&second.0);
+    if order == Ordering::Equal {
+        return one_key(alloc, &first.0, either_access(first.1, second.1));
+    }
+    if is_first_of_two(first.1, second.1, order == Ordering::Less) {
+        two_keys(alloc, first, second)
+    } else {
+        two_keys(alloc, second, first)
+    }
+}
+
+/// The key list, however many accesses there are.
+fn listed(alloc: Global, accesses: &[(Key, Access)]) -> Result<Vec<(Key, Access)>, AllocError>
+    ensures { IfOk result (λ list. IsKeyList accesses.now list.items) }
+{
+    match accesses {
+        [only] => single_key(alloc, only),
+        [first, second] => pair_of_keys(alloc, first, second),
+        _ => many_keys(alloc, accesses),
+    }
+}
+
 /// The keys that a request with these accesses visits, each once. A key is visited as a write if any of its
 /// accesses writes. Keys to write come first, in byte order, and then the others, in byte order.
 pub fn key_list(alloc: Global, accesses: &[(Key, Access)]) -> Result<Vec<(Key, Access)>, EnterError>
@@ -117,10 +210,5 @@ pub fn key_list(alloc: Global, accesses: &[(Key, Access)]) -> Result<Vec<(Key, A
     if accesses.len() > 256 {
         return Err(EnterError::TooManyKeys);
     }
-    let writes = written(alloc, accesses)?;
-    let reads = only_read(alloc, accesses, writes.as_slice())?;
-    let mut list = Vec::new(alloc);
-    add_all(&mut list, writes, Access::Write)?;
-    add_all(&mut list, reads, Access::Read)?;
-    Ok(list)
+    Ok(listed(alloc, accesses)?)
 }

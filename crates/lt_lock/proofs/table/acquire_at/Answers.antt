@@ -1,49 +1,31 @@
-use Rattle.std.proofs.Common.{◌≡◌, refl, subst, []}
-use Rattle.std.proofs.lemmas.Result.{IfOk-weaker, on_err_weaker}
-use Rattle.lt_plain.specs.Rules.{Record, Outcome, TakesNoMemory, acquire, take_lock}
-use Rattle.lt_plain.specs.Table.{AreSound, IsStep, record_at}
+use Rattle.std.proofs.Common.{subst}
+use Rattle.std.proofs.lemmas.Result.{on_err_weaker}
+use Rattle.lt_plain.specs.Rules.{TakesNoMemory, acquire}
 use Rattle.lt_plain.specs.declared.call.Call.TheVariants.{Acquire}
 use Rattle.lt_plain.proofs.Lawfulness.{step_keeps_lawful}
 use Rattle.lt_plain.proofs.Filled.{acquire_filled}
-use Rattle.lt_plain.proofs.Maps.{act_alike, sound_filled}
-use Rattle.lt_lock.specs.Linked.{record_of, records_of}
-use Rattle.lt_lock.proofs.Tables.{found, missing, row_is, ok_step, either_way, either_table, err_records}
+use Rattle.lt_lock.specs.Linked.{record_of}
+use Rattle.lt_lock.proofs.Tables.{found, missing, row_is, ok_step, either_table, err_records}
 use Rattle.lt_lock.proofs.table.acquire_at.Goals as goal
 
 -- no row is there
-pub insert_held-requires-clause-none : goal.insert_held-requires-clause-none
-insert_held-requires-clause-none c =
+pub acquire_free-requires-clause-none : goal.acquire_free-requires-clause-none
+acquire_free-requires-clause-none c =
     let none = rw c.in_default.is at c.get_mut.ensures.value in
     rw c.get_mut.follows.holds-at-none (missing c.args.links.now c.args.rows.now c.args.key.now none)
 
+pub acquire_free-requires-clause-table : goal.acquire_free-requires-clause-table
+acquire_free-requires-clause-table c = rw c.get_mut.follows.holds-at-none c.requires.table
+
 pub returns-in_default-clause-ok : goal.returns-in_default-clause-ok
 returns-in_default-clause-ok c =
-    let none = rw c.in_default.is at c.get_mut.ensures.value in
-    let ok = rw c.get_mut.follows.holds-at-none at c.insert_held.ensures.ok in
-    let old = records_of c.args.links.now c.args.rows.now in
-    let new = records_of c.insert_held.new.links c.insert_held.new.rows in
-    rw c.requires.lets (IfOk-weaker c.insert_held.result (λ reply. IsStep old c.args.key.now (λ r. take_lock r (record { txn = c.args.txn; ts = c.args.ts })) reply [] new) _
-    (λ reply is. act_alike old new c.args.key.now _ (λ r. acquire r c.args.txn c.args.ts) reply [] is (rw (missing c.args.links.now c.args.rows.now c.args.key.now none) refl)) ok)
+    let ok = rw c.get_mut.follows.holds-at-none at c.acquire_free.ensures.ok in
+    rw c.requires.lets ok
 
 pub returns-in_default-clause-no_memory : goal.returns-in_default-clause-no_memory
-returns-in_default-clause-no_memory c t =
-    let none = rw c.in_default.is at c.get_mut.ensures.value in
-    absurd (subst (λ r. TakesNoMemory r (acquire r c.args.txn c.args.ts)) (missing c.args.links.now c.args.rows.now c.args.key.now none) t)
-
-pub returns-in_default-clause-table : goal.returns-in_default-clause-table
-returns-in_default-clause-table c =
-    let none = rw c.in_default.is at c.get_mut.ensures.value in
-    let old = records_of c.args.links.now c.args.rows.now in
-    let new = records_of c.insert_held.new.links c.insert_held.new.rows in
-    let act : Record → Outcome = λ r. acquire r c.args.txn c.args.ts in
-    let err = rw c.get_mut.follows.holds-at-none at c.insert_held.ensures.err in
-    record {
-      linked = c.insert_held.ensures.linked;
-      records_sound = either_way c.insert_held.result (λ reply. IsStep old c.args.key.now act reply c.args.lets.now.items new) (new ≡ old) (AreSound new)
-          (λ reply is. sound_filled old new c.args.key.now act reply c.args.lets.now.items (λ q. step_keeps_lawful q 0 (Acquire c.args.txn c.args.ts)) is (acquire_filled (record_at old c.args.key.now) c.args.txn c.args.ts) c.requires.table.records_sound)
-          (λ same. rw same c.requires.table.records_sound)
-          (returns-in_default-clause-ok c) err;
-    }
+returns-in_default-clause-no_memory c =
+    let no_memory = rw c.get_mut.follows.holds-at-none at c.acquire_free.ensures.no_memory in
+    no_memory
 
 -- the row is there
 pub acquire-requires-clause-row : goal.acquire-requires-clause-row

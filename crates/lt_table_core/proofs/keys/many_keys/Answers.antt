@@ -1,12 +1,12 @@
 use Rattle.std.proofs.Common.{rules, ◌≡◌, ◌++◌, map, refl}
 use Rattle.lt_ids.specs.declared.request.Access.TheVariants.{Read, Write}
-use Rattle.lt_table_core.proofs.keys.key_list.Goals as goal
+use Rattle.lt_table_core.proofs.keys.many_keys.Goals as goal
 
 pub only_read-requires : goal.only_read-requires
 only_read-requires c = rw c.as_slice.ensures.value c.in_ok-writes.ensures
 
-pub returns-clause-keys : goal.returns-clause-keys
-returns-clause-keys c =
+pub returns : goal.returns
+returns c =
     let first : c.add_all.new.list.items ≡ c.new-list.result.items ++ map (λ k. (k, Write)) c.in_ok-writes.writes.items = search rules in
     let second : c.add_all-2.new.list.items ≡ c.add_all.new.list.items ++ map (λ k. (k, Read)) c.in_ok-reads.reads.items = search rules in
     record {
