@@ -7,10 +7,10 @@ hostile.py runs it too. The programs `lockrun` and `locktrace` must have been bu
 last line is `N passed, M failed`.
 
 - Each command runs once for each allocation, read and write that fails, and for each write that takes one byte. It must end as
-  docs/FORMATS.md says: status 4 or 5 with its message, and nothing written; after a failed write a prefix, and of `show` a prefix after
-  any failure; or exactly what it writes otherwise.
-- Each command writes to a full device. `sort` has a temporary folder that is full, in which files may not grow, or that does not exist: it
-  ends with status 5, writes nothing, and leaves no file behind.
+  docs/FORMATS.md says: status 4 or 5 with its message, and nothing written; after a failed write a prefix, and of `show` a prefix
+  after any failure; or exactly what it writes otherwise.
+- Each command writes to a full device. `sort` has a temporary folder that is full, in which files may not grow, or that does not
+  exist: it ends with status 5, writes nothing, and leaves no file behind.
 - Texts and traces of examples/ and docs/traces/ are cut at every byte. `check` must answer as `lockrun check` does; `check`, `explain`,
   `show` and `sort` as docs/FORMATS.md says.
 - tools/same_verdicts.py compares `lockrun check`, `locktrace check` and `locktrace explain` on N texts that were changed at random.
@@ -37,12 +37,12 @@ FAULTY = os.path.join(TOP, 'docs', 'traces', 'a-writer-that-passes.faulty')
 # The first faulty line of that text, and its fault.
 FAULT = (4, 'WrongReply')
 
-# How a run is to end if nothing is refused: with this status and this line on standard error.
+# How a command ends if nothing is refused: with this status and this line on standard error.
 LEGAL = (0, b'')
 REFUSED = (1, f'locktrace: line {FAULT[0]}: {FAULT[1]}\n'.encode())
 
-# A command line and its input. In the words, {folder} is a folder of the run's own: it has the input as the file `text`, and the program may
-# make the file `picture` in it. A command that does not name `text` gets the input on standard input.
+# A command line, its input, and how it is to end. In the words, {folder} is a folder of the run's own: it has the input as the file
+# `text`, and the program may make the file `picture` in it. A command that does not name `text` gets the input on standard input.
 Trial = collections.namedtuple('Trial', 'words text ending')
 
 # How a run ended: the status, standard output, the picture's file, standard error, and what else it left in its folder.
@@ -109,21 +109,25 @@ def is_as_documented(trial, kind, is_last, ran, whole):
     }
     for status, message, may_be_prefix in endings.get(kind, []):
         if (ran.status, ran.err, ran.left) == (status, b'locktrace: %s\n' % message, []):
-            is_sort = '--temporary' in trial.words
-            return (is_prefix if may_be_prefix else has_nothing) and (is_sort or message != b'temporary file')
+            may_end_so = message != b'temporary file' or '--temporary' in trial.words
+            return may_end_so and (is_prefix if may_be_prefix else has_nothing)
     return False
+
+
+def said_of(ran):
+    return f'status {ran.status}, {len(ran.out)} bytes, {ran.err!r}, left {ran.left}'
 
 
 def refuse_in_traces(report, shim, lanes):
     totals, faults = collections.Counter(), []
     for trial in trials():
         whole, counts = run_trial(shim.run, trial)
-        needs_read = trial.text != b''
-        if (whole.status, whole.err) != trial.ending or whole.left or 0 in (counts[0], counts[1] + (not needs_read), counts[2]):
-            faults.append(f'{trial.words}: without a refusal: {whole.status}, {whole.err!r}, {counts} allocations, reads and writes')
+        is_counted = counts[0] and counts[2] and (counts[1] or not trial.text)
+        if (whole.status, whole.err) != trial.ending or whole.left or not is_counted:
+            faults.append(f'{trial.words}: without a refusal: {said_of(whole)}, {counts} allocations, reads and writes')
         for kind, count in [*zip(KINDS, counts), ('short_write', counts[2])]:
             ended = lanes.map(lambda n: (n, run_trial(shim.run, trial, **{kind: n})[0]), range(1, count + 1))
-            faults += [f'{trial.words}: {kind} {n}: status {ran.status}, {len(ran.out)} bytes, {ran.err!r}, left {ran.left}' for n, ran in ended
+            faults += [f'{trial.words}: {kind} {n}: {said_of(ran)}' for n, ran in ended
                        if not is_as_documented(trial, kind, n == count, ran, whole)]
             totals[kind] += count
     said = f"{totals['refuse_memory']} allocations, {totals['refuse_read']} reads and {totals['refuse_write']} writes"
@@ -166,44 +170,45 @@ def limit_files(size, is_killed):
     resource.setrlimit(resource.RLIMIT_CORE, (0, 0))
 
 
+def in_small_folder(words, text):
+    """Runs a program that takes SMALL for a folder: a file system of one page, for this process alone. Names that are left in it come
+    behind the output."""
+    script = 'mount -t tmpfs -o size=4k none "$0" && { "$@"; status=$?; ls -A "$0"; exit $status; }'
+    with tempfile.TemporaryDirectory() as small:
+        words = [small if word == 'SMALL' else word for word in words]
+        return plainly(['unshare', '--mount', 'sh', '-c', script, small, *words], text)
+
+
+def in_limited_folder(size, is_killed):
+    return lambda words, text: plainly(words, text, preexec_fn=lambda: limit_files(size, is_killed))
+
+
+# Files of so many bytes at most, the memory for lines, and whether the sort can do its work. With memory for one line the first files
+# have up to 100 bytes, and the one that is merged from them has some 3,000.
+LIMITS = [(0, '1', False), (10, '1', False), (100, '1', False), (1000, '1', False), (0, '8K', False), (100, '8K', False),
+          (100000, '1', True), (0, '1M', True)]
+
+
 def fill_folders(report):
     """Sorts whose temporary files cannot be made, or cannot grow."""
-    faults, tried = [], 0
-    words, keys = 'sort --memory {memory} --temporary {folder}', all_keys()
+    keys = all_keys()
     full = Ran(5, b'', b'', b'locktrace: temporary file\n', [])
     killed = Ran(-signal.SIGXFSZ, b'', b'', b'', [])
-    sorted_whole = Ran(0, text_of(keys), b'', b'', [])
-
-    def look(what, run, folder, memory, expected):
-        nonlocal tried
-        tried += 1
-        given = words.replace('{memory}', memory).replace('{folder}', folder)
-        ran, _ = run_trial(run, Trial(given, trace_of(keys, 'words'), LEGAL))
-        if ran != expected:
-            faults.append(f'{what}, memory {memory}: status {ran.status}, {len(ran.out)} bytes, {ran.err!r}, left {ran.left}')
-
-    # With memory for one line, the first files have 20 to 70 bytes, and the last one some 3,000.
-    for size, memory, suffices in [(0, '1', False), (10, '1', False), (100, '1', False), (1000, '1', False), (0, '8K', False),
-                                   (100, '8K', False), (100000, '1', True), (0, '1M', True)]:
-        for is_killed in (False, True):
-            def limited(given, text):
-                return plainly(given, text, preexec_fn=lambda: limit_files(size, is_killed))
-            expected = sorted_whole if suffices else killed if is_killed else full
-            look(f'files of {size} bytes', limited, '{folder}', memory, expected)
-    look('no folder', plainly, '{folder}/absent', '1', full)
-    look('a device as folder', plainly, '/dev/null', '1', full)
-
-    def in_small_folder(given, text):
-        # The folder is a file system of one page for this process alone; its names are printed behind the output.
-        script = 'mount -t tmpfs -o size=4k none "$0" && { "$@"; status=$?; ls -A "$0"; exit $status; }'
-        with tempfile.TemporaryDirectory() as small:
-            given = [small if word == 'SMALL' else word for word in given]
-            return plainly(['unshare', '--mount', 'sh', '-c', script, small, *given], text)
+    whole = Ran(0, text_of(keys), b'', b'', [])
+    rows = [('{folder}/absent', '1', plainly, full), ('/dev/null', '1', plainly, full)]
+    for size, memory, suffices in LIMITS:
+        rows.append(('{folder}', memory, in_limited_folder(size, False), whole if suffices else full))
+        rows.append(('{folder}', memory, in_limited_folder(size, True), whole if suffices else killed))
     can_mount = subprocess.run(['unshare', '--mount', 'true'], capture_output=True).returncode == 0
     if can_mount:
-        look('a folder of one page', in_small_folder, 'SMALL', '1', full)
-        look('a folder of one page', in_small_folder, 'SMALL', '8K', full)
-    report.tell(f"locktrace: {tried} sorts whose temporary folder is {'full' if can_mount else 'limited'} or absent", faults)
+        rows += [('SMALL', memory, in_small_folder, full) for memory in ('1', '8K')]
+    faults = []
+    for number, (folder, memory, run, expected) in enumerate(rows):
+        trial = Trial(f'sort --memory {memory} --temporary {folder}', trace_of(keys, 'words'), None)
+        ran, _ = run_trial(run, trial)
+        if ran != expected:
+            faults.append(f'row {number}, {trial.words}: {said_of(ran)}')
+    report.tell(f"locktrace: {len(rows)} sorts whose temporary folder is absent, limited{' or full' if can_mount else ''}", faults)
 
 
 def first_fault(front, fault):

@@ -1,13 +1,14 @@
 #!/usr/bin/env python3
-"""Compares three verdicts on texts of histories that were changed by chance: of `lockrun check`, of `locktrace check`, which reads standard
-input and a file in turn, and of `locktrace explain`.
+"""Compares the verdicts of `lockrun check`, `locktrace check` and `locktrace explain` on histories that were changed by chance.
 
     tools/same_verdicts.py [--count N] [--seed S] [--lockrun PROGRAM] [--locktrace PROGRAM]
 
-The programs are those of crates/lockrun/out and crates/locktrace/out, unless they are named. A text is one of changed_texts.py's histories, or in one case of
-sixteen a text of some 200 KiB made of them. Bytes of it are changed as there, or a word of a line is replaced by another word of the same kind, a line
-loses its last word, or two lines are exchanged. Both checks must end with the same status, write the same, and name the same line and fault. Where a
-line is refused, `explain` must name it and quote it. The last line has how often each verdict came about: `N texts: .., W wrong`.
+The programs are those of crates/lockrun/out and crates/locktrace/out, unless they are named. A text is one of changed_texts.py's
+histories, or in one case of sixteen a text of some 150 KiB made of them. Bytes of it are changed as there, or a word of a line is
+replaced by another word of the same kind, or a line loses its last word, or two lines exchange their steps. Both checks must end
+with the same status, write the same, and name the same line and fault; `locktrace check` reads a file and standard input in turn.
+Where a line is refused, `explain` must name it and quote it, and say what the rules give if they were asked. The last line has how
+often each verdict came about: `N texts: .., W wrong`.
 """
 
 import argparse
@@ -29,22 +30,20 @@ TOP = pathlib.Path(__file__).resolve().parent.parent
 # How many keys a long text has.
 KEYS = 1200
 
-KINDS = [rb'[0-9]+', rb'[0-9]+\.[0-9]+', rb'[a-z]+', rb'max=[0-9]+', rb'[-=rw]']
+# Kinds of words: accesses and signs, numbers, pairs, bounds, and names.
+KINDS = [rb'[-=rw]', rb'[0-9]+', rb'[0-9]+\.[0-9]+', rb'max=[0-9]+', rb'[a-z]+']
 
 REFUSAL = re.compile(rb'line (\d+): ([A-Z]\w*)\n')
 
 
-def words_by_kind():
-    """The words of all histories, by the first kind that they are of."""
-    words = {word for text in HISTORIES for line in text.splitlines()[1:] for word in line.split(b' ')[2:]}
-    return {kind: sorted(word for word in words if kind_of(word) == kind) for kind in KINDS}
+# The words of all histories behind the indexes.
+WORDS = sorted({word for text in HISTORIES for line in text.splitlines()[1:] for word in line.split(b' ')[2:]})
 
 
-def kind_of(word):
-    return next((kind for kind in reversed(KINDS) if re.fullmatch(kind, word)), None)
-
-
-WORDS = words_by_kind()
+def of_same_kind(word):
+    """The words of the first kind that this word is of."""
+    kind = next(kind for kind in KINDS if re.fullmatch(kind, word))
+    return [it for it in WORDS if re.fullmatch(kind, it)]
 
 
 def long_text(rng):
@@ -70,11 +69,12 @@ def with_changed_words(rng, text):
         words.pop()
     elif kind == 1:
         other = rng.randrange(1, len(lines))
-        mine, its = words[2:], lines[other].split(b' ')
-        words, lines[other] = words[:2] + its[2:], b' '.join(its[:2] + mine)
+        others = lines[other].split(b' ')
+        lines[other] = b' '.join(others[:2] + words[2:])
+        words = words[:2] + others[2:]
     else:
         index = rng.randrange(2, len(words))
-        words[index] = rng.choice(WORDS.get(kind_of(words[index])) or [words[index]])
+        words[index] = rng.choice(of_same_kind(words[index]))
     lines[at] = b' '.join(words)
     return b'\n'.join(lines) + b'\n'
 
