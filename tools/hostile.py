@@ -1,7 +1,7 @@
 #!/usr/bin/env python3
 """Fault injection, fuzzing and a soak test of the proved programs: what happens when memory, streams or inputs fail.
 
-    python3 tools/hostile.py [--seconds S] [--texts N] [--runs N] [--waits N]
+    python3 tools/hostile.py [--seconds S] [--texts N] [--verdicts N] [--runs N] [--waits N]
 
 The programs must have been built, as `rt ci` does. Each part prints what it tried; the last line is `N passed, M failed`.
 
@@ -10,6 +10,7 @@ The programs must have been built, as `rt ci` does. Each part prints what it tri
   write that fails, and for each write that takes one byte. It must end as docs/FORMATS.md says: status 4 or 5 with its message and,
   unless a write failed, no output; a prefix of the output after a failed write; or exactly what it writes otherwise.
 - Scripts and histories of examples/, cut at every byte, are answered as docs/FORMATS.md says.
+- tools/hostile_traces.py does the same with `locktrace`, and compares its verdicts on N changed texts with those of `lockrun`.
 - tools/changed_texts.py has `lockrun` run and check N scripts and histories that were changed at random.
 - `lockbench soak` plays random requests on threads for S seconds: a third of them on tables that keep their history whole, a third on
   streamed ones, and a third on one that records nothing and may not grow. `lockrun check` reads the histories that are left.
@@ -28,8 +29,8 @@ import sys
 import tempfile
 from concurrent.futures import ThreadPoolExecutor
 
-HERE = os.path.dirname(os.path.abspath(__file__))
-CRATES = os.path.join(os.path.dirname(HERE), 'crates')
+from hostile_traces import try_traces
+from injection import HERE, KINDS, TOP, Report, Shim, built
 
 # Tests that pass under any single allocation failure, by crate: those whose names begin so.
 TESTS = [
@@ -70,47 +71,6 @@ GROWTH = 16 * 1024
 
 # Two passes with a key each: on threads, too, it has one output.
 APART = b'1 acquire 7 20.0 a\n2 open 8 20.0 b:w c:r\n2 scan\n1 finish 7 a\n2 acquire 8 20.0 b\n2 finish 8 b\n2 leave\n'
-
-
-def built(crate, tests=False):
-    return os.path.join(CRATES, crate, 'out', crate + ('_tests' if tests else ''))
-
-
-class Shim:
-    """Runs programs with one request refused."""
-
-    def __init__(self, folder):
-        self.library = os.path.join(folder, 'refuse.so')
-        source = os.path.join(HERE, 'refuse.c')
-        subprocess.run(['cc', '-O1', '-shared', '-fPIC', '-o', self.library, source, '-ldl'], check=True)
-
-    def run(self, words, text=b'', **refused):
-        """Returns the status, standard output, standard error, and how much memory, reads and writes were asked for."""
-        read_end, write_end = os.pipe()
-        settings = {'LD_PRELOAD': self.library, 'TELL': str(write_end)}
-        settings |= {name.upper(): str(number) for name, number in refused.items()}
-        process = subprocess.Popen(words, env={**os.environ, **settings}, pass_fds=[write_end], stdin=subprocess.PIPE,
-                                   stdout=subprocess.PIPE, stderr=subprocess.PIPE)
-        os.close(write_end)
-        try:
-            out, err = process.communicate(text, timeout=120)
-        except subprocess.TimeoutExpired:
-            process.kill()
-            out, err = process.communicate()
-        with os.fdopen(read_end) as told:
-            counts = [int(word) for word in told.read().split()[-3:]]
-        return process.returncode, out, err, counts or [0, 0, 0]
-
-
-class Report:
-    def __init__(self):
-        self.passed = self.failed = 0
-
-    def tell(self, what, faults):
-        print(f"{'FAILED' if faults else 'passed'}: {what}", flush=True)
-        for fault in faults[:5]:
-            print(f'    {fault}')
-        self.passed, self.failed = self.passed + (not faults), self.failed + bool(faults)
 
 
 def tests_of(program, prefix):
@@ -156,7 +116,7 @@ def as_told(kind, ran, status, out):
 
 
 def example_scripts():
-    found = glob.glob(os.path.join(os.path.dirname(HERE), 'examples', '*'))
+    found = glob.glob(os.path.join(TOP, 'examples', '*'))
     return sorted(it for it in found if '.' not in os.path.basename(it))
 
 
@@ -172,7 +132,7 @@ def refuse_in_program(report, shim, lanes):
         status, out, err, counts = shim.run([program, *words], text)
         if status or err or 0 in (counts[0], counts[2]):
             faults.append(f'{words}: without a refusal: status {status}, {counts} allocations, reads and writes')
-        for kind, count in zip(('refuse_memory', 'refuse_read', 'refuse_write', 'short_write'), [*counts, counts[2]]):
+        for kind, count in [*zip(KINDS, counts), ('short_write', counts[2])]:
             ended = lanes.map(lambda n: (n, shim.run([program, *words], text, **{kind: n})), range(1, count + 1))
             faults += [f'{words}: {kind} {n}: status {ran[0]}, {len(ran[1])} bytes, {ran[2]!r}' for n, ran in ended
                        if not as_told(kind, ran, status, out)]
@@ -354,6 +314,7 @@ def main():
     parser = argparse.ArgumentParser(description=__doc__, formatter_class=argparse.RawDescriptionHelpFormatter)
     parser.add_argument('--seconds', type=int, default=600)
     parser.add_argument('--texts', type=int, default=100000)
+    parser.add_argument('--verdicts', type=int, default=2000)
     parser.add_argument('--runs', type=int, default=2000)
     parser.add_argument('--waits', type=int, default=10)
     given = parser.parse_args()
@@ -363,14 +324,14 @@ def main():
         refuse_in_tests(report, shim, lanes)
         refuse_in_program(report, shim, lanes)
         cut_everywhere(report, lanes)
+        try_traces(report, shim, lanes, given.verdicts)
         change = [sys.executable, os.path.join(HERE, 'changed_texts.py'), '--count', str(given.texts)]
-        ends_with_none_wrong(report, change, os.path.dirname(HERE))
+        ends_with_none_wrong(report, change, TOP)
         soak(report, folder, given.seconds)
         wait_again(report, lanes, folder, given.waits)
         compare = [sys.executable, os.path.join(HERE, 'random_runs.py'), '--runs', str(given.runs)]
-        ends_with_none_wrong(report, compare, os.path.dirname(HERE))
-    print(f'{report.passed} passed, {report.failed} failed')
-    return 1 if report.failed else 0
+        ends_with_none_wrong(report, compare, TOP)
+    return report.end()
 
 
 if __name__ == '__main__':
