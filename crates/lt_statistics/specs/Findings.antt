@@ -94,9 +94,13 @@ begun_waits (Finish txn) reply index = []
 begun_waits (Leave number) reply index = []
 begun_waits (Look number) reply index = []
 
+-- the open waits of which the step may end some, given those before it
+abbrev pub pending_at : TracedStep → List OpenWait → List OpenWait
+pending_at x pending = without_mover (mover_of x.call) pending
+
 -- the open waits after the step, given those before it
 abbrev pub pending_after : TracedStep → List OpenWait → List OpenWait
-pending_after x pending = without_ended x.tickets (without_mover (mover_of x.call) pending) ++ begun_waits x.call x.reply x.index
+pending_after x pending = without_ended x.tickets (pending_at x pending) ++ begun_waits x.call x.reply x.index
 
 -- ---- the longest wait
 
@@ -127,7 +131,7 @@ with_ended pending key index longest ticket = longer_wait longest (ended_wait pe
 
 -- the longest wait after the step: its lets are looked at one after the other
 abbrev pub wait_after : TracedStep → List OpenWait → Option LongestWait → Option LongestWait
-wait_after x pending longest = fold (with_ended (without_mover (mover_of x.call) pending) x.key x.index) longest x.tickets
+wait_after x pending longest = fold (with_ended (pending_at x pending) x.key x.index) longest x.tickets
 
 -- ---- the hottest keys
 

@@ -1,2 +1,3 @@
 pub mod Findings
 pub mod Taken
+pub mod Laws

@@ -8,6 +8,7 @@
 #![tactic(auto)]
 
 mod hottest;
+mod laws;
 mod queue;
 mod statistics;
 mod step;
@@ -15,6 +16,7 @@ mod summary;
 mod waits;
 
 pub use hottest::MOST_KEYS;
+pub use laws::{no_longer_queue, no_longer_wait};
 pub use statistics::Statistics;
 pub use step::StepFacts;
 pub use summary::{HotKey, LongestQueue, LongestWait, StepCounts, TextSummary};
