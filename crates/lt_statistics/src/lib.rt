@@ -20,3 +20,6 @@ pub use laws::{no_longer_queue, no_longer_wait};
 pub use statistics::Statistics;
 pub use step::StepFacts;
 pub use summary::{HotKey, LongestQueue, LongestWait, StepCounts, TextSummary};
+
+#[cfg(test)]
+mod tests;
