@@ -1,7 +1,7 @@
 //! Are the statistics as they were worked out by hand? Each row is a step; each case has its steps and its summary. Some
 //! cases are no legal texts: the statistics count what they are given. A case that runs out of memory is played again, so
 //! the test also passes if any one allocation fails.
-use crate::{LongestQueue, LongestWait, Statistics, StepFacts, TextSummary};
+use crate::{HotKey, LongestQueue, LongestWait, Statistics, StepCounts, StepFacts, TextSummary};
 use lt_ids::{Access, Key, Ticket, Timestamp};
 use lt_plain::{Call, Reply};
 use std::alloc::Global;
@@ -24,6 +24,7 @@ type StepRow<'a> = (&'a [u8], u64, Does, &'a [u64], u64);
 
 /// A case: its steps; its keys, steps, waits, lets and waits that no step ended; the longest queue by key, index and
 /// length; the longest wait by key, request, first and last index; the hottest keys with their steps and waits.
+#[derive(Clone, Copy)]
 struct Case<'a> {
     steps: &'a [StepRow<'a>],
     counts: [u64; 5],
@@ -194,22 +195,42 @@ fn wait_of(longest: &Option<LongestWait>) -> Option<(&[u8], u64, u64, u64)> {
     }
 }
 
+/// Fails unless these are the counts of a case.
+fn expect_counts(rt: &impl Abort, found: &StepCounts, wanted: [u64; 5]) {
+    let unended = found.unended();
+    assert_eq!(rt; found.keys, wanted[0]);
+    assert_eq!(rt; found.steps, wanted[1]);
+    assert_eq!(rt; found.waits, wanted[2]);
+    assert_eq!(rt; found.lets, wanted[3]);
+    assert_eq!(rt; unended, wanted[4]);
+}
+
+/// Fails unless these are the hottest keys of a case.
+fn expect_hottest(rt: &impl Abort, found: &[HotKey], wanted: &[(&[u8], u64, u64)]) {
+    assert_eq!(rt; found.len(), wanted.len());
+    for (hot, want) in found.iter().zip(wanted) {
+        let (key, steps, waits) = *want;
+        assert_eq!(rt; hot.key.as_bytes(), key);
+        assert_eq!(rt; hot.steps, steps);
+        assert_eq!(rt; hot.waits, waits);
+    }
+}
+
 /// Fails unless the summary is that of the case.
 fn expect(rt: &impl Abort, summary: &TextSummary, case: &Case) {
-    let counts = &summary.counts;
-    assert_eq!(rt; counts.keys, case.counts[0]);
-    assert_eq!(rt; counts.steps, case.counts[1]);
-    assert_eq!(rt; counts.waits, case.counts[2]);
-    assert_eq!(rt; counts.lets, case.counts[3]);
-    assert_eq!(rt; counts.unended(), case.counts[4]);
-    assert!(rt; queue_of(&summary.longest_queue) == case.queue);
-    assert!(rt; wait_of(&summary.longest_wait) == case.wait);
-    assert_eq!(rt; summary.hottest.len(), case.hottest.len());
-    for (hot, (key, steps, waits)) in summary.hottest.iter().zip(case.hottest) {
-        assert_eq!(rt; hot.key.as_bytes(), *key);
-        assert_eq!(rt; hot.steps, *steps);
-        assert_eq!(rt; hot.waits, *waits);
-    }
+    let Case {
+        counts,
+        queue,
+        wait,
+        hottest,
+        ..
+    } = *case;
+    expect_counts(rt, &summary.counts, counts);
+    let found_queue = queue_of(&summary.longest_queue);
+    let found_wait = wait_of(&summary.longest_wait);
+    assert!(rt; found_queue == queue);
+    assert!(rt; found_wait == wait);
+    expect_hottest(rt, &summary.hottest, hottest);
 }
 
 #[test]
