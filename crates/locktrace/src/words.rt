@@ -171,6 +171,7 @@ fn command<'a>(alloc: Global) -> Result<Command<'a>, AllocError> {
     let about = "Works with traces of lock tables: sorts, checks, explains, shows and draws them";
     Command::new(alloc, "locktrace")
         .no_binary_name(true)
+        .bin_name("locktrace")?
         .about(about)
         .after_help(help::PROGRAM)
         .subcommand(sorter(alloc)?)?
