@@ -1,10 +1,12 @@
-//! How is a fault explained? [`explain_file`] checks a file, and for its first faulty line writes what the rules give,
-//! by which row of docs/RULES.md, the record of the key before the line, and the key's latest lines.
+//! How is a text explained? [`explain_file`] checks a file. It writes the summary of a legal text (`gather.rt`). For the
+//! first faulty line of another one it writes what the rules give, by which row of docs/RULES.md, the record of the key
+//! before the line, and the key's latest lines.
 use crate::failure::{TraceFailure, of_audit};
-use crate::follow::write_text;
+use crate::follow::{follow_steps, write_text};
+use crate::gather::Gatherer;
 use crate::input::open_reader;
-use lt_audit::{AuditError, Explained, Rule, check_stream, explain, rule_of};
-use lt_history::{Expected, Fault};
+use lt_audit::{Explained, Rule, explain, rule_of};
+use lt_history::Expected;
 use lt_ids::Ticket;
 use lt_picture::put_state;
 use lt_text::put::{put_number_word, put_reply, put_ticket, put_word};
@@ -60,14 +62,14 @@ fn put_before(out: &mut Vec<u8>, before: &[Vec<u8>]) -> Result<(), AllocError> {
 fn explanation(
     alloc: Global,
     explained: &Explained,
-    line: usize,
-    fault: Fault,
+    line: u64,
+    fault: &str,
 ) -> Result<Vec<u8>, AllocError> {
     let mut out = Vec::new(alloc);
     out.extend_from_slice(b"line")?;
-    put_number_word(&mut out, line as u64)?;
+    put_number_word(&mut out, line)?;
     out.extend_from_slice(b": ")?;
-    out.extend_from_slice(fault.name().as_bytes())?;
+    out.extend_from_slice(fault.as_bytes())?;
     out.push(b'\n')?;
     put_line(&mut out, &explained.line)?;
     if let Some((call, state)) = &explained.asked {
@@ -88,15 +90,15 @@ fn explain_line<F: Files, W: Write>(
     alloc: Global,
     name: &str,
     output: &mut W,
-    line: usize,
-    fault: Fault,
+    line: u64,
+    fault: &'static str,
 ) -> Result<(), TraceFailure> {
-    let failure = of_audit(AuditError::Refused { line, fault });
+    let failure = TraceFailure::Refused { line, name: fault };
     if line < 2 {
         return Err(failure);
     }
     let mut reader = open_reader(files, alloc, name)?;
-    let explained = match explain(alloc, &mut reader, line) {
+    let explained = match explain(alloc, &mut reader, line as usize) {
         Ok(explained) => explained,
         Err(error) => return Err(of_audit(error)),
     };
@@ -104,7 +106,7 @@ fn explain_line<F: Files, W: Write>(
     Err(failure)
 }
 
-/// Checks the file. Writes the numbers of a legal text, or the explanation of the first faulty line, and ends with it.
+/// Checks the file. Writes the summary of a legal text, or the explanation of the first faulty line, and ends with it.
 pub fn explain_file<F: Files, W: Write>(
     files: &F,
     alloc: Global,
@@ -112,14 +114,12 @@ pub fn explain_file<F: Files, W: Write>(
     output: &mut W,
 ) -> Result<(), TraceFailure> {
     let mut reader = open_reader(files, alloc, name)?;
-    match check_stream(alloc, &mut reader) {
-        Ok(report) => {
-            let text = format!(in alloc; "ok {} keys {} steps\n", report.keys, report.steps)?;
-            write_text(output, text.as_bytes())
-        }
-        Err(AuditError::Refused { line, fault }) => {
+    let mut gatherer = Gatherer::new(alloc);
+    match follow_steps(alloc, &mut reader, output, &mut gatherer) {
+        Ok(report) => write_text(output, &gatherer.text(&report)?),
+        Err(TraceFailure::Refused { line, name: fault }) => {
             explain_line(files, alloc, name, output, line, fault)
         }
-        Err(error) => Err(of_audit(error)),
+        Err(failure) => Err(failure),
     }
 }

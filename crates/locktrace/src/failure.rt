@@ -30,6 +30,9 @@ pub enum TraceFailure {
     Read,
     #[error("write")]
     Write,
+    /// The reader of the output has closed its pipe. The program ends without a message.
+    #[error("closed")]
+    Closed,
     /// The trace has 2^64 steps of a key or more.
     #[error("the trace is too long")]
     TooLong,
@@ -110,7 +113,7 @@ pub fn of_picture(error: PictureError) -> TraceFailure {
 }
 
 /// The exit status of the program: 0 if it did its work; 1 if a trace or a text was refused, or cannot be drawn; 2 if
-/// the command line was refused; 4 if memory ran out; 5 if a read or a write failed.
+/// the command line was refused; 4 if memory ran out; 5 if a read or a write failed, also to a closed pipe.
 pub fn status(ending: &Result<(), TraceFailure>) -> u8 {
     match ending {
         Ok(()) => 0,
@@ -122,6 +125,11 @@ pub fn status(ending: &Result<(), TraceFailure>) -> u8 {
         ) => 1,
         Err(TraceFailure::Words) => 2,
         Err(TraceFailure::Memory) => 4,
-        Err(TraceFailure::Read | TraceFailure::Write | TraceFailure::Temporary) => 5,
+        Err(
+            TraceFailure::Read
+            | TraceFailure::Write
+            | TraceFailure::Closed
+            | TraceFailure::Temporary,
+        ) => 5,
     }
 }

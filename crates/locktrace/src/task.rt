@@ -3,6 +3,7 @@ use crate::explain::explain_file;
 use crate::failure::{TraceFailure, of_audit, of_picture, of_sort};
 use crate::follow::{StepTaker, follow_steps, write_text};
 use crate::input::buffered;
+use crate::output::Output;
 use crate::words::{PictureWords, SortWords, Task, WantedSteps};
 use lt_audit::check_stream;
 use lt_ids::Key;
@@ -11,9 +12,6 @@ use lt_trace::{SortOptions, TraceForm, sort_trace};
 use std::alloc::Global;
 use std::fs::{File, Files};
 use std::io::{BufRead, BufWriter, Read, Write};
-
-/// How many columns a table of steps has.
-const WIDTH: u16 = 120;
 
 /// How many runs a sort merges at once.
 const WAYS: usize = 64;
@@ -103,10 +101,8 @@ fn show<R: BufRead, W: Write>(
     reader: &mut R,
     output: &mut W,
     wanted: &WantedSteps,
+    layout: Layout,
 ) -> Result<(), TraceFailure> {
-    let Some(layout) = Layout::new(WIDTH, false) else {
-        return Err(TraceFailure::Words);
-    };
     let mut shower = Shower {
         alloc,
         wanted: *wanted,
@@ -201,7 +197,7 @@ fn perform_over<F: Files, R: BufRead, W: Write>(
         Task::Sort(_, words) => sort(files, alloc, reader, output, words),
         Task::Check(_) => check(alloc, reader, output),
         Task::Explain(name) => explain_file(files, alloc, name, output),
-        Task::Show(_, wanted) => show(alloc, reader, output, wanted),
+        Task::Show(_, wanted, layout) => show(alloc, reader, output, wanted, *layout),
         Task::Picture(_, wanted, picture) => draw(files, alloc, reader, output, wanted, picture),
     }
 }
@@ -215,21 +211,28 @@ fn perform_on<F: Files, R: Read + Drop, W: Write + Drop>(
     output: W,
 ) -> Result<(), TraceFailure> {
     let mut reader = buffered(alloc, input)?;
-    let Ok(mut writer) = BufWriter::with_capacity(alloc, PIECE, output) else {
+    let Ok(mut writer) = BufWriter::with_capacity(alloc, PIECE, Output::new(output)) else {
         return Err(TraceFailure::Memory);
     };
-    perform_over(files, alloc, task, &mut reader, &mut writer)?;
-    match writer.flush() {
-        Ok(()) => Ok(()),
-        Err(_) => Err(TraceFailure::Write),
+    let mut ending = perform_over(files, alloc, task, &mut reader, &mut writer);
+    if ending.is_ok() && writer.flush().is_err() {
+        ending = Err(TraceFailure::Write);
     }
+    if let Err(TraceFailure::Write) = ending
+        && writer.get_ref().is_closed()
+    {
+        return Err(TraceFailure::Closed);
+    }
+    ending
 }
 
 /// The file of the task.
 fn file_of<'a>(task: &Task<'a>) -> Option<&'a str> {
     match task {
-        Task::Sort(file, _) | Task::Check(file) | Task::Show(file, _) | Task::Picture(file, _, _) =>
-            *file,
+        Task::Sort(file, _)
+        | Task::Check(file)
+        | Task::Show(file, _, _)
+        | Task::Picture(file, _, _) => *file,
         Task::Explain(_) => None,
     }
 }

@@ -1,6 +1,9 @@
 //! Which task do the words of the command line ask for?
+use crate::help;
+use crate::layout::{Terminal, layout_of};
 use clap::error::ErrorKind;
 use clap::{Arg, ArgAction, ArgMatches, Command, Error};
+use lt_picture::Layout;
 use std::alloc::{AllocError, Global};
 
 /// Which steps of a text are wanted.
@@ -38,7 +41,7 @@ pub enum Task<'a> {
     Sort(Option<&'a str>, SortWords<'a>),
     Check(Option<&'a str>),
     Explain(&'a str),
-    Show(Option<&'a str>, WantedSteps<'a>),
+    Show(Option<&'a str>, WantedSteps<'a>, Layout),
     Picture(Option<&'a str>, WantedSteps<'a>, PictureWords<'a>),
 }
 
@@ -102,6 +105,7 @@ fn sorter<'a>(alloc: Global) -> Result<Command<'a>, AllocError> {
         "The folder for temporary files, default /tmp",
     );
     reader(alloc, "sort", about)?
+        .after_help(help::SORT)
         .arg(json)?
         .arg(memory)?
         .arg(folder)
@@ -110,23 +114,41 @@ fn sorter<'a>(alloc: Global) -> Result<Command<'a>, AllocError> {
 fn checker<'a>(alloc: Global) -> Result<Command<'a>, AllocError> {
     let about =
         "Checks whether a text of histories is legal, and writes the numbers of its keys and steps";
-    reader(alloc, "check", about)
+    Ok(reader(alloc, "check", about)?.after_help(help::CHECK))
 }
 
 fn explainer<'a>(alloc: Global) -> Result<Command<'a>, AllocError> {
     let about =
-        "Checks a text of histories, and says what the rules give for its first faulty line";
+        "Checks a text of histories. Says what the rules give for its first faulty line, or sums up a legal text";
     let file = Arg::new(alloc, "file")
         .value_name("FILE")
         .required(true)
-        .help("The file to read. It is read twice");
-    Command::new(alloc, "explain").about(about).arg(file)
+        .help("The file to read. It is read twice if it has a fault");
+    Command::new(alloc, "explain")
+        .about(about)
+        .after_help(help::EXPLAIN)
+        .arg(file)
 }
 
 fn shower<'a>(alloc: Global) -> Result<Command<'a>, AllocError> {
     let about =
         "Checks a text of histories, and writes the steps of its keys as a table with the state after each";
-    chooser(alloc, reader(alloc, "show", about)?)
+    let width = option(
+        alloc,
+        "width",
+        "N",
+        "The width of the table in columns, from 40 to 65535",
+    );
+    let colour = option(
+        alloc,
+        "colour",
+        "WHEN",
+        "Whether the table has colours: always, never, or auto, the default",
+    );
+    chooser(alloc, reader(alloc, "show", about)?)?
+        .after_help(help::SHOW)
+        .arg(width)?
+        .arg(colour)
 }
 
 fn drawer<'a>(alloc: Global) -> Result<Command<'a>, AllocError> {
@@ -139,6 +161,7 @@ fn drawer<'a>(alloc: Global) -> Result<Command<'a>, AllocError> {
     );
     let html = flag(alloc, "html", "Makes a page of HTML instead of an SVG");
     chooser(alloc, reader(alloc, "picture", about)?)?
+        .after_help(help::PICTURE)
         .arg(out.short('o'))?
         .arg(html)
 }
@@ -148,7 +171,9 @@ fn command<'a>(alloc: Global) -> Result<Command<'a>, AllocError> {
     let about = "Works with traces of lock tables: sorts, checks, explains, shows and draws them";
     Command::new(alloc, "locktrace")
         .no_binary_name(true)
+        .bin_name("locktrace")?
         .about(about)
+        .after_help(help::PROGRAM)
         .subcommand(sorter(alloc)?)?
         .subcommand(checker(alloc)?)?
         .subcommand(explainer(alloc)?)?
@@ -214,7 +239,7 @@ fn sort_of<'a>(matches: &ArgMatches<'a>) -> Option<SortWords<'a>> {
 }
 
 /// The task that the matches name. Without a command, it is a check of standard input.
-fn task_of<'a>(matches: &ArgMatches<'a>) -> Option<Task<'a>> {
+fn task_of<'a>(terminal: &Terminal, matches: &ArgMatches<'a>) -> Option<Task<'a>> {
     let Some((name, inner)) = matches.subcommand() else {
         return Some(Task::Check(None));
     };
@@ -223,7 +248,10 @@ fn task_of<'a>(matches: &ArgMatches<'a>) -> Option<Task<'a>> {
         "sort" => Some(Task::Sort(file, sort_of(inner)?)),
         "check" => Some(Task::Check(file)),
         "explain" => Some(Task::Explain(file?)),
-        "show" => Some(Task::Show(file, wanted_of(inner)?)),
+        "show" => {
+            let layout = layout_of(terminal, inner.get_str("width"), inner.get_str("colour"))?;
+            Some(Task::Show(file, wanted_of(inner)?, layout))
+        }
         "picture" => {
             let picture = PictureWords {
                 out: inner.get_str("out"),
@@ -248,13 +276,17 @@ fn translated(alloc: Global, error: &Error) -> TaskError {
 }
 
 /// Reads the words after the program's name: a command, at most one file, and the options of the command. No words at
-/// all mean `check`.
-pub fn read_task<'a>(alloc: Global, words: &'a [&'a str]) -> Result<Task<'a>, TaskError> {
+/// all mean `check`. What the words leave open of a table's layout, the terminal decides.
+pub fn read_task<'a>(
+    alloc: Global,
+    terminal: &Terminal,
+    words: &'a [&'a str],
+) -> Result<Task<'a>, TaskError> {
     let Ok(command) = command(alloc) else {
         return Err(TaskError::Memory);
     };
     match command.try_get_matches_from(words) {
-        Ok(matches) => match task_of(&matches) {
+        Ok(matches) => match task_of(terminal, &matches) {
             Some(task) => Ok(task),
             None => Err(TaskError::Refused),
         },

@@ -1,0 +1,134 @@
+//! What do the steps of a legal text amount to? [`Gatherer`] gives each step to the statistics, and
+//! [`Gatherer::text`] is their summary. docs/FORMATS.md, "What a text amounts to", has its lines.
+use crate::failure::TraceFailure;
+use crate::follow::StepTaker;
+use lt_history::Report;
+use lt_ids::Key;
+use lt_picture::ShownStep;
+use lt_statistics::{HotKey, LongestQueue, LongestWait, Statistics, StepCounts, StepFacts};
+use std::alloc::{AllocError, Global};
+
+/// Gives the steps of a text to the statistics.
+#[derive(Drop)]
+pub struct Gatherer {
+    alloc: Global,
+    statistics: Statistics,
+}
+
+impl StepTaker for Gatherer {
+    fn wants(&self, _key: &Key, _index: u64) -> bool {
+        true
+    }
+
+    fn take(&mut self, key: Key, step: ShownStep) -> Result<Vec<u8>, TraceFailure> {
+        let writers = step.state.writers.len() as u64;
+        let queue = writers.saturating_add(step.state.readers.len() as u64);
+        let ShownStep {
+            index,
+            call,
+            reply,
+            tickets,
+            ..
+        } = step;
+        let facts = StepFacts {
+            index,
+            call,
+            reply,
+            tickets,
+            queue,
+        };
+        self.statistics.take(&key, &facts)?;
+        Ok(Vec::new(self.alloc))
+    }
+}
+
+/// Appends the line of the waits.
+fn put_waits(out: &mut Vec<u8>, counts: &StepCounts) -> Result<(), AllocError> {
+    let line = format!(in *out.allocator();
+        "waits {}, let through {}, never let through {}\n",
+        counts.waits,
+        counts.lets,
+        counts.unended()
+    )?;
+    out.extend_from_slice(line.as_bytes())
+}
+
+/// Appends the line of the longest queue.
+fn put_queue(out: &mut Vec<u8>, longest: &Option<LongestQueue>) -> Result<(), AllocError> {
+    let Some(longest) = longest else {
+        return out.extend_from_slice(b"longest queue 0\n");
+    };
+    let alloc = *out.allocator();
+    let begin = format!(in alloc; "longest queue {}, at ", longest.requests)?;
+    let end = format!(in alloc; " after step {}\n", longest.index)?;
+    out.extend_from_slice(begin.as_bytes())?;
+    out.extend_from_slice(longest.key.as_bytes())?;
+    out.extend_from_slice(end.as_bytes())
+}
+
+/// Appends the line of the longest wait.
+fn put_wait(out: &mut Vec<u8>, longest: &Option<LongestWait>) -> Result<(), AllocError> {
+    let Some(longest) = longest else {
+        return out.extend_from_slice(b"longest wait 0 steps\n");
+    };
+    let alloc = *out.allocator();
+    let begin = format!(in alloc;
+        "longest wait {} steps, of ticket {:?} at ",
+        longest.to.saturating_sub(longest.from),
+        longest.ticket
+    )?;
+    let end = format!(in alloc; " from step {} to {}\n", longest.from, longest.to)?;
+    out.extend_from_slice(begin.as_bytes())?;
+    out.extend_from_slice(longest.key.as_bytes())?;
+    out.extend_from_slice(end.as_bytes())
+}
+
+/// Appends the line of a hot key. Its name takes this many columns.
+fn put_hot(out: &mut Vec<u8>, hot: &HotKey, width: usize) -> Result<(), AllocError> {
+    let key = hot.key.as_bytes();
+    out.extend_from_slice(b"    ")?;
+    out.extend_from_slice(key)?;
+    for _ in key.len()..width {
+        out.push(b' ')?;
+    }
+    let end = format!(in *out.allocator(); "  {} steps, {} waits\n", hot.steps, hot.waits)?;
+    out.extend_from_slice(end.as_bytes())
+}
+
+/// Appends the lines of the hottest keys.
+fn put_hottest(out: &mut Vec<u8>, hottest: &[HotKey]) -> Result<(), AllocError> {
+    if hottest.is_empty() {
+        return Ok(());
+    }
+    let mut width = 0;
+    for hot in hottest {
+        width = width.max(hot.key.as_bytes().len());
+    }
+    out.extend_from_slice(b"hottest keys:\n")?;
+    for hot in hottest {
+        put_hot(out, hot, width)?;
+    }
+    Ok(())
+}
+
+impl Gatherer {
+    pub fn new(alloc: Global) -> Gatherer {
+        Gatherer {
+            alloc,
+            statistics: Statistics::new(alloc),
+        }
+    }
+
+    /// The summary of the steps that were taken, below the line with these numbers.
+    pub fn text(self, report: &Report) -> Result<Vec<u8>, AllocError> {
+        let Gatherer { alloc, statistics } = self;
+        let summary = statistics.finish()?;
+        let line = format!(in alloc; "ok {} keys {} steps\n", report.keys, report.steps)?;
+        let mut out = Vec::from_slice(alloc, line.as_bytes())?;
+        put_waits(&mut out, &summary.counts)?;
+        put_queue(&mut out, &summary.longest_queue)?;
+        put_wait(&mut out, &summary.longest_wait)?;
+        put_hottest(&mut out, &summary.hottest)?;
+        Ok(out)
+    }
+}

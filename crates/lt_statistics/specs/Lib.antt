@@ -1,0 +1,3 @@
+pub mod Findings
+pub mod Taken
+pub mod Laws
