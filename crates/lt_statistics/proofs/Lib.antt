@@ -1,3 +1,4 @@
 pub mod Ranks
 pub mod Longest
 pub mod Heat
+pub mod OpenWaits

@@ -1,9 +1,10 @@
 -- What the definitions of the statistics amount to.
-use Rattle.std.specs.Prelude.{ℕ, ◌≡◌, ◌-◌, ◌≤◌, false, List, [], ◌∷◌, ◌++◌, Some, slice_get, IsPermutation}
+use Rattle.std.specs.Prelude.{ℕ, ◌≡◌, ◌≢◌, ◌-◌, ◌≤◌, false, List, [], ◌∷◌, ◌++◌, Some, IfSome, slice_get, IsPermutation}
 use Rattle.std.specs.List.{AllByRecursion}
 use Rattle.lt_ids.specs.Ids.{Wait}
 use Rattle.lt_statistics.specs.declared.summary.HotKey.{HotKey}
-use Rattle.lt_statistics.specs.Findings.{TracedStep, findings_of, queue_len, wait_len, with_key, pending_at, since_of, is_hotter, ranking}
+use Rattle.lt_statistics.specs.Findings.{TracedStep, findings_of, queue_len, wait_len, with_key, pending_at, since_of, is_hotter, ranking, mover_of, is_let_through, begun_waits}
+use Rattle.lt_statistics.specs.declared.waits.OpenWait.{OpenWait}
 
 -- After no step is a queue longer than the longest one.
 abbrev pub NoLongerQueue : Type 0
@@ -23,3 +24,26 @@ IsHottestFirst (hot ∷ others) = AllByRecursion (λ other. is_hotter other hot 
 -- A ranking has the same keys, and no key is hotter than one before it.
 abbrev pub RankingIsHottestFirst : Type 0
 RankingIsHottestFirst = (keys : List HotKey) → IsPermutation (ranking keys) keys × IsHottestFirst (ranking keys)
+
+-- The step leaves the wait open: it is a step of its key, neither a visit nor a leave of its request, and it does not let
+-- its ticket through.
+pub record LeavesOpen (key : List ℕ) (w : OpenWait) (x : TracedStep) : Type 0 where
+  pub at_key : x.key ≡ key
+  pub not_moved : mover_of x.call ≢ Some w.ticket.number
+  pub not_let : is_let_through x.tickets w.ticket ≡ false
+
+-- A step of the key began the wait: a visit with its ticket and index that was answered `wait`. All later steps leave it
+-- open.
+pub record IsOpenSince (steps : List TracedStep) (key : List ℕ) (w : OpenWait) : Type 0 where
+  pub before : List TracedStep
+  pub began : TracedStep
+  pub since : List TracedStep
+  pub joined : steps ≡ before ++ began ∷ since
+  pub at_key : began.key ≡ key
+  pub begins : begun_waits began.call began.reply began.index ≡ w ∷ []
+  pub left_open : AllByRecursion (LeavesOpen key w) since
+
+-- Each open wait was begun at the latest key, and nothing has ended it since.
+abbrev pub OpenWaitsAreOpen : Type 0
+OpenWaitsAreOpen = (steps : List TracedStep) →
+    IfSome (slice_get (findings_of steps).keys 0) (λ latest. AllByRecursion (IsOpenSince steps latest.key) (findings_of steps).pending)

@@ -1,6 +1,6 @@
 //! What do the definitions of the statistics amount to? A longest queue and a longest wait are no shorter than any other,
 //! and the hottest keys come first.
-ghost use Rattle.lt_statistics.specs.Laws.{NoLongerQueue, NoLongerWait, RankingIsHottestFirst};
+ghost use Rattle.lt_statistics.specs.Laws.{NoLongerQueue, NoLongerWait, OpenWaitsAreOpen, RankingIsHottestFirst};
 
 /// After no step is a queue longer than the longest one.
 pub fn no_longer_queue()
@@ -15,4 +15,10 @@ pub fn no_longer_wait()
 /// A ranking of keys has the same keys, and none is hotter than one before it.
 pub fn ranking_is_hottest_first()
     ensures { RankingIsHottestFirst }
+{}
+
+/// Each open wait began with a visit of the latest key that was answered `wait`. Since then, its request has neither
+/// visited the key nor left it, and its ticket was not let through.
+pub fn open_waits_are_open()
+    ensures { OpenWaitsAreOpen }
 {}
