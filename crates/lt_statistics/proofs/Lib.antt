@@ -2,3 +2,4 @@ pub mod Ranks
 pub mod Longest
 pub mod Heat
 pub mod OpenWaits
+pub mod EndedWaits

@@ -11,7 +11,7 @@ use Rattle.lt_statistics.specs.Findings.{TracedStep, Findings, queue_len, longer
 use Rattle.lt_statistics.specs.Laws.{NoLongerQueue, NoLongerWait}
 
 -- a new key leaves both as they are
-with_key_keeps : (f : Findings) (key : List ℕ) → ((with_key f key).queue ≡ f.queue) × ((with_key f key).wait ≡ f.wait)
+pub with_key_keeps : (f : Findings) (key : List ℕ) → ((with_key f key).queue ≡ f.queue) × ((with_key f key).wait ≡ f.wait)
 with_key_keeps f key =
     elim (is_key_of (slice_get f.keys 0) key) as (λ b. ((cond b f (record f { keys = record { key = key; steps = 0; waits = 0 } ∷ f.keys; pending = [] })).queue ≡ f.queue) × ((cond b f (record f { keys = record { key = key; steps = 0; waits = 0 } ∷ f.keys; pending = [] })).wait ≡ f.wait)) [
       | true ↦ (refl, refl)

@@ -48,12 +48,12 @@ stays_open steps x w h left = record {
   left_open = all_of_push (LeavesOpen x.key w) h.since x h.left_open left;
 }
 
-not_true : (b : Bool) → not b ≡ true → b ≡ false
+pub not_true : (b : Bool) → not b ≡ true → b ≡ false
 not_true true e = absurd (false≢true e)
 not_true false e = refl
 
 -- the waits that are not the mover's
-not_moved : (P : OpenWait → Type 0) (mover : Option ℕ) (ws : List OpenWait) → AllByRecursion P ws → AllByRecursion (λ w. P w × (mover ≢ Some w.ticket.number)) (without_mover mover ws)
+pub not_moved : (P : OpenWait → Type 0) (mover : Option ℕ) (ws : List OpenWait) → AllByRecursion P ws → AllByRecursion (λ w. P w × (mover ≢ Some w.ticket.number)) (without_mover mover ws)
 not_moved P None ws all = all_of_map P (λ w. P w × (None ≢ Some w.ticket.number)) (λ w p. (p, λ e. absurd (cc))) ws all
 not_moved P (Some n) ws all =
     all_of_filter P (λ w. P w × (Some n ≢ Some w.ticket.number)) (λ w. not (nat_eq w.ticket.number n)) (λ w p e. (p, λ same. other w.ticket.number n (not_true (nat_eq w.ticket.number n) e) (cc))) ws all
@@ -86,15 +86,15 @@ new_waits steps x (Look number) e = tt
 -- ---- the latest key
 
 -- Each open wait is at this latest key, if there is one.
-abbrev AreOpenAt : List TracedStep → Option HotKey → List OpenWait → Type 0
+abbrev pub AreOpenAt : List TracedStep → Option HotKey → List OpenWait → Type 0
 AreOpenAt steps latest ws = IfSome latest (λ hot. AllByRecursion (IsOpenSince steps hot.key) ws)
 
 -- This is the latest key, and these waits are open there.
-record EntersKey (steps : List TracedStep) (key : List ℕ) (f : Findings) : Type 0 where
-  latest : HotKey
-  is_latest : slice_get f.keys 0 ≡ Some latest
-  at_key : latest.key ≡ key
-  waits : AllByRecursion (IsOpenSince steps key) f.pending
+pub record EntersKey (steps : List TracedStep) (key : List ℕ) (f : Findings) : Type 0 where
+  pub latest : HotKey
+  pub is_latest : slice_get f.keys 0 ≡ Some latest
+  pub at_key : latest.key ≡ key
+  pub waits : AllByRecursion (IsOpenSince steps key) f.pending
 
 enters_same : (steps : List TracedStep) (key : List ℕ) (f : Findings) (latest : Option HotKey) → slice_get f.keys 0 ≡ latest → is_key_of latest key ≡ true → AreOpenAt steps latest f.pending → EntersKey steps key f
 enters_same steps key f None is same all = absurd (false≢true same)
@@ -102,7 +102,7 @@ enters_same steps key f (Some hot) is same all =
     let e : hot.key ≡ key = (bytes_eq-Decides hot.key key).0 same in
     record { latest = hot; is_latest = is; at_key = e; waits = subst (λ (k : List ℕ). AllByRecursion (IsOpenSince steps k) f.pending) e all }
 
-enters : (steps : List TracedStep) (key : List ℕ) (f : Findings) → AreOpenAt steps (slice_get f.keys 0) f.pending → EntersKey steps key (with_key f key)
+pub enters : (steps : List TracedStep) (key : List ℕ) (f : Findings) → AreOpenAt steps (slice_get f.keys 0) f.pending → EntersKey steps key (with_key f key)
 enters steps key f all = by (is_key_of (slice_get f.keys 0) key) refl
   where
     by : (b : Bool) → is_key_of (slice_get f.keys 0) key ≡ b → EntersKey steps key (cond b f (record f { keys = record { key = key; steps = 0; waits = 0 } ∷ f.keys; pending = [] }))
@@ -110,7 +110,7 @@ enters steps key f all = by (is_key_of (slice_get f.keys 0) key) refl
     by false e = record { latest = record { key = key; steps = 0; waits = 0 }; is_latest = refl; at_key = refl; waits = tt }
 
 -- one step keeps it so
-steps_on : (steps : List TracedStep) (x : TracedStep) (f : Findings) → EntersKey steps x.key f → AreOpenAt (steps ++ x ∷ []) (slice_get (with_step f x).keys 0) (with_step f x).pending
+pub steps_on : (steps : List TracedStep) (x : TracedStep) (f : Findings) → EntersKey steps x.key f → AreOpenAt (steps ++ x ∷ []) (slice_get (with_step f x).keys 0) (with_step f x).pending
 steps_on steps x f h =
     rw h.is_latest (subst (λ (k : List ℕ). AllByRecursion (IsOpenSince (steps ++ x ∷ []) k) (pending_after x f.pending)) (sym h.at_key)
     (all_of_append (IsOpenSince (steps ++ x ∷ []) x.key) (without_ended x.tickets (pending_at x f.pending)) (begun_waits x.call x.reply x.index) (left_waits steps x f.pending h.waits) (new_waits steps x x.call refl)))

@@ -3,6 +3,7 @@ use Rattle.std.specs.Prelude.{ℕ, ◌≡◌, ◌≢◌, ◌-◌, ◌≤◌, fal
 use Rattle.std.specs.List.{AllByRecursion}
 use Rattle.lt_ids.specs.Ids.{Wait}
 use Rattle.lt_statistics.specs.declared.summary.HotKey.{HotKey}
+use Rattle.lt_statistics.specs.declared.summary.LongestWait.{LongestWait}
 use Rattle.lt_statistics.specs.Findings.{TracedStep, findings_of, queue_len, wait_len, with_key, pending_at, since_of, is_hotter, ranking, mover_of, is_let_through, begun_waits}
 use Rattle.lt_statistics.specs.declared.waits.OpenWait.{OpenWait}
 
@@ -47,3 +48,29 @@ pub record IsOpenSince (steps : List TracedStep) (key : List ℕ) (w : OpenWait)
 abbrev pub OpenWaitsAreOpen : Type 0
 OpenWaitsAreOpen = (steps : List TracedStep) →
     IfSome (slice_get (findings_of steps).keys 0) (λ latest. AllByRecursion (IsOpenSince steps latest.key) (findings_of steps).pending)
+
+-- The steps have this wait: a step of its key began it, all steps between leave it open, and then a step of its key, which
+-- is neither a visit nor a leave of its request, lets its ticket through.
+pub record IsEndedWait (steps : List TracedStep) (w : LongestWait) : Type 0 where
+  pub before : List TracedStep
+  pub began : TracedStep
+  pub since : List TracedStep
+  pub ended : TracedStep
+  pub after : List TracedStep
+  pub place : ℕ
+  pub joined : steps ≡ (before ++ began ∷ since) ++ ended ∷ after
+  pub at_key : began.key ≡ w.key
+  pub begins : begun_waits began.call began.reply began.index ≡ record { ticket = w.ticket; since = w.from } ∷ []
+  pub left_open : AllByRecursion (LeavesOpen w.key (record { ticket = w.ticket; since = w.from })) since
+  pub ended_at_key : ended.key ≡ w.key
+  pub not_moved : mover_of ended.call ≢ Some w.ticket.number
+  pub is_let : slice_get ended.tickets place ≡ Some w.ticket
+  pub index : ended.index ≡ w.to
+
+-- The longest wait is a wait that a step ended, and no such wait is longer.
+pub record LongestWaitIsLongest (steps : List TracedStep) : Type 0 where
+  pub is_ended : IfSome (findings_of steps).wait (IsEndedWait steps)
+  pub greatest : (w : LongestWait) → IsEndedWait steps w → w.to - w.from ≤ wait_len (findings_of steps).wait
+
+abbrev pub LongestWaits : Type 0
+LongestWaits = (steps : List TracedStep) → LongestWaitIsLongest steps

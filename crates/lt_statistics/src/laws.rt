@@ -1,6 +1,6 @@
 //! What do the definitions of the statistics amount to? A longest queue and a longest wait are no shorter than any other,
 //! and the hottest keys come first.
-ghost use Rattle.lt_statistics.specs.Laws.{NoLongerQueue, NoLongerWait, OpenWaitsAreOpen, RankingIsHottestFirst};
+ghost use Rattle.lt_statistics.specs.Laws.{LongestWaits, NoLongerQueue, NoLongerWait, OpenWaitsAreOpen, RankingIsHottestFirst};
 
 /// After no step is a queue longer than the longest one.
 pub fn no_longer_queue()
@@ -21,4 +21,9 @@ pub fn ranking_is_hottest_first()
 /// visited the key nor left it, and its ticket was not let through.
 pub fn open_waits_are_open()
     ensures { OpenWaitsAreOpen }
+{}
+
+/// The longest wait is a wait that a step ended, and no such wait is longer.
+pub fn longest_waits()
+    ensures { LongestWaits }
 {}
