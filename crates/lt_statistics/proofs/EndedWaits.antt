@@ -15,9 +15,9 @@ use Rattle.lt_statistics.specs.declared.summary.HotKey.{HotKey}
 use Rattle.lt_statistics.specs.declared.summary.LongestWait.{LongestWait}
 use Rattle.lt_statistics.specs.declared.waits.OpenWait.{OpenWait}
 use Rattle.lt_statistics.specs.Findings.{TracedStep, Findings, is_must_wait, mover_of, without_mover, is_let_through, without_ended, begun_waits, pending_at, pending_after, since_of, with_wait, longer_wait, with_ended, wait_len, wait_count, capped, is_key_of, with_key, with_step, after_step, no_findings, findings_of}
-use Rattle.lt_statistics.specs.Laws.{LeavesOpen, IsOpenSince, IsEndedWait, LongestWaits}
+use Rattle.lt_statistics.specs.Laws.{LeavesOpen, IsEndedWait, LongestWaits}
 use Rattle.lt_statistics.proofs.Longest.{no_longer_wait, with_key_keeps}
-use Rattle.lt_statistics.proofs.OpenWaits.{not_moved, enters, steps_on, AreOpenAt, EntersKey, open_waits_are_open}
+use Rattle.lt_statistics.proofs.OpenWaits.{not_moved, enters, steps_on, AreOpenAt, EntersKey, IsOpenSince, open_waits_are_open}
 
 -- ---- tickets
 

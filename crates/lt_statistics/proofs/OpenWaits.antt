@@ -9,8 +9,26 @@ use Rattle.lt_plain.specs.declared.call.Call.{Call}
 use Rattle.lt_plain.specs.declared.call.Call.TheVariants.{Visit, Acquire, Update, Finish, Leave, Look}
 use Rattle.lt_statistics.specs.declared.summary.HotKey.{HotKey}
 use Rattle.lt_statistics.specs.declared.waits.OpenWait.{OpenWait}
-use Rattle.lt_statistics.specs.Findings.{TracedStep, Findings, is_must_wait, mover_of, without_mover, is_let_through, without_ended, begun_waits, pending_at, pending_after, is_key_of, with_key, with_step, after_step, no_findings}
-use Rattle.lt_statistics.specs.Laws.{LeavesOpen, IsOpenSince, OpenWaitsAreOpen}
+use Rattle.lt_statistics.specs.Findings.{TracedStep, Findings, is_must_wait, mover_of, without_mover, is_let_through, without_ended, begun_waits, pending_at, pending_after, is_key_of, with_key, with_step, after_step, no_findings, findings_of}
+use Rattle.lt_statistics.specs.Laws.{LeavesOpen}
+
+-- ---- what it means
+
+-- A step of the key began the wait: a visit with its ticket and index that was answered `wait`. All later steps leave it
+-- open.
+pub record IsOpenSince (steps : List TracedStep) (key : List ℕ) (w : OpenWait) : Type 0 where
+  pub before : List TracedStep
+  pub began : TracedStep
+  pub since : List TracedStep
+  pub joined : steps ≡ before ++ began ∷ since
+  pub at_key : began.key ≡ key
+  pub begins : begun_waits began.call began.reply began.index ≡ w ∷ []
+  pub left_open : AllByRecursion (LeavesOpen key w) since
+
+-- Each open wait was begun at the latest key, and nothing has ended it since.
+abbrev pub OpenWaitsAreOpen : Type 0
+OpenWaitsAreOpen = (steps : List TracedStep) →
+    IfSome (slice_get (findings_of steps).keys 0) (λ latest. AllByRecursion (IsOpenSince steps latest.key) (findings_of steps).pending)
 
 -- ---- lists
 

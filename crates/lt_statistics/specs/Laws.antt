@@ -1,21 +1,14 @@
 -- What the definitions of the statistics amount to.
 use Rattle.std.specs.Prelude.{ℕ, ◌≡◌, ◌≢◌, ◌-◌, ◌≤◌, false, List, [], ◌∷◌, ◌++◌, Some, IfSome, slice_get, IsPermutation}
 use Rattle.std.specs.List.{AllByRecursion}
-use Rattle.lt_ids.specs.Ids.{Wait}
 use Rattle.lt_statistics.specs.declared.summary.HotKey.{HotKey}
 use Rattle.lt_statistics.specs.declared.summary.LongestWait.{LongestWait}
-use Rattle.lt_statistics.specs.Findings.{TracedStep, findings_of, queue_len, wait_len, with_key, pending_at, since_of, is_hotter, ranking, mover_of, is_let_through, begun_waits}
+use Rattle.lt_statistics.specs.Findings.{TracedStep, findings_of, queue_len, wait_len, is_hotter, ranking, mover_of, is_let_through, begun_waits}
 use Rattle.lt_statistics.specs.declared.waits.OpenWait.{OpenWait}
 
 -- After no step is a queue longer than the longest one.
 abbrev pub NoLongerQueue : Type 0
 NoLongerQueue = (steps : List TracedStep) → AllByRecursion (λ x. x.queue ≤ queue_len (findings_of steps).queue) steps
-
--- If a step lets a ticket through whose wait is open, then that wait is not longer than the longest one.
-abbrev pub NoLongerWait : Type 0
-NoLongerWait = (past rest : List TracedStep) (x : TracedStep) (k : ℕ) (ticket : Wait) (since : ℕ) →
-    slice_get x.tickets k ≡ Some ticket → since_of (pending_at x (with_key (findings_of past) x.key).pending) ticket ≡ Some since →
-    x.index - since ≤ wait_len (findings_of (past ++ x ∷ rest)).wait
 
 -- No key is hotter than one before it.
 abbrev pub IsHottestFirst : List HotKey → Type 0
@@ -32,22 +25,6 @@ pub record LeavesOpen (key : List ℕ) (w : OpenWait) (x : TracedStep) : Type 0 
   pub at_key : x.key ≡ key
   pub not_moved : mover_of x.call ≢ Some w.ticket.number
   pub not_let : is_let_through x.tickets w.ticket ≡ false
-
--- A step of the key began the wait: a visit with its ticket and index that was answered `wait`. All later steps leave it
--- open.
-pub record IsOpenSince (steps : List TracedStep) (key : List ℕ) (w : OpenWait) : Type 0 where
-  pub before : List TracedStep
-  pub began : TracedStep
-  pub since : List TracedStep
-  pub joined : steps ≡ before ++ began ∷ since
-  pub at_key : began.key ≡ key
-  pub begins : begun_waits began.call began.reply began.index ≡ w ∷ []
-  pub left_open : AllByRecursion (LeavesOpen key w) since
-
--- Each open wait was begun at the latest key, and nothing has ended it since.
-abbrev pub OpenWaitsAreOpen : Type 0
-OpenWaitsAreOpen = (steps : List TracedStep) →
-    IfSome (slice_get (findings_of steps).keys 0) (λ latest. AllByRecursion (IsOpenSince steps latest.key) (findings_of steps).pending)
 
 -- The steps have this wait: a step of its key began it, all steps between leave it open, and then a step of its key, which
 -- is neither a visit nor a leave of its request, lets its ticket through.
