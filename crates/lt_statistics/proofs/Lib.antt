@@ -1,3 +1,5 @@
 pub mod Ranks
 pub mod Longest
 pub mod Heat
+pub mod OpenWaits
+pub mod EndedWaits

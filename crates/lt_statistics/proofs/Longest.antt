@@ -1,5 +1,5 @@
 -- The longest queue and the longest wait only grow, and each step's is within them.
-use Rattle.std.proofs.Common.{◌≡◌, ℕ, zero, suc, ◌-◌, ◌<◌, ◌≤◌, Bool, true, false, cond, nat_lt, fold, List, [], ◌∷◌, Option, Some, None, slice_get, refl, ap, arith}
+use Rattle.std.proofs.Common.{◌≡◌, ℕ, zero, suc, ◌-◌, ◌<◌, ◌≤◌, Bool, true, false, cond, nat_lt, fold, List, [], ◌∷◌, ◌++◌, Option, Some, None, slice_get, refl, ap, arith}
 use Rattle.std.specs.List.{AllByRecursion}
 use Rattle.std.proofs.lemmas.Bool.Decides.{nat_tests}
 use Rattle.std.proofs.lemmas.List.Sums.{fold-append}
@@ -8,10 +8,10 @@ use Rattle.lt_statistics.specs.declared.summary.LongestQueue.{LongestQueue}
 use Rattle.lt_statistics.specs.declared.summary.LongestWait.{LongestWait}
 use Rattle.lt_statistics.specs.declared.waits.OpenWait.{OpenWait}
 use Rattle.lt_statistics.specs.Findings.{TracedStep, Findings, queue_len, longer_queue, wait_len, with_wait, longer_wait, ended_wait, with_ended, since_of, is_key_of, with_key, pending_at, after_step, no_findings, findings_of}
-use Rattle.lt_statistics.specs.Laws.{NoLongerQueue, NoLongerWait}
+use Rattle.lt_statistics.specs.Laws.{NoLongerQueue}
 
 -- a new key leaves both as they are
-with_key_keeps : (f : Findings) (key : List ℕ) → ((with_key f key).queue ≡ f.queue) × ((with_key f key).wait ≡ f.wait)
+pub with_key_keeps : (f : Findings) (key : List ℕ) → ((with_key f key).queue ≡ f.queue) × ((with_key f key).wait ≡ f.wait)
 with_key_keeps f key =
     elim (is_key_of (slice_get f.keys 0) key) as (λ b. ((cond b f (record f { keys = record { key = key; steps = 0; waits = 0 } ∷ f.keys; pending = [] })).queue ≡ f.queue) × ((cond b f (record f { keys = record { key = key; steps = 0; waits = 0 } ∷ f.keys; pending = [] })).wait ≡ f.wait)) [
       | true ↦ (refl, refl)
@@ -80,6 +80,12 @@ step_wait_grows f x =
 all_waits_grow : (f : Findings) (steps : List TracedStep) → wait_len f.wait ≤ wait_len (fold after_step f steps).wait
 all_waits_grow f [] = omega arith
 all_waits_grow f (x ∷ steps) = omega (arith, step_wait_grows f x, all_waits_grow (after_step f x) steps)
+
+-- if a step lets a ticket through whose wait is open, then that wait is not longer than the longest one.
+abbrev pub NoLongerWait : Type 0
+NoLongerWait = (past rest : List TracedStep) (x : TracedStep) (k : ℕ) (ticket : Wait) (since : ℕ) →
+    slice_get x.tickets k ≡ Some ticket → since_of (pending_at x (with_key (findings_of past) x.key).pending) ticket ≡ Some since →
+    x.index - since ≤ wait_len (findings_of (past ++ x ∷ rest)).wait
 
 pub no_longer_wait : NoLongerWait
 no_longer_wait past rest x k ticket since at open_since =

@@ -1,18 +1,18 @@
 //! What do the definitions of the statistics amount to? A longest queue and a longest wait are no shorter than any other,
-//! and the hottest keys come first.
-ghost use Rattle.lt_statistics.specs.Laws.{NoLongerQueue, NoLongerWait, RankingIsHottestFirst};
+//! and the hottest keys come first. `specs/Laws.antt` has the laws.
+ghost use Rattle.lt_statistics.specs.Laws.{LongestWaits, NoLongerQueue, RankingIsHottestFirst};
 
 /// After no step is a queue longer than the longest one.
 pub fn no_longer_queue()
     ensures { NoLongerQueue }
 {}
 
-/// No wait that a step ended is longer than the longest one.
-pub fn no_longer_wait()
-    ensures { NoLongerWait }
-{}
-
 /// A ranking of keys has the same keys, and none is hotter than one before it.
 pub fn ranking_is_hottest_first()
     ensures { RankingIsHottestFirst }
+{}
+
+/// The longest wait is a wait that a step ended, and no such wait is longer.
+pub fn longest_waits()
+    ensures { LongestWaits }
 {}

@@ -16,7 +16,7 @@ mod summary;
 mod waits;
 
 pub use hottest::MOST_KEYS;
-pub use laws::{no_longer_queue, no_longer_wait, ranking_is_hottest_first};
+pub use laws::{longest_waits, no_longer_queue, ranking_is_hottest_first};
 pub use statistics::Statistics;
 pub use step::StepFacts;
 pub use summary::{HotKey, LongestQueue, LongestWait, StepCounts, TextSummary};
