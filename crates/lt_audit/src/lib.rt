@@ -18,6 +18,8 @@ mod parallel;
 mod progress;
 mod rule;
 mod stream;
+#[cfg(test)]
+mod tests;
 mod text_at;
 
 pub use error::AuditError;

@@ -14,7 +14,7 @@ use crate::chunks::{CHUNK, chunk_buffer, read_chunk, take_after};
 use crate::cuts::{CutPlan, cuts_from};
 use crate::error::AuditError;
 use crate::progress::Progress;
-use crate::stream::{check_rest, check_stream_with};
+use crate::stream::{HEADER, check_rest, check_stream_with};
 use crate::text_at::{TextAt, TextReader};
 use lt_history::{Checker, Report};
 use std::alloc::{AllocError, Global};
@@ -23,9 +23,6 @@ use std::thread::{Threads, map_indices};
 
 /// About how many bytes a piece has.
 const PIECE: u64 = 1 << 23;
-
-/// The length of the first line of a text, with its line end.
-const HEADER: u64 = 8;
 
 /// A piece of a text, checked by itself.
 #[derive(Drop)]
@@ -174,7 +171,7 @@ fn all_joined(prefix: CheckedPrefix, pieces: Vec<Option<CheckedPiece>>) -> Check
 }
 
 /// The prefix with the pieces between these cuts, as far as they follow.
-fn extended<T: TextAt + Sync, H: Threads + Sync>(
+pub(crate) fn extended<T: TextAt + Sync, H: Threads + Sync>(
     threads: &H,
     alloc: Global,
     text: &T,
@@ -189,10 +186,10 @@ fn extended<T: TextAt + Sync, H: Threads + Sync>(
 }
 
 /// Reads the first line of a text. `None` if that fails.
-fn begin_prefix<T: TextAt>(alloc: Global, text: &T) -> Option<CheckedPrefix>
+pub(crate) fn begin_prefix<T: TextAt>(alloc: Global, text: &T) -> Option<CheckedPrefix>
     ensures { IfSome result (IsCheckedPrefix (T.contents text.now)) }
 {
-    let mut first = [0u8; 8];
+    let mut first = [0u8; HEADER];
     let mut reader = TextReader { text, at: 0 };
     let Ok(()) = reader.read_exact(&mut first) else {
         return None;
@@ -200,7 +197,7 @@ fn begin_prefix<T: TextAt>(alloc: Global, text: &T) -> Option<CheckedPrefix>
     let (checker, _) = Checker::begin(alloc, &first)?;
     Some(CheckedPrefix {
         version: checker.report().version,
-        to: HEADER,
+        to: HEADER as u64,
         checker,
     })
 }
@@ -235,7 +232,7 @@ fn check_prefix<T: TextAt + Sync, H: Threads + Sync, P: Progress>(
 }
 
 /// Checks the text after the prefix in turn.
-fn check_after<T: TextAt, P: Progress>(
+pub(crate) fn check_after<T: TextAt, P: Progress>(
     alloc: Global,
     text: &T,
     prefix: CheckedPrefix,
@@ -274,7 +271,7 @@ fn check_in_turn<T: TextAt, P: Progress>(
 }
 
 /// Checks a text that is cut by this plan.
-fn check_by<T: TextAt + Sync, H: Threads + Sync, P: Progress>(
+pub(crate) fn check_by<T: TextAt + Sync, H: Threads + Sync, P: Progress>(
     threads: &H,
     alloc: Global,
     text: &T,
@@ -287,14 +284,14 @@ fn check_by<T: TextAt + Sync, H: Threads + Sync, P: Progress>(
     let Some(prefix) = begin_prefix(alloc, text) else {
         return check_in_turn(alloc, text, progress);
     };
-    progress.advance(HEADER, &prefix.checker.report());
+    progress.advance(HEADER as u64, &prefix.checker.report());
     let prefix = check_prefix(threads, alloc, text, plan, prefix, progress)?;
     check_after(alloc, text, prefix, progress)
 }
 
 /// Checks a text of any length on this many threads at a time, and stops at the first fault. The verdict is that of
-/// [`check`](lt_history::check) on the whole text. It holds a chunk and the record of one key for each thread, and the
-/// longest line.
+/// [`check`](lt_history::check) on the whole text. It holds a chunk, the longest line and the record of one key for each
+/// thread, and a megabyte in which it looks for cuts.
 ///
 /// `Refused`, `Read` and `Memory` are as [`AuditError`] says. `TooLong` means 2^64 lines.
 pub fn check_pieces<T: TextAt + Sync, H: Threads + Sync, P: Progress>(

@@ -15,7 +15,7 @@ use std::alloc::Global;
 use std::io::{BufRead, Read};
 
 /// The length of the first line of a text, with its line end.
-const HEADER: usize = 8;
+pub(crate) const HEADER: usize = 8;
 
 /// Appends the next line to these bytes, with its line end if it has one. Returns how many bytes came; 0 means the end.
 pub(crate) fn read_line<R: BufRead>(
@@ -135,7 +135,10 @@ pub fn check_stream_with<R: BufRead, P: Progress>(
         Ok(begun) => begun,
         Err(error) => return Err(error),
     };
-    progress.advance((pending.len() as u64).saturating_add(8), &checker.report());
+    progress.advance(
+        (pending.len() as u64).saturating_add(HEADER as u64),
+        &checker.report(),
+    );
     check_rest(alloc, reader, checker, pending, progress)
 }
 

@@ -27,6 +27,7 @@ pub trait TextAt {
         ensures bytes { ReadsAt (contents self.now) offset result buf.new };
 }
 
+// A file that has offsets. A read of a pipe or a terminal fails here.
 impl TextAt for File {
     fn len(&self) -> io::Result<u64> {
         Ok(self.metadata()?.len())
