@@ -9,6 +9,7 @@ use std::time::{Duration, Instant};
 const PAUSE: u64 = 100;
 
 /// The line that says how far a check is.
+#[derive(Drop)]
 pub struct ProgressLine<'a> {
     rt: &'a HostRuntime,
     /// Whether somebody sees the line.
