@@ -1,6 +1,6 @@
 //! How far is a check? A [`ProgressLine`] writes it on standard error, if that is a terminal: one line, which is
 //! written again and again at its beginning.
-use lt_audit::Progress;
+use lt_audit::CheckProgress;
 use lt_history::Report;
 use std::io::IsTerminal;
 use std::time::{Duration, Instant};
@@ -64,7 +64,7 @@ impl<'a> ProgressLine<'a> {
     }
 }
 
-impl<'a> Progress for ProgressLine<'a> {
+impl<'a> CheckProgress for ProgressLine<'a> {
     fn advance(&mut self, bytes: u64, report: &Report) {
         self.bytes = self.bytes.saturating_add(bytes);
         if !self.is_seen {

@@ -8,9 +8,6 @@ ghost use Rattle.std.specs.Prelude.{◌<◌, IfSome, length};
 use crate::text_at::TextAt;
 use std::alloc::{AllocError, Global};
 
-/// How many bytes are read to find one cut.
-const LOOK: usize = 1 << 20;
-
 /// How many offsets are tried for the cuts of one round.
 const TRIES: usize = 64;
 
@@ -21,6 +18,8 @@ pub(crate) struct CutPlan {
     pub pieces: usize,
     /// About how many bytes a piece has.
     pub size: u64,
+    /// How many bytes are read to find one cut.
+    pub look: usize,
 }
 
 /// The index of the first byte that equals `at`.
@@ -79,7 +78,7 @@ pub(crate) fn cuts_from<T: TextAt>(
 ) -> Result<Vec<u64>, AllocError> {
     let mut cuts = Vec::new(alloc);
     cuts.push(from)?;
-    let mut buf = vec![in alloc; 0u8; LOOK]?;
+    let mut buf = vec![in alloc; 0u8; plan.look]?;
     let mut near = from;
     for _ in 0..TRIES {
         if cuts.len() > plan.pieces {

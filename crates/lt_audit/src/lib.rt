@@ -3,7 +3,7 @@
 //! - [`check_stream`] checks a text of any length that a reader gives. It holds a chunk, the longest line and one key's
 //!   record, and gives the verdict of [`lt_history::check`] on the whole text.
 //! - [`check_pieces`] gives the same verdict on a text that can be read at any offset, such as a file. It uses threads.
-//! - Both tell a [`Progress`] how far they are.
+//! - Both tell a [`CheckProgress`] how far they are.
 //! - [`explain`] reads a text up to a line and says what the rules give for it. [`rule_of`] names the row of
 //!   docs/RULES.md that applies.
 //!
@@ -25,7 +25,7 @@ mod text_at;
 pub use error::AuditError;
 pub use explained::{Explained, MOST_LINES, explain};
 pub use parallel::check_pieces;
-pub use progress::Progress;
+pub use progress::CheckProgress;
 pub use rule::{Rule, rule_of};
 pub use stream::{check_stream, check_stream_with};
 pub use text_at::TextAt;

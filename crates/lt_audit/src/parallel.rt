@@ -13,7 +13,7 @@ ghost use Rattle.lt_audit.specs.Parallel.{TakesAll, KeepsPrefix, IsCheckedPrefix
 use crate::chunks::{CHUNK, chunk_buffer, read_chunk, take_after};
 use crate::cuts::{CutPlan, cuts_from};
 use crate::error::AuditError;
-use crate::progress::Progress;
+use crate::progress::CheckProgress;
 use crate::stream::{HEADER, check_rest, check_stream_with};
 use crate::text_at::{TextAt, TextReader};
 use lt_history::{Checker, Report};
@@ -23,6 +23,9 @@ use std::thread::{Threads, map_indices};
 
 /// About how many bytes a piece has.
 const PIECE: u64 = 1 << 23;
+
+/// How many bytes are read to find one cut.
+const LOOK: usize = 1 << 20;
 
 /// A piece of a text, checked by itself.
 #[derive(Drop)]
@@ -203,7 +206,7 @@ pub(crate) fn begin_prefix<T: TextAt>(alloc: Global, text: &T) -> Option<Checked
 }
 
 /// Checks pieces on threads, as far as they follow.
-fn check_prefix<T: TextAt + Sync, H: Threads + Sync, P: Progress>(
+fn check_prefix<T: TextAt + Sync, H: Threads + Sync, P: CheckProgress>(
     threads: &H,
     alloc: Global,
     text: &T,
@@ -232,7 +235,7 @@ fn check_prefix<T: TextAt + Sync, H: Threads + Sync, P: Progress>(
 }
 
 /// Checks the text after the prefix in turn.
-pub(crate) fn check_after<T: TextAt, P: Progress>(
+pub(crate) fn check_after<T: TextAt, P: CheckProgress>(
     alloc: Global,
     text: &T,
     prefix: CheckedPrefix,
@@ -256,7 +259,7 @@ pub(crate) fn check_after<T: TextAt, P: Progress>(
 }
 
 /// Checks the whole text in turn.
-fn check_in_turn<T: TextAt, P: Progress>(
+fn check_in_turn<T: TextAt, P: CheckProgress>(
     alloc: Global,
     text: &T,
     progress: &mut P,
@@ -271,7 +274,7 @@ fn check_in_turn<T: TextAt, P: Progress>(
 }
 
 /// Checks a text that is cut by this plan.
-pub(crate) fn check_by<T: TextAt + Sync, H: Threads + Sync, P: Progress>(
+pub(crate) fn check_by<T: TextAt + Sync, H: Threads + Sync, P: CheckProgress>(
     threads: &H,
     alloc: Global,
     text: &T,
@@ -294,7 +297,7 @@ pub(crate) fn check_by<T: TextAt + Sync, H: Threads + Sync, P: Progress>(
 /// thread, and a megabyte in which it looks for cuts.
 ///
 /// `Refused`, `Read` and `Memory` are as [`AuditError`] says. `TooLong` means 2^64 lines.
-pub fn check_pieces<T: TextAt + Sync, H: Threads + Sync, P: Progress>(
+pub fn check_pieces<T: TextAt + Sync, H: Threads + Sync, P: CheckProgress>(
     threads: &H,
     alloc: Global,
     text: &T,
@@ -307,6 +310,7 @@ pub fn check_pieces<T: TextAt + Sync, H: Threads + Sync, P: Progress>(
     let plan = CutPlan {
         pieces: at_once,
         size: PIECE,
+        look: LOOK,
     };
     check_by(threads, alloc, text, &plan, progress)
 }

@@ -9,7 +9,7 @@ ghost use Rattle.lt_audit.specs.Audit.{IsLineRead, IsBeginning, IsReading, Refus
 
 use crate::chunks::{chunk_buffer, read_chunk, take_after};
 use crate::error::{AuditError, stopped};
-use crate::progress::Progress;
+use crate::progress::CheckProgress;
 use lt_history::{Checker, Fault, Report};
 use std::alloc::Global;
 use std::io::{BufRead, Read};
@@ -96,7 +96,7 @@ pub(crate) fn begin<R: BufRead>(
 }
 
 /// Checks the rest of a text in chunks, after what the checker has taken and the pending bytes.
-pub(crate) fn check_rest<R: Read, P: Progress>(
+pub(crate) fn check_rest<R: Read, P: CheckProgress>(
     alloc: Global,
     reader: &mut R,
     checker: Checker,
@@ -123,7 +123,7 @@ pub(crate) fn check_rest<R: Read, P: Progress>(
 }
 
 /// Checks the text that the reader gives, as [`check_stream`] does, and tells how far it is.
-pub fn check_stream_with<R: BufRead, P: Progress>(
+pub fn check_stream_with<R: BufRead, P: CheckProgress>(
     alloc: Global,
     reader: &mut R,
     progress: &mut P,

@@ -62,11 +62,13 @@ fn verdict_by_size<H: Threads + Sync>(
     let plan = CutPlan {
         pieces: 1 + size % 3,
         size: size as u64,
+        look: 100,
     };
     check_by(threads, alloc, &text, &plan, &mut ())
 }
 
 /// A text whose reads give at most three bytes, and fail from an offset on.
+#[derive(Drop)]
 struct TornText<'a> {
     text: &'a [u8],
     fails_at: u64,
@@ -97,7 +99,11 @@ fn verdict_on_torn<H: Threads + Sync>(
         text,
         fails_at: fails_at as u64,
     };
-    let plan = CutPlan { pieces: 2, size: 4 };
+    let plan = CutPlan {
+        pieces: 2,
+        size: 4,
+        look: 100,
+    };
     check_by(threads, alloc, &torn, &plan, &mut ())
 }
 
