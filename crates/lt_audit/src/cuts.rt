@@ -24,7 +24,7 @@ pub(crate) struct CutPlan {
 
 /// The index of the first byte that equals `at`.
 fn position_of(bytes: &[u8], at: u8) -> Option<usize>
-    ensures { IfSome result (λ place. place < length bytes.now) }
+    ensures { IfSome result (λ index. index < length bytes.now) }
 {
     bytes.iter().position(|b| *b == at)
 }
@@ -33,8 +33,8 @@ fn position_of(bytes: &[u8], at: u8) -> Option<usize>
 fn after_first(bytes: &[u8], at: u8) -> Option<&[u8]>
     ensures { IfSome result (λ after. length after.now < length bytes.now) }
 {
-    let place = position_of(bytes, at)?;
-    let (_, after) = bytes.split_at(place + 1);
+    let index = position_of(bytes, at)?;
+    let (_, after) = bytes.split_at(index + 1);
     Some(after)
 }
 
