@@ -5,7 +5,7 @@ use lt_history::{Checker, Fault, Line, Report, read_line, write_out};
 use lt_ids::Key;
 use lt_picture::ShownStep;
 use std::alloc::Global;
-use std::io::{BufRead, Write};
+use std::io::{BufRead, ErrorKind, Write};
 
 /// Takes the steps of a text.
 pub trait StepTaker {
@@ -20,6 +20,7 @@ pub trait StepTaker {
 fn append_line<R: BufRead>(reader: &mut R, line: &mut Vec<u8>) -> Result<usize, TraceFailure> {
     match reader.read_until(b'\n', line) {
         Ok(n) => Ok(n),
+        Err(e) if e.kind() == ErrorKind::OutOfMemory => Err(TraceFailure::Memory),
         Err(_) => Err(TraceFailure::Read),
     }
 }

@@ -12,6 +12,7 @@
 //! Read next: `src/task.rt` for what each command does, `src/words.rt` for the command line.
 #![tactic(auto)]
 
+mod check;
 mod explain;
 mod failure;
 mod follow;
@@ -20,16 +21,20 @@ mod help;
 mod input;
 mod layout;
 mod output;
+mod progress_line;
 mod task;
 mod words;
 
+use crate::check::{check_file, len_of_file};
 use crate::failure::{TraceFailure, status};
 use crate::layout::{Terminal, width_of};
+use crate::progress_line::ProgressLine;
 use crate::task::perform;
 use crate::words::{Task, TaskError, read_task};
 use std::env::{self, VarError};
 use std::io::{ErrorKind, IsTerminal};
 use std::process::ExitCode;
+use std::thread::Threads;
 
 /// The words after the program's name.
 fn words_of(rt: &HostRuntime) -> Result<Vec<String>, TraceFailure> {
@@ -67,12 +72,27 @@ fn terminal_of(rt: &HostRuntime) -> Result<Terminal, TraceFailure> {
     })
 }
 
+/// Does the task. A check of a file uses threads.
+fn do_task<H: Threads + Sync>(
+    threads: &H,
+    rt: &HostRuntime,
+    task: &Task,
+) -> Result<(), TraceFailure> {
+    if let Task::Check(Some(name)) = *task {
+        if let Some(len) = len_of_file(rt, name) {
+            return check_file(threads, rt, name, &mut ProgressLine::new(rt, Some(len)));
+        }
+    }
+    let mut line = ProgressLine::new(rt, None);
+    perform(rt.alloc(), rt, task, rt.stdin(), rt.stdout(), &mut line)
+}
+
 /// Reads the words, and does what they ask for.
-fn run(rt: &HostRuntime) -> Result<(), TraceFailure> {
+fn run<H: Threads + Sync>(threads: &H, rt: &HostRuntime) -> Result<(), TraceFailure> {
     let words = words_of(rt)?;
     let texts: Vec<&str> = words.iter().map(|word| word.as_str()).collect(rt.alloc())?;
     match read_task(rt.alloc(), &terminal_of(rt)?, texts.as_slice()) {
-        Ok(task) => perform(rt.alloc(), rt, &task, rt.stdin(), rt.stdout()),
+        Ok(task) => do_task(threads, rt, &task),
         Err(TaskError::Help(text)) => match print!(rt; "{text}") {
             Ok(()) => Ok(()),
             Err(e) if e.kind() == ErrorKind::BrokenPipe => Err(TraceFailure::Closed),
@@ -84,7 +104,7 @@ fn run(rt: &HostRuntime) -> Result<(), TraceFailure> {
 }
 
 fn main(rt: HostRuntime) -> ExitCode {
-    let ending = run(&rt);
+    let ending = run(&rt, &rt);
     match &ending {
         Ok(()) | Err(TraceFailure::Closed) => {}
         Err(failure) => {

@@ -1,5 +1,6 @@
 //! Is somebody still reading what the program writes? [`Output`] passes each write on to the writer behind it, and notes
 //! when a pipe's reader has closed it.
+use crate::failure::TraceFailure;
 use std::io::{self, ErrorKind, Write};
 
 /// A writer that knows whether its pipe was closed.
@@ -36,5 +37,16 @@ impl<W: Write> Write for Output<W> {
 
     fn flush(&mut self) -> io::Result<()> {
         self.inner.flush()
+    }
+}
+
+/// The ending of a task that wrote to this output: `Closed` if it ended because nobody reads the pipe any more.
+pub fn ending_of<W>(
+    ending: Result<(), TraceFailure>,
+    output: &Output<W>,
+) -> Result<(), TraceFailure> {
+    match ending {
+        Err(TraceFailure::Write) if output.is_closed() => Err(TraceFailure::Closed),
+        _ => ending,
     }
 }

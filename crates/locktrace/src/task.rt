@@ -1,11 +1,12 @@
 //! What does each command do? [`perform`] opens the file of a task, or takes standard input, and does the task.
+use crate::check::check_reader;
 use crate::explain::explain_file;
-use crate::failure::{TraceFailure, of_audit, of_picture, of_sort};
+use crate::failure::{TraceFailure, of_picture, of_sort};
 use crate::follow::{StepTaker, follow_steps, write_text};
 use crate::input::buffered;
-use crate::output::Output;
+use crate::output::{Output, ending_of};
+use crate::progress_line::ProgressLine;
 use crate::words::{PictureWords, SortWords, Task, WantedSteps};
-use lt_audit::check_stream;
 use lt_ids::Key;
 use lt_picture::{Layout, ShownStep, html, picture, put_heading, put_key, put_shown};
 use lt_trace::{SortOptions, TraceForm, sort_trace};
@@ -79,20 +80,6 @@ impl<'a> StepTaker for Collector<'a> {
         self.key = Some(key);
         Ok(Vec::new(self.alloc))
     }
-}
-
-/// Checks the text, and writes the numbers of its keys and steps.
-fn check<R: BufRead, W: Write>(
-    alloc: Global,
-    reader: &mut R,
-    output: &mut W,
-) -> Result<(), TraceFailure> {
-    let report = match check_stream(alloc, reader) {
-        Ok(report) => report,
-        Err(error) => return Err(of_audit(error)),
-    };
-    let line = format!(in alloc; "ok {} keys {} steps\n", report.keys, report.steps)?;
-    write_text(output, line.as_bytes())
 }
 
 /// Writes the wanted steps as a table.
@@ -192,10 +179,11 @@ fn perform_over<F: Files, R: BufRead, W: Write>(
     task: &Task,
     reader: &mut R,
     output: &mut W,
+    line: &mut ProgressLine,
 ) -> Result<(), TraceFailure> {
     match task {
         Task::Sort(_, words) => sort(files, alloc, reader, output, words),
-        Task::Check(_) => check(alloc, reader, output),
+        Task::Check(_) => check_reader(alloc, reader, output, line),
         Task::Explain(name) => explain_file(files, alloc, name, output),
         Task::Show(_, wanted, layout) => show(alloc, reader, output, wanted, *layout),
         Task::Picture(_, wanted, picture) => draw(files, alloc, reader, output, wanted, picture),
@@ -209,21 +197,18 @@ fn perform_on<F: Files, R: Read + Drop, W: Write + Drop>(
     task: &Task,
     input: R,
     output: W,
+    line: &mut ProgressLine,
 ) -> Result<(), TraceFailure> {
     let mut reader = buffered(alloc, input)?;
     let Ok(mut writer) = BufWriter::with_capacity(alloc, PIECE, Output::new(output)) else {
         return Err(TraceFailure::Memory);
     };
-    let mut ending = perform_over(files, alloc, task, &mut reader, &mut writer);
-    if ending.is_ok() && writer.flush().is_err() {
-        ending = Err(TraceFailure::Write);
-    }
-    if let Err(TraceFailure::Write) = ending
-        && writer.get_ref().is_closed()
-    {
-        return Err(TraceFailure::Closed);
-    }
-    ending
+    let ending = perform_over(files, alloc, task, &mut reader, &mut writer, line);
+    let ending = match writer.flush() {
+        Ok(()) => ending,
+        Err(_) => Err(TraceFailure::Write),
+    };
+    ending_of(ending, writer.get_ref())
 }
 
 /// The file of the task.
@@ -237,19 +222,20 @@ fn file_of<'a>(task: &Task<'a>) -> Option<&'a str> {
     }
 }
 
-/// Does the task: over its file, or over the input if it has none.
+/// Does the task: over its file, or over the input if it has none. A check tells the line how far it is.
 pub fn perform<F: Files, R: Read + Drop, W: Write + Drop>(
     alloc: Global,
     files: &F,
     task: &Task,
     input: R,
     output: W,
+    line: &mut ProgressLine,
 ) -> Result<(), TraceFailure> {
     match file_of(task) {
         Some(name) => match File::open(files, name) {
-            Ok(file) => perform_on(alloc, files, task, file, output),
+            Ok(file) => perform_on(alloc, files, task, file, output, line),
             Err(_) => Err(TraceFailure::Read),
         },
-        None => perform_on(alloc, files, task, input, output),
+        None => perform_on(alloc, files, task, input, output, line),
     }
 }

@@ -3,18 +3,18 @@ use Rattle.std.proofs.Common.{◌≡◌, ℕ, ◌+◌, ◌≤◌, ◌⊎◌, Boo
 use Rattle.std.specs.Prelude.{IfSome, IfOk, IfErr}
 use Rattle.std.specs.Io.{StartsWith}
 use Rattle.std.specs.Io.BufRead.{take_through, drop_through, DropsThrough}
-use Rattle.std.specs.Io.KnownBytes.{Consumes, IsAtEnd}
+use Rattle.std.specs.Io.KnownBytes.{Consumes, IsAtEnd, Keeps}
 use Rattle.std.proofs.lemmas.List.{append-nil, take-append-drop}
 use Rattle.lt_history.specs.declared.checker.Report.{Report}
 use Rattle.lt_history.specs.declared.checker.CheckError.{CheckError}
 use Rattle.lt_history.specs.declared.checker.CheckError.TheVariants as checks
 use Rattle.lt_history.specs.declared.error.Fault.TheVariants.{Header}
 use Rattle.lt_history.specs.declared.pieces.Checker.{Checker}
-use Rattle.lt_history.specs.Pieces.{IsCountable, HasTaken, HasBegun, LacksHeader, TakesLines, RefusesFrom, GivesByRules}
+use Rattle.lt_history.specs.Pieces.{IsCountable, HasTaken, HasBegun, LacksHeader, MovesOver, TakesLines, RefusesFrom, GivesByRules}
 use Rattle.lt_history.specs.Verdict.{Judges}
 use Rattle.lt_history.specs.Version.{header_of}
 use Rattle.lt_history.proofs.Verdicts.{is_said, legal_is_said, fault_is_said}
-use Rattle.lt_audit.specs.Audit.{IsLineRead, IsBeginning, IsReading, RefusesPending, EndsWith, EndsAs, IsAudited, IsAuditedAs, stopped, IsSplit, IsCallWithRecord, IsExplained}
+use Rattle.lt_audit.specs.Audit.{IsLineRead, IsBeginning, IsReading, RefusesPending, EndsWith, EndsAs, IsNoVerdict, EndsReading, EndsReadingAs, IsAudited, IsAuditedAs, stopped, IsSplit, IsCallWithRecord, IsExplained}
 use Rattle.lt_audit.specs.declared.explained.Explained.{Explained}
 use Rattle.lt_audit.specs.declared.error.AuditError.{AuditError}
 use Rattle.lt_audit.specs.declared.error.AuditError.TheVariants as errors
@@ -53,18 +53,18 @@ line_read (Some xs) now old new n starts size known drops = record {
   at_end = λ z. none_through xs (omega (arith, z, size, ap length known, length-append old (take_through 10 xs)));
 }
 
-consumes_both : (first mid last : Option (List ℕ)) (prefix bytes : List ℕ) → Consumes first mid prefix → Consumes mid last bytes → Consumes first last (prefix ++ bytes)
+pub consumes_both : (first mid last : Option (List ℕ)) (prefix bytes : List ℕ) → Consumes first mid prefix → Consumes mid last bytes → Consumes first last (prefix ++ bytes)
 consumes_both None mid last prefix bytes p q = tt
 consumes_both (Some xs) None last prefix bytes p q = absurd p
 consumes_both (Some xs) (Some ys) None prefix bytes p q = q
 consumes_both (Some xs) (Some ys) (Some zs) prefix bytes p q = p ∙ (ap (λ (t : List ℕ). prefix ++ t) q ∙ sym (append_assoc prefix bytes zs))
 
-consumes_all : (first last : Option (List ℕ)) (text : List ℕ) → Consumes first last text → IsAtEnd last → IfSome first (λ all. text ≡ all)
+pub consumes_all : (first last : Option (List ℕ)) (text : List ℕ) → Consumes first last text → IsAtEnd last → IfSome first (λ all. text ≡ all)
 consumes_all None last text h e = tt
 consumes_all (Some xs) None text h e = absurd h
 consumes_all (Some xs) (Some ys) text h e = sym (h ∙ (ap (λ (t : List ℕ). text ++ t) e ∙ append-nil text))
 
-nothing_more : (old new bytes : List ℕ) → new ≡ old ++ bytes → length bytes ≡ 0 → new ≡ old
+pub nothing_more : (old new bytes : List ℕ) → new ≡ old ++ bytes → length bytes ≡ 0 → new ≡ old
 nothing_more old new [] e z = e ∙ append-nil old
 nothing_more old new (b ∷ bs) e z = absurd (omega (arith, z))
 
@@ -115,14 +115,17 @@ starts_reading source now bytes lines c h b = record {
   taken = subst (Consumes source now) b.joined h;
 }
 
-pub takes_pending : (source now : Option (List ℕ)) (old new : Checker) (pending rest : List ℕ) → IsReading source now old pending → TakesLines old pending new rest → IsReading source now new rest
-takes_pending source now old new pending rest h t =
-    let joined : h.before ++ pending ≡ (h.before ++ t.0.taken) ++ rest = ap (λ (xs : List ℕ). h.before ++ xs) t.0.joined ∙ sym (append_assoc h.before t.0.taken rest) in
+pub moves_pending : (source now : Option (List ℕ)) (old new : Checker) (pending rest : List ℕ) → IsReading source now old pending → MovesOver old pending new rest → IsReading source now new rest
+moves_pending source now old new pending rest h t =
+    let joined : h.before ++ pending ≡ (h.before ++ t.taken) ++ rest = ap (λ (xs : List ℕ). h.before ++ xs) t.joined ∙ sym (append_assoc h.before t.taken rest) in
     record {
-      before = h.before ++ t.0.taken;
-      has_taken = λ fits. t.0.has_taken h.before (h.has_taken (omega (arith, fits, length-append h.before t.0.taken))) fits;
+      before = h.before ++ t.taken;
+      has_taken = λ fits. t.has_taken h.before (h.has_taken (omega (arith, fits, length-append h.before t.taken))) fits;
       taken = subst (Consumes source now) joined h.taken;
     }
+
+pub takes_pending : (source now : Option (List ℕ)) (old new : Checker) (pending rest : List ℕ) → IsReading source now old pending → TakesLines old pending new rest → IsReading source now new rest
+takes_pending source now old new pending rest h t = moves_pending source now old new pending rest h t.0
 
 pub reads_line : (source mid now : Option (List ℕ)) (c : Checker) (old new : List ℕ) (n : ℕ) → IsReading source mid c old → IsLineRead mid now old new n → IsReading source now c new
 reads_line source mid now c old new n h r = record {
@@ -187,6 +190,40 @@ accepted source mid now c old new shown n (Err e) h l z same k = tt
 pub refused : (source mid now : Option (List ℕ)) (c : Checker) (old new shown : List ℕ) (n : ℕ) (r : Result Report AuditError) → IsReading source mid c old → IsLineRead mid now old new n → n ≡ 0 → shown ≡ new → IfErr r (EndsAs c shown) → IfErr r (IsAuditedAs source)
 refused source mid now c old new shown n (Ok report) h l z same e = tt
 refused source mid now c old new shown n (Err e) h l z same k = ended_as source mid now c old new n e h l z (subst (λ (t : List ℕ). EndsAs c t e) same k)
+
+-- ---- the rest of a text
+
+pub keeps_known : (old mid now : Option (List ℕ)) (bytes : List ℕ) → Keeps old mid → Consumes mid now bytes → Consumes old now bytes
+keeps_known None mid now bytes k h = tt
+keeps_known (Some xs) None now bytes k h = absurd k
+keeps_known (Some xs) (Some ys) None bytes k h = h
+keeps_known (Some xs) (Some ys) (Some zs) bytes k h = sym k ∙ h
+
+pub no_verdict : (source : Option (List ℕ)) (e : AuditError) → IsNoVerdict e → IsAuditedAs source e
+no_verdict source errors.Read h = tt
+no_verdict source errors.Memory h = tt
+no_verdict source errors.TooLong h = tt
+no_verdict source (errors.Refused line fault) h = absurd h
+
+pub rest_accepted : (first mid now : Option (List ℕ)) (old c : Checker) (start pending new shown : List ℕ) (n : ℕ) (r : Result Report AuditError)
+    → ((source : Option (List ℕ)) → IsReading source first old start → IsReading source mid c pending) → IsLineRead mid now pending new n → n ≡ 0 → shown ≡ new
+    → IfOk r (λ report. EndsWith c shown (Ok report)) → IfOk r (λ report. EndsReading first old start (Ok report))
+rest_accepted first mid now old c start pending new shown n (Ok report) reads l z same e = λ source h. accepted source mid now c pending new shown n (Ok report) (reads source h) l z same e
+rest_accepted first mid now old c start pending new shown n (Err e) reads l z same k = tt
+
+pub rest_refused : (first mid now : Option (List ℕ)) (old c : Checker) (start pending new shown : List ℕ) (n : ℕ) (r : Result Report AuditError)
+    → ((source : Option (List ℕ)) → IsReading source first old start → IsReading source mid c pending) → IsLineRead mid now pending new n → n ≡ 0 → shown ≡ new
+    → IfErr r (EndsAs c shown) → IfErr r (EndsReadingAs first old start)
+rest_refused first mid now old c start pending new shown n (Ok report) reads l z same e = tt
+rest_refused first mid now old c start pending new shown n (Err e) reads l z same k = λ source h. refused source mid now c pending new shown n (Err e) (reads source h) l z same k
+
+pub rest_is_audited : (source now : Option (List ℕ)) (c : Checker) (pending : List ℕ) (r : Result Report AuditError) → IsReading source now c pending → IfOk r (λ report. EndsReading now c pending (Ok report)) → IfOk r (λ report. IsAudited source (Ok report))
+rest_is_audited source now c pending (Ok report) h e = e source h
+rest_is_audited source now c pending (Err e) h k = tt
+
+pub rest_is_audited_as : (source now : Option (List ℕ)) (c : Checker) (pending : List ℕ) (r : Result Report AuditError) → IsReading source now c pending → IfErr r (EndsReadingAs now c pending) → IfErr r (IsAuditedAs source)
+rest_is_audited_as source now c pending (Ok report) h e = tt
+rest_is_audited_as source now c pending (Err e) h k = k source h
 
 -- ---- one line
 

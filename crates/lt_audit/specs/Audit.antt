@@ -1,5 +1,5 @@
 -- What the check of a stream says of the text that the stream gives.
-use Rattle.std.specs.Prelude.{ℕ, ◌≡◌, ◌⊎◌, ◌≤◌, List, ◌++◌, length, Option, Result, Ok, Err, IfSome, ◌∷◌, []}
+use Rattle.std.specs.Prelude.{ℕ, ◌≡◌, ◌⊎◌, ◌≤◌, List, ◌++◌, length, take, Option, Result, Ok, Err, IfSome, ◌∷◌, []}
 use Rattle.std.specs.Io.KnownBytes.{Consumes, IsAtEnd}
 use Rattle.lt_history.specs.declared.checker.Report.{Report}
 use Rattle.lt_history.specs.declared.checker.CheckError.{CheckError}
@@ -24,6 +24,11 @@ pub record IsLineRead (source now : Option (List ℕ)) (old new : List ℕ) (n :
   pub grown : new ≡ old ++ bytes
   pub count : length bytes ≡ n
   pub taken : Consumes source now bytes
+  pub at_end : n ≡ 0 → IsAtEnd source
+
+-- A read gave the first n bytes of the chunk. It gave none only at the end.
+pub record IsChunkRead (source now : Option (List ℕ)) (chunk : List ℕ) (n : ℕ) : Type 0 where
+  pub taken : Consumes source now (take n chunk)
   pub at_end : n ≡ 0 → IsAtEnd source
 
 -- These bytes came first. They are as long as a first line, or they are all.
@@ -77,6 +82,21 @@ pub record IsAudited (source : Option (List ℕ)) (verdict : Result Report Check
 abbrev pub IsAuditedAs : Option (List ℕ) → AuditError → Type 0
 IsAuditedAs source (errors.Refused line fault) = IsAudited source (Err (checks.Refused line fault))
 IsAuditedAs source _ = Unit {0}
+
+-- ---- the rest of a text
+
+-- The error says nothing of the text.
+abbrev pub IsNoVerdict : AuditError → Type 0
+IsNoVerdict (errors.Refused line fault) = ⊥
+IsNoVerdict _ = Unit {0}
+
+-- If the checker and the pending bytes are what came first, then this is the verdict on the text that the reader ends.
+abbrev pub EndsReading : Option (List ℕ) → Checker → List ℕ → Result Report CheckError → Type 0
+EndsReading now c pending verdict = (source : Option (List ℕ)) → IsReading source now c pending → IsAudited source verdict
+
+-- The same for a text that is refused with this error.
+abbrev pub EndsReadingAs : Option (List ℕ) → Checker → List ℕ → AuditError → Type 0
+EndsReadingAs now c pending e = (source : Option (List ℕ)) → IsReading source now c pending → IsAuditedAs source e
 
 -- ---- one line
 

@@ -1,1 +1,3 @@
 pub mod Audit
+pub mod KnownText
+pub mod Parallel

@@ -1,18 +1,21 @@
 //! Is the text that a reader gives the text of legal histories?
 //!
-//! [`check_stream`] reads line by line and gives each line to a checker of `lt_history`. It stops at the first fault.
-//! Read next: `specs/Audit.antt`, and `lt_history/src/pieces.rt` for the checker.
+//! [`check_stream`] reads in chunks and gives the whole lines of each to a checker of `lt_history`. It stops at the
+//! first fault. [`read_line`] and [`take_pending`] go line by line, as the explanation of a line does. Read next:
+//! `specs/Audit.antt`, `chunks.rt`, and `lt_history/src/pieces.rt` for the checker.
 ghost use Rattle.std.specs.Prelude.{◌≡◌, ◌+◌, ◌≤◌, length, IfOk, IfErr, Ok, Err};
 ghost use Rattle.lt_history.specs.Pieces.{TakesLines, HasBegun, LacksHeader};
-ghost use Rattle.lt_audit.specs.Audit.{IsLineRead, IsBeginning, IsReading, RefusesPending, EndsWith, EndsAs, IsAudited, IsAuditedAs, stopped};
+ghost use Rattle.lt_audit.specs.Audit.{IsLineRead, IsBeginning, IsReading, RefusesPending, EndsWith, EndsAs, EndsReading, EndsReadingAs, IsAudited, IsAuditedAs, IsNoVerdict, stopped};
 
+use crate::chunks::{chunk_buffer, read_chunk, take_after};
 use crate::error::{AuditError, stopped};
+use crate::progress::CheckProgress;
 use lt_history::{Checker, Fault, Report};
 use std::alloc::Global;
-use std::io::BufRead;
+use std::io::{BufRead, ErrorKind, Read};
 
 /// The length of the first line of a text, with its line end.
-const HEADER: usize = 8;
+pub(crate) const HEADER: usize = 8;
 
 /// Appends the next line to these bytes, with its line end if it has one. Returns how many bytes came; 0 means the end.
 pub(crate) fn read_line<R: BufRead>(
@@ -21,10 +24,11 @@ pub(crate) fn read_line<R: BufRead>(
 ) -> Result<usize, AuditError>
     ensures ok { IfOk result
         (IsLineRead (R.remaining reader.old) (R.remaining reader.new) pending.old.items pending.new.items) }
-    ensures err { IfErr result (λ e. e ≡ AuditError.Read) }
+    ensures err { IfErr result IsNoVerdict }
 {
     match reader.read_until(b'\n', pending) {
         Ok(n) => Ok(n),
+        Err(e) if e.kind() == ErrorKind::OutOfMemory => Err(AuditError::Memory),
         Err(_) => Err(AuditError::Read),
     }
 }
@@ -32,7 +36,7 @@ pub(crate) fn read_line<R: BufRead>(
 /// Reads lines until a first line of a text must be among them.
 fn read_beginning<R: BufRead>(alloc: Global, reader: &mut R) -> Result<Vec<u8>, AuditError>
     ensures ok { IfOk result (λ pending. IsBeginning (R.remaining reader.old) (R.remaining reader.new) pending.items) }
-    ensures err { IfErr result (λ e. e ≡ AuditError.Read) }
+    ensures err { IfErr result IsNoVerdict }
 {
     let mut pending = Vec::new(alloc);
     while pending.len() < HEADER {
@@ -92,25 +96,60 @@ pub(crate) fn begin<R: BufRead>(
     Ok((checker, pending))
 }
 
+/// Checks the rest of a text in chunks, after what the checker has taken and the pending bytes.
+pub(crate) fn check_rest<R: Read, P: CheckProgress>(
+    alloc: Global,
+    reader: &mut R,
+    checker: Checker,
+    pending: Vec<u8>,
+    progress: &mut P,
+) -> Result<Report, AuditError>
+    ensures ok { IfOk result (λ report. EndsReading (R.remaining reader.old) checker pending.items (Ok report)) }
+    ensures err { IfErr result (EndsReadingAs (R.remaining reader.old) checker pending.items) }
+{
+    let mut checker = checker;
+    let mut pending = pending;
+    let mut chunk = chunk_buffer(alloc)?;
+    for _ in 0..u64::MAX {
+        let n = read_chunk(reader, &mut chunk, &mut pending)?;
+        if n == 0 {
+            return end(alloc, checker, &pending);
+        }
+        if let Err(error) = take_after(alloc, &mut checker, &mut pending, &chunk[..n]) {
+            return Err(error);
+        }
+        progress.advance(n as u64, &checker.report());
+    }
+    Err(AuditError::TooLong)
+}
+
+/// Checks the text that the reader gives, as [`check_stream`] does, and tells how far it is.
+pub fn check_stream_with<R: BufRead, P: CheckProgress>(
+    alloc: Global,
+    reader: &mut R,
+    progress: &mut P,
+) -> Result<Report, AuditError>
+    ensures ok { IfOk result (λ report. IsAudited (R.remaining reader.old) (Ok report)) }
+    ensures err { IfErr result (IsAuditedAs (R.remaining reader.old)) }
+{
+    let (checker, pending) = match begin(alloc, reader) {
+        Ok(begun) => begun,
+        Err(error) => return Err(error),
+    };
+    progress.advance(
+        (pending.len() as u64).saturating_add(HEADER as u64),
+        &checker.report(),
+    );
+    check_rest(alloc, reader, checker, pending, progress)
+}
+
 /// Checks the text that the reader gives, of any length, and stops at the first fault. The verdict is that of
-/// [`check`](lt_history::check) on the whole text. It holds the longest line and the record of one key.
+/// [`check`](lt_history::check) on the whole text. It holds a chunk, the longest line and the record of one key.
 ///
 /// `Refused`, `Read` and `Memory` are as [`AuditError`] says. `TooLong` means 2^64 lines.
 pub fn check_stream<R: BufRead>(alloc: Global, reader: &mut R) -> Result<Report, AuditError>
     ensures ok { IfOk result (λ report. IsAudited (R.remaining reader.old) (Ok report)) }
     ensures err { IfErr result (IsAuditedAs (R.remaining reader.old)) }
 {
-    let (mut checker, mut pending) = match begin(alloc, reader) {
-        Ok(begun) => begun,
-        Err(error) => return Err(error),
-    };
-    for _ in 0..u64::MAX {
-        if let Err(error) = take_pending(alloc, &mut checker, &mut pending) {
-            return Err(error);
-        }
-        if read_line(reader, &mut pending)? == 0 {
-            return end(alloc, checker, &pending);
-        }
-    }
-    Err(AuditError::TooLong)
+    check_stream_with(alloc, reader, &mut ())
 }
