@@ -41,6 +41,8 @@ FAULT = (4, 'WrongReply')
 LEGAL = (0, b'')
 REFUSED = (1, f'locktrace: line {FAULT[0]}: {FAULT[1]}\n'.encode())
 
+CHECK_OF_FILE = 'check {folder}/text'
+
 # A command line, its input, and how it is to end. In the words, {folder} is a folder of the run's own: it has the input as the file
 # `text`, and the program may make the file `picture` in it. A command that does not name `text` gets the input on standard input.
 Trial = collections.namedtuple('Trial', 'words text ending')
@@ -65,7 +67,7 @@ def trials():
         ('sort --memory 1 --temporary {folder} {folder}/text', words, LEGAL),
         ('sort --memory 2K --temporary {folder} --json', lines, LEGAL),
         ('check', text, LEGAL),
-        ('check {folder}/text', text, LEGAL),
+        (CHECK_OF_FILE, text, LEGAL),
         ('check', faulty, REFUSED),
         ('explain {folder}/text', text, LEGAL),
         ('explain {folder}/text', faulty, REFUSED),
@@ -94,8 +96,9 @@ def run_trial(run, trial, **refused):
 
 def is_as_documented(trial, kind, is_last, ran, whole):
     """Whether a run ended as docs/FORMATS.md says if something of this kind was refused, the last of its kind or not. `whole` is how it
-    ends otherwise. A short write changes nothing, and of refused memory a smaller piece may be enough."""
-    if ran == whole and kind in ('refuse_memory', 'short_write'):
+    ends otherwise. A short write changes nothing, of refused memory a smaller piece may be enough, and a check of a file reads a piece
+    once more."""
+    if ran == whole and (kind in ('refuse_memory', 'short_write') or (kind, trial.words) == ('refuse_read', CHECK_OF_FILE)):
         return True
     if kind == 'refuse_write' and is_last and whole.err:
         return ran == whole._replace(err=b'')  # the write of the message itself
@@ -251,7 +254,7 @@ class Cutter:
             by_lockrun == (status, report, err.replace(b'locktrace', b'lockrun'))
             and self.answer(['check'], front) == self.answer(['check', file]) == (status, report, err)
             and (explained[0], explained[2]) == (status, err)
-            and (explained[1].startswith(begin) if begin else explained[1] == report)
+            and (explained[1].startswith(begin or report) if begin or report else not explained[1])
             and self.is_table_right(self.answer(['show', file]), table, max(steps, 0), status, err)
         )
 

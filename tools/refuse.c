@@ -1,6 +1,6 @@
 /* Refuses one request for memory, one read or one write: the one whose number stands in REFUSE_MEMORY, REFUSE_READ or
-   REFUSE_WRITE, counted from 1. A request for memory is a call of malloc, calloc or realloc, and gets none; a read or a
-   write fails with EIO. SHORT_WRITE=N has the Nth write take one byte alone, so that another one follows. At the end
+   REFUSE_WRITE, counted from 1. A request for memory is a call of malloc, calloc or realloc, and gets none; a read (also
+   one at an offset) or a write fails with EIO. SHORT_WRITE=N has the Nth write take one byte alone, so that another one follows. At the end
    the numbers of all three are written to the file descriptor that TELL names.
    Built as a shared library and loaded by LD_PRELOAD; see hostile.py. */
 #define _GNU_SOURCE
@@ -16,6 +16,7 @@ static void *(*next_malloc)(size_t);
 static void *(*next_calloc)(size_t, size_t);
 static void *(*next_realloc)(void *, size_t);
 static ssize_t (*next_read)(int, void *, size_t);
+static ssize_t (*next_pread)(int, void *, size_t, off_t);
 static ssize_t (*next_write)(int, const void *, size_t);
 
 static unsigned long number(const char *name) {
@@ -28,6 +29,7 @@ __attribute__((constructor)) static void find(void) {
     next_calloc = dlsym(RTLD_NEXT, "calloc");
     next_realloc = dlsym(RTLD_NEXT, "realloc");
     next_read = dlsym(RTLD_NEXT, "read");
+    next_pread = dlsym(RTLD_NEXT, "pread");
     next_write = dlsym(RTLD_NEXT, "write");
     refuse_memory = number("REFUSE_MEMORY");
     refuse_read = number("REFUSE_READ");
@@ -90,6 +92,15 @@ ssize_t read(int file, void *to, size_t most) {
         return -1;
     }
     return next_read(file, to, most);
+}
+
+ssize_t pread(int file, void *to, size_t most, off_t offset) {
+    if (!next_pread) next_pread = dlsym(RTLD_NEXT, "pread");
+    if (is_next(&reads, refuse_read)) {
+        errno = EIO;
+        return -1;
+    }
+    return next_pread(file, to, most, offset);
 }
 
 ssize_t write(int file, const void *from, size_t most) {
