@@ -33,7 +33,7 @@ pub enum TraceFailure {
     /// The reader of the output has closed its pipe. The program ends without a message.
     #[error("closed")]
     Closed,
-    /// The trace has 2^64 steps of a key or more.
+    /// A key of the trace has more than 2^64 - 1 steps, or the text to check did not end within 2^64 - 1 reads.
     #[error("the trace is too long")]
     TooLong,
     /// A temporary file failed.

@@ -1,4 +1,7 @@
 //! Which task do the words of the command line ask for?
+//!
+//! The first half of the file builds the command line for clap, a command at a time. The second half turns clap's
+//! matches into a [`Task`]. [`read_task`] combines the two. Read next: `task.rt`, which performs a task.
 use crate::help;
 use crate::layout::{Terminal, layout_of};
 use clap::error::ErrorKind;

@@ -19,7 +19,7 @@ pub enum AuditError {
     /// Memory ran out.
     #[error("out of memory")]
     Memory,
-    /// The text has 2^64 lines or more.
+    /// The text did not end within 2^64 - 1 reads.
     #[error("the histories are too long")]
     TooLong,
 }

@@ -296,7 +296,7 @@ pub(crate) fn check_by<T: TextAt + Sync, H: Threads + Sync, P: CheckProgress>(
 /// [`check`](lt_history::check) on the whole text. It holds a chunk, the longest line and the record of one key for each
 /// thread, and a megabyte in which it looks for cuts.
 ///
-/// `Refused`, `Read` and `Memory` are as [`AuditError`] says. `TooLong` means 2^64 lines.
+/// [`AuditError`] says what each error means. `TooLong` counts reads, which take at most 65,536 bytes each.
 pub fn check_pieces<T: TextAt + Sync, H: Threads + Sync, P: CheckProgress>(
     threads: &H,
     alloc: Global,

@@ -146,7 +146,7 @@ pub fn check_stream_with<R: BufRead, P: CheckProgress>(
 /// Checks the text that the reader gives, of any length, and stops at the first fault. The verdict is that of
 /// [`check`](lt_history::check) on the whole text. It holds a chunk, the longest line and the record of one key.
 ///
-/// `Refused`, `Read` and `Memory` are as [`AuditError`] says. `TooLong` means 2^64 lines.
+/// [`AuditError`] says what each error means. `TooLong` counts reads, which take at most 65,536 bytes each.
 pub fn check_stream<R: BufRead>(alloc: Global, reader: &mut R) -> Result<Report, AuditError>
     ensures ok { IfOk result (λ report. IsAudited (R.remaining reader.old) (Ok report)) }
     ensures err { IfErr result (IsAuditedAs (R.remaining reader.old)) }
