@@ -1,5 +1,5 @@
-//! How far is a check? A [`ProgressLine`] writes it on standard error, if that is a terminal: one line, which is
-//! written again and again at its beginning.
+//! How does a check show how far it is? If standard error is a terminal, a [`ProgressLine`] writes one line there, and
+//! overwrites it while the check goes on.
 use lt_audit::CheckProgress;
 use lt_history::Report;
 use std::io::IsTerminal;

@@ -1,5 +1,5 @@
-//! How does a text fit the width of its column? A text that is too long is cut and ends in `~`; a shorter one is filled
-//! with spaces. A byte that is not printable ASCII is shown as `\xHH`. `specs/Cells.antt` defines all of it.
+//! How is a text fitted to the width of its column? A text that is too wide is cut and ends in `~`. A narrower one is
+//! padded with spaces. A byte that is not printable ASCII is shown as `\xHH`. `specs/Cells.antt` defines all of this.
 ghost use Rattle.std.specs.Prelude.{◌≡◌, ◌≤◌, ◌+◌, ◌<◌, ◌^◌, ◌++◌, OnOk, All, take, drop, vec_len};
 ghost use Rattle.lt_picture.specs.Escape.{IsPrintable};
 ghost use Rattle.lt_picture.specs.Cells.{cut_to, cell_of};

@@ -1,6 +1,6 @@
-//! How are bytes written so that a terminal or a browser shows them as they are? [`put_printable`] writes a byte that
-//! is not printable ASCII as `\xHH`. [`put_escaped`] also writes the bytes that have a meaning in SVG and HTML by
-//! their names. `specs/Escape.antt` defines both.
+//! How are arbitrary bytes written so that a terminal or a browser only shows them? [`put_printable`] writes a byte that
+//! is not printable ASCII as `\xHH`. [`put_escaped`] also replaces the characters that have a meaning in SVG and HTML
+//! (`&`, `<`, `>`, `"`) by their names. `specs/Escape.antt` defines both.
 ghost use Rattle.std.specs.Prelude.{◌≡◌, ◌++◌, OnOk, All};
 ghost use Rattle.std.specs.List.{flat_map};
 ghost use Rattle.lt_picture.specs.Escape.{is_printable, hex_digit, printable_byte, escaped_byte, IsPrintable, IsMarkupFree};

@@ -1,6 +1,8 @@
-//! Are the statistics as they were worked out by hand? Each row is a step; each case has its steps and its summary. Some
-//! cases are no legal texts: the statistics count what they are given. A case that runs out of memory is played again, so
-//! the test also passes if any one allocation fails.
+//! Do the statistics match those that were worked out by hand?
+//!
+//! A row is a step; a case has its steps and the expected summary. Some cases are not legal texts, because the statistics
+//! count whatever they are given. A case that runs out of memory is played again, so the tests pass under any single
+//! allocation failure.
 use crate::{HotKey, LongestQueue, LongestWait, Statistics, StepCounts, StepFacts, TextSummary};
 use lt_ids::{Access, Key, Ticket, Timestamp};
 use lt_plain::{Call, Reply};

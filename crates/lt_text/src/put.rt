@@ -1,6 +1,8 @@
-//! How are numbers, calls and replies written? Each function appends to a byte vector the words that
-//! `specs/Fields.antt`, `specs/Calls.antt` and `specs/Replies.antt` define. It fails only when an allocation
-//! fails, and then may have appended a part.
+//! How are numbers, calls and replies written?
+//!
+//! Each function appends words to a byte vector. `specs/Fields.antt`, `specs/Calls.antt` and `specs/Replies.antt` define
+//! the words. A function fails only if an allocation fails, and may then have appended some of its bytes. Read next:
+//! `field.rt`, `call.rt` and `reply.rt`, which read the same words.
 ghost use Rattle.std.specs.Prelude.{◌≡◌, ◌++◌, ◌∷◌, [], OnOk, decimal};
 ghost use Rattle.lt_text.specs.Replies.{held_word, reply_words};
 ghost use Rattle.lt_text.specs.Fields.{pair_word, access_word, owner_word, bound_words};
