@@ -1,6 +1,6 @@
-//! How is a text explained? [`explain_file`] checks a file. It writes the summary of a legal text (`gather.rt`). For the
-//! first faulty line of another one it writes what the rules give, by which row of docs/RULES.md, the record of the key
-//! before the line, and the key's latest lines.
+//! How is a text explained? [`explain_file`] checks a file. It writes the summary of a legal text (`gather.rt`). For any
+//! other text it writes what the rules give for the first faulty line and by which row of docs/RULES.md, the record of
+//! the key before that line, and the key's latest lines.
 use crate::failure::{TraceFailure, of_audit};
 use crate::follow::{follow_steps, write_text};
 use crate::gather::Gatherer;

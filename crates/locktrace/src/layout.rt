@@ -1,4 +1,4 @@
-//! How wide is the table of `show`, and has it colours? [`layout_of`] decides, from the options of the command line and
+//! How wide is the table of `show`, and is it coloured? [`layout_of`] decides, from the options of the command line and
 //! from what [`Terminal`] knows of standard output.
 ghost use Rattle.std.specs.Prelude.{◌≡◌, ◌≤◌, ◌↔◌, IfSome, IsTrue, None, true, false};
 ghost use Rattle.locktrace.specs.declared.layout.ColourChoice.TheVariants.{Always, Never, Auto};

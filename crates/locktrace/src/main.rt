@@ -1,8 +1,8 @@
 //! The program `locktrace`: works with the traces of lock tables, of any size.
 //!
-//! - `locktrace sort [FILE]` makes a text of histories of a trace.
+//! - `locktrace sort [FILE]` turns a trace into a text of histories.
 //! - `locktrace check [FILE]` gives the verdict of `lockrun check` on a text of histories.
-//! - `locktrace explain FILE` says what the rules give for the first faulty line of a text, and sums a legal text up.
+//! - `locktrace explain FILE` says what the rules give for the first faulty line of a text, or summarizes a legal text.
 //! - `locktrace show [FILE]` prints the steps of keys as a table.
 //! - `locktrace picture [FILE] --key KEY` draws the steps of a key.
 //!
@@ -45,7 +45,7 @@ fn words_of(rt: &HostRuntime) -> Result<Vec<String>, TraceFailure> {
     }
 }
 
-/// The value of an environment variable. `None` if there is none, or if it is no text.
+/// The value of an environment variable. `None` if there is none, or if it is not text.
 fn variable(rt: &HostRuntime, name: &str) -> Result<Option<String>, TraceFailure> {
     match env::var(rt, name) {
         Ok(value) => Ok(Some(value)),

@@ -1,4 +1,4 @@
-//! What do the rules say of one line of a text?
+//! What do the rules say about one line of a text?
 //!
 //! [`explain`] reads a text up to a line that a check refused. It gives the record of the line's key before it, the
 //! reply and the lets that the rules give for its call, and the key's latest lines. Read next: `rule.rt`, which names

@@ -173,7 +173,7 @@ fn all_joined(prefix: CheckedPrefix, pieces: Vec<Option<CheckedPiece>>) -> Check
     prefix
 }
 
-/// The prefix with the pieces between these cuts, as far as they follow.
+/// The prefix with the pieces between these cuts, up to the first piece that does not follow.
 pub(crate) fn extended<T: TextAt + Sync, H: Threads + Sync>(
     threads: &H,
     alloc: Global,
@@ -205,7 +205,7 @@ pub(crate) fn begin_prefix<T: TextAt>(alloc: Global, text: &T) -> Option<Checked
     })
 }
 
-/// Checks pieces on threads, as far as they follow.
+/// Checks pieces on threads, up to the first piece that does not follow.
 fn check_prefix<T: TextAt + Sync, H: Threads + Sync, P: CheckProgress>(
     threads: &H,
     alloc: Global,

@@ -1,4 +1,4 @@
-//! Is a text legal that comes in pieces? A [`Checker`] takes the lines of a text one after the other and holds none
+//! Is a text that comes in pieces legal? A [`Checker`] takes the lines of a text one after the other and holds none
 //! of them. So it checks a text of any length in the memory of one line and of one key's record.
 //!
 //! [`Checker::begin`] takes the first line, [`Checker::take_lines`] takes the whole lines of a piece, and

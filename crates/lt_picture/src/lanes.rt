@@ -103,7 +103,7 @@ fn add_state(lanes: &mut Vec<Lane>, state: &KeyState) -> Result<(), AllocError> 
     Ok(())
 }
 
-/// The lanes of all that the steps name. Whoever is at the key and is not named by a step was there after the first.
+/// The lanes of everybody whom a step names, or who is at the key after the first step.
 fn owners(alloc: Global, steps: &[ShownStep]) -> Result<Vec<Lane>, AllocError>
     ensures { IfOk result (λ lanes. CallersHaveLanes lanes.items steps.now (length steps.now)) }
 {

@@ -1,4 +1,4 @@
-//! What do the signs of the picture mean? The legend below the lanes says it.
+//! What do the signs of the picture mean? The legend below the lanes explains them.
 use crate::drawing::{Area, put_marker, put_rect, put_text, put_vertical};
 use crate::grid::{BAR, Grid};
 use std::alloc::AllocError;

@@ -1,4 +1,4 @@
-//! What do the statistics of a text say? No count exceeds 2^64 - 1: there it stops.
+//! What do the statistics of a text say? A count stops at 2^64 - 1.
 use lt_ids::{Key, Ticket};
 
 /// The counts of a text.

@@ -1,4 +1,4 @@
-//! What the answer lines and the histories of an output say of one another.
+//! How the answer lines and the histories of an output relate.
 //!
 //! The law is the contract of a function that does nothing. It speaks of the definitions alone.
 ghost use Rattle.lt_tool.specs.Laws.{OutputTells};

@@ -12,8 +12,7 @@
 //!   version, and promises that the text stays legal.
 //! - [`read_words`] reads the words of the command line, and [`perform`] does what they ask for. [`status`] and
 //!   [`complain`] give the exit status and the line on standard error.
-//! - [`laws::output_tells`] says in one place what the answer lines and the histories of an output say of one
-//!   another.
+//! - [`laws::output_tells`] says in one place how the answer lines and the histories of an output relate.
 //!
 //! Read next: `specs/Output.antt` for what a run writes, over `specs/Ran.antt` of `lt_runner`; `specs/Answers.antt`
 //! for how an answer is written; `specs/Check.antt` for what a check answers. `lt_command_line` defines what the

@@ -11,7 +11,7 @@
 //!   With any index after its key, it is the text of a line of histories ([`laws::numbered_is_line`]).
 //! - The lines in memory are sorted by key, and lines of one key keep their order (`sort_lines`).
 //! - A merge takes the first of the least heads (`least_of`).
-//! - The indexes of a key's lines rise by 1, from 1 (`Page::put`).
+//! - The indices of a key's lines rise by 1, from 1 (`Page::put`).
 //! - A JSON line gives the step that its members spell, and a line is refused only if it says no step (`read_line` in
 //!   `src/sort.rt`).
 //! - If a line is refused or a read of the trace fails, the output is unchanged (`sort_trace`).

@@ -1,4 +1,4 @@
-//! What is a line of a trace? [`TraceLine::read`] reads one in the form of words, given without its line end: the
+//! What is a line of a trace? [`TraceLine::read`] reads one in the word form, given without its line end: the
 //! line of a step of histories without its index. Read next: `specs/Step.antt`, which defines what is read, and
 //! `object.rt` for the form of JSON.
 ghost use Rattle.std.specs.Prelude.{◌≡◌, ◌==◌, ◌^◌, ◌++◌, ◌∷◌, [], OnOk, IfOk, is_some, true};
@@ -126,7 +126,7 @@ impl TraceLine {
         Ok(Some(TraceLine { key, step: bytes }))
     }
 
-    /// Reads a line in the form of words, given without its line end. `None` if it is no line of a trace.
+    /// Reads a line in the word form, given without its line end. `None` if it is not a line of a trace.
     pub(crate) fn read(alloc: Global, bytes: &[u8]) -> Result<Option<TraceLine>, AllocError>
         ensures { IfOk result (λ o. option_map parts_of_line o ≡ trace_line_of bytes.now) }
     {

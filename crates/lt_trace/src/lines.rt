@@ -1,4 +1,4 @@
-//! Which lines are in memory, in which order? A [`Batch`] collects lines of a trace, counts the bytes that they
+//! Which lines are in memory, and in which order? A [`Batch`] collects lines of a trace, counts the bytes that they
 //! take, and sorts them by key.
 ghost use Rattle.std.specs.Prelude.{◌≡◌, ◌++◌, ◌∷◌, [], OnOk, IfOk};
 ghost use Rattle.std.specs.List.Sorted.{IsSortedByKey, IsStableByKey};

@@ -1,5 +1,5 @@
-//! Which step does a JSON object spell? [`read_object`] reads one line, given without its line end. Its members are
-//! the words of a line in the form of words: `specs/Json.antt` defines which line that is.
+//! Which step does a JSON object spell? [`read_object`] reads one line, given without its line end. Its members have
+//! the words of a line in the word form: `specs/Json.antt` defines which line that is.
 ghost use Rattle.std.specs.Prelude.{◌≡◌, IfOk, IfErr};
 ghost use Rattle.std.specs.Option.{option_map};
 ghost use Rattle.serde_json.specs.View.{view, items_view};
@@ -103,7 +103,7 @@ fn ticket_text(value: &Value) -> Option<&str>
     Some(text)
 }
 
-/// Appends the tickets, with a space before each. Returns false if one of them is no ticket.
+/// Appends the tickets, with a space before each. Returns false if one of them is not a ticket.
 fn put_tickets(out: &mut Vec<u8>, tickets: &[Value]) -> Result<bool, AllocError>
     ensures { IfOk result (AppendsIfAny out.old.items out.new.items (ticket_bytes (items_view tickets.now))) }
 {

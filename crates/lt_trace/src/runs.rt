@@ -1,4 +1,4 @@
-//! Where do sorted lines wait that do not fit into memory? A run is a temporary file with lines in the order of their
+//! Where do sorted lines that do not fit into memory wait? A run is a temporary file with lines in the order of their
 //! keys. The runs stand in the order in which their lines were read.
 //!
 //! A temporary file is removed from its folder as soon as it is open, and before its first byte is written. So none is
