@@ -29,7 +29,7 @@
  *   - A caller does not copy an open struct lt_table, because both copies would own one table. It closes each table
  *     that it opened: memory of a table that was not closed is lost.
  *   - No two calls use one table at the same time. A caller with several threads keeps the table behind a lock of
- *     its own.
+ *     its own (see THREADS).
  *   - No pointer is null, even if a length is 0. Each points to as many elements as the length says. The places that
  *     one call writes do not overlap, and overlap nothing that it reads.
  *   - A bool has the value 0 or 1.
@@ -37,6 +37,12 @@
  *
  * Everything else is tested by the call. A number that is out of range, a closed table or a text of any bytes is
  * answered by a code.
+ *
+ * THREADS. A table belongs to no thread: each call may come from another one, if the calls are ordered, for example by
+ * a mutex that the caller holds during each call. Calls on different tables need no order. No contract says this. It
+ * rests on three facts: the library has no variable outside the tables, neither for all threads nor for one; all that a
+ * table owns is memory of the three functions below, which work on every thread; and no two calls use one table at the
+ * same time. The Rust type LockTable is Send for these reasons.
  *
  * CODES. A call answers one code. From LT_FIRST_REPLY on it is a reply of the rules, and the call took effect. Below
  * that it is LT_DONE or a refusal. A call that is refused changes nothing: the table, the lets that are left, and what

@@ -1,7 +1,9 @@
 //! What crosses to the archive? The structs and functions of `bindings/c/locktable.h`, the three functions by which the
-//! archive takes memory, and [`Handle`], whose methods are safe. No other module has `unsafe` code.
+//! archive takes memory, and [`Handle`], whose methods are safe. No other module has `unsafe` code. `struct lt_through`
+//! is [`Through`] itself.
 
 use crate::codes;
+use crate::names::Through;
 use core::ffi::c_void;
 
 /// `struct lt_txn`
@@ -23,15 +25,6 @@ pub(crate) struct RawRequest {
     pub pass: u32,
     pub longest: u32,
     pub writes: bool,
-}
-
-/// `struct lt_through`
-#[repr(C)]
-#[derive(Clone, Copy, Default)]
-pub(crate) struct RawThrough {
-    pub number: u64,
-    pub wait: u32,
-    pub pass: u32,
 }
 
 /// `struct lt_queued`
@@ -78,12 +71,11 @@ struct RawTable {
 }
 
 /// A step of the archive whose subject is one number: finish or leave.
-type StepOfNumber =
-    unsafe extern "C" fn(*mut RawTable, *const u8, usize, u64, *mut RawThrough, usize, *mut usize) -> u32;
+type StepOfNumber = unsafe extern "C" fn(*mut RawTable, *const u8, usize, u64, *mut Through, usize, *mut usize) -> u32;
 
 /// A step of the archive whose subject is a transaction at a timestamp: acquire or update.
 type StepOfTxn =
-    unsafe extern "C" fn(*mut RawTable, *const u8, usize, *const RawTxn, *mut RawThrough, usize, *mut usize) -> u32;
+    unsafe extern "C" fn(*mut RawTable, *const u8, usize, *const RawTxn, *mut Through, usize, *mut usize) -> u32;
 
 /// A query of the archive for one entry of a queue.
 type EntryOf = unsafe extern "C" fn(*mut RawTable, *const u8, usize, usize, *mut RawQueued) -> u32;
@@ -96,7 +88,7 @@ extern "C" {
         key: *const u8,
         key_len: usize,
         request: *const RawRequest,
-        lets: *mut RawThrough,
+        lets: *mut Through,
         room: usize,
         count: *mut usize,
     ) -> u32;
@@ -105,7 +97,7 @@ extern "C" {
         key: *const u8,
         key_len: usize,
         by: *const RawTxn,
-        lets: *mut RawThrough,
+        lets: *mut Through,
         room: usize,
         count: *mut usize,
     ) -> u32;
@@ -114,7 +106,7 @@ extern "C" {
         key: *const u8,
         key_len: usize,
         by: *const RawTxn,
-        lets: *mut RawThrough,
+        lets: *mut Through,
         room: usize,
         count: *mut usize,
     ) -> u32;
@@ -123,7 +115,7 @@ extern "C" {
         key: *const u8,
         key_len: usize,
         txn: u64,
-        lets: *mut RawThrough,
+        lets: *mut Through,
         room: usize,
         count: *mut usize,
     ) -> u32;
@@ -132,11 +124,11 @@ extern "C" {
         key: *const u8,
         key_len: usize,
         number: u64,
-        lets: *mut RawThrough,
+        lets: *mut Through,
         room: usize,
         count: *mut usize,
     ) -> u32;
-    fn lt_table_lets(table: *mut RawTable, lets: *mut RawThrough, room: usize, count: *mut usize) -> u32;
+    fn lt_table_lets(table: *mut RawTable, lets: *mut Through, room: usize, count: *mut usize) -> u32;
     fn lt_table_look(table: *mut RawTable, key: *const u8, key_len: usize, number: u64, txn: *mut u64) -> u32;
     fn lt_table_key(table: *mut RawTable, key: *const u8, key_len: usize, out: *mut RawKey) -> u32;
     fn lt_table_writer(table: *mut RawTable, key: *const u8, key_len: usize, index: usize, out: *mut RawQueued) -> u32;
@@ -157,9 +149,8 @@ pub(crate) struct Handle {
     table: RawTable,
 }
 
-// SAFETY: a table owns plain data in blocks of `malloc`, which any thread may use and free. It has no link to the
-// thread that opened it: the table of many threads moves the same `LinkedTable` from thread to thread, and is proved
-// to. Every call takes the handle by `&mut`, so two calls never meet.
+// SAFETY: a table belongs to no thread. `bindings/c/locktable.h`, THREADS, says on what that rests. Its facts hold here: the
+// three functions below work on every thread, and every call takes the handle by `&mut`, so two calls never meet.
 unsafe impl Send for Handle {}
 
 impl Handle {
@@ -177,7 +168,8 @@ impl Handle {
         }
     }
 
-    pub fn visit(&mut self, key: &[u8], request: &RawRequest, lets: &mut [RawThrough], count: &mut usize) -> u32 {
+    #[inline]
+    pub fn visit(&mut self, key: &[u8], request: &RawRequest, lets: &mut [Through], count: &mut usize) -> u32 {
         // SAFETY: the table is open and borrowed for this call alone. The references point to whole values, the slices
         // to as many elements as they say, and what is written overlaps nothing else.
         unsafe {
@@ -185,40 +177,46 @@ impl Handle {
         }
     }
 
-    pub fn acquire(&mut self, key: &[u8], by: &RawTxn, lets: &mut [RawThrough], count: &mut usize) -> u32 {
+    #[inline]
+    pub fn acquire(&mut self, key: &[u8], by: &RawTxn, lets: &mut [Through], count: &mut usize) -> u32 {
         self.step_of_txn(lt_table_acquire, key, by, lets, count)
     }
 
-    pub fn update(&mut self, key: &[u8], by: &RawTxn, lets: &mut [RawThrough], count: &mut usize) -> u32 {
+    #[inline]
+    pub fn update(&mut self, key: &[u8], by: &RawTxn, lets: &mut [Through], count: &mut usize) -> u32 {
         self.step_of_txn(lt_table_update, key, by, lets, count)
     }
 
-    pub fn finish(&mut self, key: &[u8], txn: u64, lets: &mut [RawThrough], count: &mut usize) -> u32 {
+    #[inline]
+    pub fn finish(&mut self, key: &[u8], txn: u64, lets: &mut [Through], count: &mut usize) -> u32 {
         self.step_of_number(lt_table_finish, key, txn, lets, count)
     }
 
-    pub fn leave(&mut self, key: &[u8], number: u64, lets: &mut [RawThrough], count: &mut usize) -> u32 {
+    #[inline]
+    pub fn leave(&mut self, key: &[u8], number: u64, lets: &mut [Through], count: &mut usize) -> u32 {
         self.step_of_number(lt_table_leave, key, number, lets, count)
     }
 
+    #[inline]
     fn step_of_txn(
         &mut self,
         step: StepOfTxn,
         key: &[u8],
         by: &RawTxn,
-        lets: &mut [RawThrough],
+        lets: &mut [Through],
         count: &mut usize,
     ) -> u32 {
         // SAFETY: as in `visit`; `step` is one of the archive's two functions of this type.
         unsafe { step(&mut self.table, key.as_ptr(), key.len(), by, lets.as_mut_ptr(), lets.len(), count) }
     }
 
+    #[inline]
     fn step_of_number(
         &mut self,
         step: StepOfNumber,
         key: &[u8],
         number: u64,
-        lets: &mut [RawThrough],
+        lets: &mut [Through],
         count: &mut usize,
     ) -> u32 {
         // SAFETY: as in `visit`; `step` is one of the archive's two functions of this type.
@@ -226,11 +224,12 @@ impl Handle {
     }
 
     /// The next lets of the last step.
-    pub fn lets(&mut self, lets: &mut [RawThrough], count: &mut usize) -> u32 {
+    pub fn lets(&mut self, lets: &mut [Through], count: &mut usize) -> u32 {
         // SAFETY: as in `visit`.
         unsafe { lt_table_lets(&mut self.table, lets.as_mut_ptr(), lets.len(), count) }
     }
 
+    #[inline]
     pub fn look(&mut self, key: &[u8], number: u64, txn: &mut u64) -> u32 {
         // SAFETY: as in `visit`.
         unsafe { lt_table_look(&mut self.table, key.as_ptr(), key.len(), number, txn) }

@@ -3,7 +3,8 @@
 //! interface to it. `docs/RULES.md` of the repository says what a key does.
 //!
 //! [`LockTable`] serves one thread at a time. It is `Send` and not `Sync`: several threads share one behind a lock, for
-//! example a `Mutex`. A store with many threads spreads its keys over several tables ([`shard_of`]).
+//! example a `Mutex`. No contract of the archive says that it is `Send`: `bindings/c/locktable.h`, THREADS, says on what
+//! that rests. A store with many threads spreads its keys over several tables ([`shard_of`]).
 //!
 //! ```
 //! use locktable::{Access, LockTable, Reply, Request, Timestamp, TxnId};

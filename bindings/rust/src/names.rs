@@ -60,6 +60,7 @@ impl Request {
 }
 
 /// A let: this wait of this request is over.
+#[repr(C)]
 #[derive(Clone, Copy, Debug, PartialEq, Eq, Hash)]
 pub struct Through {
     /// The number of the request.

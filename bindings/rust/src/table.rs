@@ -1,7 +1,7 @@
 //! How does a store keep its locks? [`LockTable`] is the lock table of one thread.
 
 use crate::codes;
-use crate::ffi::{self, Handle, RawKey, RawQueued, RawRequest, RawThrough, RawTxn};
+use crate::ffi::{self, Handle, RawKey, RawQueued, RawRequest, RawTxn};
 use crate::names::{
     Access, Found, Holder, KeyState, Queued, Refused, Reply, Request, Through, Timestamp, TxnId, Writer,
 };
@@ -9,6 +9,9 @@ use std::fmt;
 
 /// How many lets cross at once. A step with more of them takes further calls.
 const ROOM: usize = 16;
+
+/// What stands in the room before the first let.
+const NO_LET: Through = Through { number: 0, wait: 0, pass: 0 };
 
 /// A lock table. A key is 1 to 64 bytes, each from 0x21 to 0x7E. Every call that is refused changes nothing.
 ///
@@ -47,20 +50,21 @@ const ROOM: usize = 16;
 pub struct LockTable {
     handle: Handle,
     /// What the archive writes its lets into.
-    room: [RawThrough; ROOM],
+    room: [Through; ROOM],
 }
 
 impl LockTable {
     /// Opens an empty table. It is refused only for memory.
     pub fn open() -> Result<LockTable, Refused> {
         match Handle::open() {
-            Ok(handle) => Ok(LockTable { handle, room: [RawThrough::default(); ROOM] }),
+            Ok(handle) => Ok(LockTable { handle, room: [NO_LET; ROOM] }),
             Err(code) => Err(refused(code)),
         }
     }
 
     /// A request visits the key to read or to write: [`Reply::Passed`], [`Reply::MustWait`] or [`Reply::TooLong`]. A
     /// visit lets nobody through.
+    #[inline]
     pub fn visit(&mut self, key: &[u8], request: &Request, lets: &mut Vec<Through>) -> Result<Reply, Refused> {
         let request = RawRequest {
             number: request.number,
@@ -77,6 +81,7 @@ impl LockTable {
 
     /// A transaction takes the lock, or raises the timestamp at which it holds the lock: [`Reply::Taken`],
     /// [`Reply::Kept`], [`Reply::Raised`] or [`Reply::Other`].
+    #[inline]
     pub fn acquire(
         &mut self,
         key: &[u8],
@@ -90,17 +95,20 @@ impl LockTable {
 
     /// A transaction raises the timestamp at which it holds the lock: [`Reply::Kept`], [`Reply::Raised`] or
     /// [`Reply::Other`].
+    #[inline]
     pub fn update(&mut self, key: &[u8], txn: TxnId, ts: Timestamp, lets: &mut Vec<Through>) -> Result<Reply, Refused> {
         let by = raw_txn(txn, ts);
         self.step(lets, |handle, room, count| handle.update(key, &by, room, count))
     }
 
     /// A transaction releases the lock: [`Reply::Freed`] or [`Reply::Other`].
+    #[inline]
     pub fn finish(&mut self, key: &[u8], txn: TxnId, lets: &mut Vec<Through>) -> Result<Reply, Refused> {
         self.step(lets, |handle, room, count| handle.finish(key, txn.get(), room, count))
     }
 
     /// The request with this number gives up its reservation, or stops waiting: [`Reply::Left`] or [`Reply::Absent`].
+    #[inline]
     pub fn leave(&mut self, key: &[u8], number: u64, lets: &mut Vec<Through>) -> Result<Reply, Refused> {
         self.step(lets, |handle, room, count| handle.leave(key, number, room, count))
     }
@@ -119,6 +127,7 @@ impl LockTable {
     /// # Ok(())
     /// # }
     /// ```
+    #[inline]
     pub fn look(&mut self, key: &[u8], number: u64) -> Result<Found, Refused> {
         let mut txn = 0;
         let code = self.handle.look(key, number, &mut txn);
@@ -201,26 +210,31 @@ impl LockTable {
     }
 
     /// Makes a step and collects all of its lets.
+    #[inline]
     fn step(
         &mut self,
         lets: &mut Vec<Through>,
-        call: impl FnOnce(&mut Handle, &mut [RawThrough], &mut usize) -> u32,
+        call: impl FnOnce(&mut Handle, &mut [Through], &mut usize) -> u32,
     ) -> Result<Reply, Refused> {
         lets.clear();
         let mut count = 0;
         let code = call(&mut self.handle, &mut self.room, &mut count);
-        let reply = reply(code)?;
-        loop {
-            lets.extend(self.room[..count].iter().map(|raw| Through {
-                number: raw.number,
-                wait: raw.wait,
-                pass: raw.pass,
-            }));
-            if count < ROOM {
-                return Ok(reply);
-            }
-            done(self.handle.lets(&mut self.room, &mut count))?;
+        if count > 0 {
+            self.collect(count, lets)?;
         }
+        reply(code)
+    }
+
+    /// Collects the lets of a step: so many from the room, and those that did not fit. It stays out of line, because most
+    /// steps let nobody through.
+    #[inline(never)]
+    fn collect(&mut self, mut count: usize, lets: &mut Vec<Through>) -> Result<(), Refused> {
+        lets.extend_from_slice(&self.room[..count]);
+        while count == ROOM {
+            done(self.handle.lets(&mut self.room, &mut count))?;
+            lets.extend_from_slice(&self.room[..count]);
+        }
+        Ok(())
     }
 }
 
@@ -271,6 +285,7 @@ fn done(code: u32) -> Result<(), Refused> {
     }
 }
 
+#[inline]
 fn reply(code: u32) -> Result<Reply, Refused> {
     Ok(match code {
         codes::PASSED => Reply::Passed,
@@ -289,6 +304,7 @@ fn reply(code: u32) -> Result<Reply, Refused> {
 
 /// The refusal with this code. The other refusals of the archive cannot happen here: the table is open, every step
 /// takes all of its lets, a transaction is not 0, and an index is below the number that was just told.
+#[cold]
 fn refused(code: u32) -> Refused {
     match code {
         codes::MEMORY => Refused::Memory,
@@ -299,5 +315,45 @@ fn refused(code: u32) -> Refused {
         codes::BAD_WAIT => Refused::Wait,
         codes::BAD_PASS => Refused::Pass,
         code => unreachable!("the archive answered {code}"),
+    }
+}
+
+#[cfg(test)]
+mod tests {
+    use super::*;
+
+    #[test]
+    fn each_code_of_a_refusal_has_its_error() {
+        let rows = [
+            (2, Refused::Memory),
+            (5, Refused::KeyEmpty),
+            (6, Refused::KeyLong),
+            (7, Refused::KeyByte),
+            (9, Refused::Number),
+            (10, Refused::Wait),
+            (11, Refused::Pass),
+        ];
+        for (code, error) in rows {
+            assert_eq!((done(code), reply(code)), (Err(error), Err(error)), "code {code}");
+        }
+    }
+
+    #[test]
+    fn each_code_of_a_reply_has_its_reply() {
+        let rows = [
+            (32, Reply::Passed),
+            (33, Reply::MustWait),
+            (34, Reply::TooLong),
+            (35, Reply::Taken),
+            (36, Reply::Kept),
+            (37, Reply::Raised),
+            (38, Reply::Other),
+            (39, Reply::Freed),
+            (40, Reply::Left),
+            (41, Reply::Absent),
+        ];
+        for (code, of_rules) in rows {
+            assert_eq!(reply(code), Ok(of_rules), "code {code}");
+        }
     }
 }
