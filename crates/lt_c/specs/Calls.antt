@@ -1,8 +1,10 @@
--- The calls that C asks for, and the first fault of a visit.
+-- The visit that C asks for, and its first fault.
 use Rattle.std.specs.Prelude.{ℕ, ◌^◌, ◌||◌, nat_eq, nat_le, nat_lt, if◌then◌else◌, Option, Some, None}
 use Rattle.lt_ids.specs.declared.request.Access.TheVariants.{Read, Write}
 use Rattle.lt_plain.specs.declared.call.Call.{Call}
 use Rattle.lt_plain.specs.declared.call.Call.TheVariants.{Visit}
+use Rattle.lt_plain.specs.Rules.{Record, Outcome}
+use Rattle.lt_plain.specs.Step.{step}
 use Rattle.lt_c.specs.declared.shapes.LtRequest.{LtRequest}
 
 -- a transaction as C names it, where 0 is none
@@ -17,6 +19,10 @@ requested_visit r = Visit
     (record { wall = r.wall; logical = r.logical })
     (if r.writes then Write else Read)
     r.longest
+
+-- what this visit does to the record of its key
+abbrev pub visit_act : LtRequest → Record → Outcome
+visit_act request = λ r. step r request.pass (requested_visit request)
 
 -- the code of the first number that is out of its range
 abbrev pub visit_fault : LtRequest → Option ℕ

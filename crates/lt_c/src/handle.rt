@@ -3,9 +3,8 @@
 ghost use Rattle.std.specs.Prelude.{◌≡◌, ◌≢◌, ◌≤◌, ◌<◌, Some, None, IfSome, IfNone, is_some};
 ghost use Rattle.lt_c.specs.Steps.{step_refusal, OnHandle, OnTable, MakesStep, AllocatesNothing, KeepsOut};
 ghost use Rattle.lt_c.specs.Codes.{IsReplyUnless};
-ghost use Rattle.lt_plain.specs.Step.{step};
 
-use crate::calls::PassCall;
+use crate::calls::TableCall;
 use crate::codes::{CLOSED, FIRST_REPLY, MEMORY};
 use crate::held::HeldTable;
 use crate::shapes::LtThrough;
@@ -64,22 +63,21 @@ impl TableHandle {
     }
 
     /// Makes the call at the key with these bytes, and gives its lets.
-    pub fn step(
+    pub fn step<C: TableCall>(
         &mut self,
         alloc: Global,
         key: &[u8],
-        call: &PassCall,
+        call: &C,
         lets: &mut [LtThrough],
         count: &mut usize,
     ) -> u32
         ensures refused { IsReplyUnless (step_refusal self.old.slot.held key.now) result }
         ensures stepped { FIRST_REPLY ≤ result → OnHandle
-            (MakesStep key.now (λ r. step r call.now.pass call.now.call) result lets.old lets.new count.new)
+            (MakesStep key.now (C.act call.now) result lets.old lets.new count.new)
             self.old.slot.held self.new.slot.held }
         ensures table_kept { result < FIRST_REPLY → self.new.slot.held ≡ self.old.slot.held }
         ensures out_kept { result < FIRST_REPLY → KeepsOut lets.old lets.new count.old count.new }
-        ensures no_memory { OnTable (AllocatesNothing key.now (λ r. step r call.now.pass call.now.call))
-            self.old.slot.held → result ≢ MEMORY }
+        ensures no_memory { OnTable (AllocatesNothing key.now (C.act call.now)) self.old.slot.held → result ≢ MEMORY }
     {
         let Some(mut table) = self.take(alloc) else {
             return CLOSED;

@@ -3,19 +3,18 @@
 ghost use Rattle.std.specs.Prelude.{◌≡◌, ◌≢◌, ◌≤◌, ◌<◌, ◌++◌, [], IfOk, OnErr, IsOk, length, map, drop};
 ghost use Rattle.std.specs.FinMap as finmap;
 ghost use Rattle.lt_plain.specs.Rules.{TakesNoMemory};
-ghost use Rattle.lt_plain.specs.Step.{look, step};
+ghost use Rattle.lt_plain.specs.Step.{look};
 ghost use Rattle.lt_plain.specs.Table.{record_at};
 ghost use Rattle.lt_c.specs.Held.{new_table};
 ghost use Rattle.lt_c.specs.Shapes.{raw_let};
 ghost use Rattle.lt_c.specs.Steps.{StepsHeld, GivesLets, KeepsOut, MakesStep, AllocatesNothing, held_refusal};
 ghost use Rattle.lt_c.specs.Codes.{IsReplyUnless};
 
-use crate::calls::PassCall;
+use crate::calls::TableCall;
 use crate::codes::{FIRST_REPLY, LETS_LEFT, MEMORY, key_code, reply_code};
 use crate::shapes::{LtThrough, raw_let};
 use lt_ids::{Key, Through};
 use lt_lock::LinkedTable;
-use lt_plain::step::make;
 use lt_plain::{KeyState, KeyTable, Reply};
 use std::alloc::{AllocError, Global};
 use std::marker::Model;
@@ -65,16 +64,16 @@ impl HeldTable {
     }
 
     /// Makes the call at the key. All lets of the step are then left to give.
-    fn make(&mut self, key: &Key, call: &PassCall) -> Result<Reply, AllocError>
+    fn make<C: TableCall>(&mut self, key: &Key, call: &C) -> Result<Reply, AllocError>
         requires { self.old.lets ≡ [] }
-        ensures ok { IfOk result (StepsHeld self.old self.new key.now (λ r. step r call.now.pass call.now.call)) }
+        ensures ok { IfOk result (StepsHeld self.old self.new key.now (C.act call.now)) }
         ensures err { OnErr result (self.new ≡ self.old) }
         ensures no_memory { TakesNoMemory (record_at self.old.records key.now)
-            (step (record_at self.old.records key.now) call.now.pass call.now.call) → IsOk result }
+            (C.act call.now (record_at self.old.records key.now)) → IsOk result }
     {
         self.lets.clear();
         self.given = 0;
-        make(&mut self.table, key, call.pass, &call.call, &mut self.lets)
+        call.make(&mut self.table, key, &mut self.lets)
     }
 
     /// Gives as many of the lets that are left as fit into the array, and returns how many.
@@ -89,21 +88,20 @@ impl HeldTable {
     }
 
     /// Makes the call at the key with these bytes, and gives its lets.
-    pub fn step(
+    pub fn step<C: TableCall>(
         &mut self,
         alloc: Global,
         key: &[u8],
-        call: &PassCall,
+        call: &C,
         array: &mut [LtThrough],
         count: &mut usize,
     ) -> u32
         ensures refused { IsReplyUnless (held_refusal self.old key.now) result }
-        ensures stepped { FIRST_REPLY ≤ result → MakesStep key.now (λ r. step r call.now.pass call.now.call) result
+        ensures stepped { FIRST_REPLY ≤ result → MakesStep key.now (C.act call.now) result
             array.old array.new count.new self.old self.new }
         ensures table_kept { result < FIRST_REPLY → self.new ≡ self.old }
         ensures out_kept { result < FIRST_REPLY → KeepsOut array.old array.new count.old count.new }
-        ensures no_memory { AllocatesNothing key.now (λ r. step r call.now.pass call.now.call) self.old →
-            result ≢ MEMORY }
+        ensures no_memory { AllocatesNothing key.now (C.act call.now) self.old → result ≢ MEMORY }
     {
         if self.given < self.lets.len() {
             return LETS_LEFT;

@@ -3,20 +3,18 @@
 //! handle keeps those that do not fit, and refuses the next step until `lt_table_lets` has given them.
 ghost use Rattle.std.specs.Prelude.{◌≡◌, ◌≢◌, ◌≤◌, ◌<◌, Some, None, IsSome, IsNone};
 ghost use Rattle.lt_plain.specs.Rules.{acquire, update, finish, leave};
-ghost use Rattle.lt_plain.specs.Step.{step};
-ghost use Rattle.lt_c.specs.Calls.{requested_visit, visit_fault};
+ghost use Rattle.lt_c.specs.Calls.{visit_act};
 ghost use Rattle.lt_c.specs.Codes.{IsReplyUnless};
 ghost use Rattle.lt_c.specs.Held.{new_table};
 ghost use Rattle.lt_c.specs.Shapes.{txn_time};
 ghost use Rattle.lt_c.specs.Steps.{step_refusal, txn_refusal, visit_refusal, OnTable, OnHandle, MakesStep, AllocatesNothing, GivesLets, KeepsOut};
 
-use crate::calls::{unnamed, visit_of};
+use crate::calls::{AcquireCall, FinishCall, LeaveCall, UpdateCall, visit_of};
 use crate::codes::{BAD_TXN, CLOSED, DONE, FIRST_REPLY, MEMORY, OPEN_ALREADY};
 use crate::handle::TableHandle;
 use crate::held::HeldTable;
 use crate::shapes::{LtRequest, LtThrough, LtTxn, txn_time};
 use lt_ids::TxnId;
-use lt_plain::Call;
 use std::alloc::Global;
 
 /// Opens a table without keys.
@@ -64,12 +62,11 @@ pub extern "C" fn lt_table_visit(
     count: &mut usize,
 ) -> u32
     ensures refused { IsReplyUnless (visit_refusal request.now handle.old.slot.held key.now) result }
-    ensures stepped { FIRST_REPLY ≤ result → OnHandle
-        (MakesStep key.now (λ r. step r request.now.pass (requested_visit request.now)) result
-        lets.old lets.new count.new) handle.old.slot.held handle.new.slot.held }
+    ensures stepped { FIRST_REPLY ≤ result → OnHandle (MakesStep key.now (visit_act request.now)
+        result lets.old lets.new count.new) handle.old.slot.held handle.new.slot.held }
     ensures table_kept { result < FIRST_REPLY → handle.new.slot.held ≡ handle.old.slot.held }
     ensures out_kept { result < FIRST_REPLY → KeepsOut lets.old lets.new count.old count.new }
-    ensures no_memory { OnTable (AllocatesNothing key.now (λ r. step r request.now.pass (requested_visit request.now)))
+    ensures no_memory { OnTable (AllocatesNothing key.now (visit_act request.now))
         handle.old.slot.held → result ≢ MEMORY }
 {
     match visit_of(request) {
@@ -100,7 +97,7 @@ pub extern "C" fn lt_table_acquire(
         return BAD_TXN;
     };
     let ts = txn_time(by);
-    let call = unnamed(Call::Acquire { txn, ts });
+    let call = AcquireCall { txn, ts };
     handle.step(alloc, key, &call, lets, count)
 }
 
@@ -126,7 +123,7 @@ pub extern "C" fn lt_table_update(
         return BAD_TXN;
     };
     let ts = txn_time(by);
-    let call = unnamed(Call::Update { txn, ts });
+    let call = UpdateCall { txn, ts };
     handle.step(alloc, key, &call, lets, count)
 }
 
@@ -151,7 +148,7 @@ pub extern "C" fn lt_table_finish(
     let Some(txn) = TxnId::new(txn) else {
         return BAD_TXN;
     };
-    let call = unnamed(Call::Finish { txn });
+    let call = FinishCall { txn };
     handle.step(alloc, key, &call, lets, count)
 }
 
@@ -173,7 +170,7 @@ pub extern "C" fn lt_table_leave(
     ensures no_memory { OnTable (AllocatesNothing key.now (λ r. leave r number))
         handle.old.slot.held → result ≢ MEMORY }
 {
-    let call = unnamed(Call::Leave { number });
+    let call = LeaveCall { number };
     handle.step(alloc, key, &call, lets, count)
 }
 
