@@ -57,9 +57,13 @@ private:
     friend class LockTable;
 
     bool wait_and_lock(Shard &shard, const std::string &key);
-    bool sleep_at(const std::string &key);
+    bool wait_at(const std::string &key);
+    bool is_let() const;
+    bool poll() const;
+    bool sleep();
     bool must_give_way(std::unique_lock<std::mutex> &hold);
     void wake(const lt_through &let);
+    void make_search();
     std::optional<std::string> key_of_wait(uint64_t number);
 
     LockTable &table_;
@@ -68,11 +72,13 @@ private:
     std::vector<std::string> held_;
     WaitFigures figures_;
 
-    std::mutex mutex_; /* protects what stands below */
+    std::atomic<uint64_t> last_let_{0}; /* the wait that ended last */
+    std::atomic<uint64_t> waiting_{0};  /* the transaction that waits, or 0 */
+
+    std::mutex mutex_; /* protects what stands below, and is held when a let is stored */
     std::condition_variable woken_;
-    lt_through last_let_ = {};
-    uint64_t waiting_ = 0; /* the transaction that waits */
-    std::optional<std::string> waits_at_;
+    bool must_search_ = false; /* another session found a deadlock */
+    std::string waits_at_;
 };
 
 class LockTable {
@@ -91,8 +97,10 @@ private:
 
     Shard &shard_of(const std::string &key);
     void wake(const Lets &lets);
+    Session *waiting_session(uint64_t number);
     uint64_t blocker_of(uint64_t number);
-    bool is_youngest_of_deadlock(uint64_t number);
+    uint64_t youngest_of_deadlock(uint64_t number);
+    void make_search(uint64_t number);
 
     std::deque<Shard> shards_;
     std::deque<Session> sessions_;
