@@ -36,7 +36,7 @@ fn look(table: &HeldTable, alloc: Global, key: &[u8], number: u64, txn: &mut u64
 }
 
 /// A copy of the record of the key with these bytes, or the code of what went wrong.
-fn state(table: &HeldTable, alloc: Global, key: &[u8]) -> Result<KeyState, u32>
+fn copied_state(table: &HeldTable, alloc: Global, key: &[u8]) -> Result<KeyState, u32>
     ensures state { IfOk result (λ state. state ≡ record_at table.now.records key.now) }
     ensures refused { IfErr result (λ code. IsDoneUnless (bytes_refusal key.now) code × (code ≢ DONE)) }
     ensures sound { OnOk result (bytes_refusal key.now ≡ None) }
@@ -45,6 +45,22 @@ fn state(table: &HeldTable, alloc: Global, key: &[u8]) -> Result<KeyState, u32>
         Ok(key) => table.state(alloc, &key).map_err(|_| MEMORY),
         Err(error) => Err(key_code(&error)),
     }
+}
+
+/// The same of the table that a handle holds.
+fn state(alloc: Global, handle: &mut TableHandle, key: &[u8]) -> Result<KeyState, u32>
+    ensures state { IfOk result (λ state. OnTable (λ h. state ≡ record_at h.records key.now) handle.old.slot.held) }
+    ensures refused { IfErr result (λ code.
+        IsDoneUnless (look_refusal handle.old.slot.held key.now) code × (code ≢ DONE)) }
+    ensures sound { OnOk result (look_refusal handle.old.slot.held key.now ≡ None) }
+    ensures table_kept { handle.new.slot.held ≡ handle.old.slot.held }
+{
+    let Some(table) = handle.take(alloc) else {
+        return Err(CLOSED);
+    };
+    let found = copied_state(&table, alloc, key);
+    handle.put(table);
+    found
 }
 
 /// The answer to a look by the request with this number. `txn` is set to the transaction that the answer names, or
@@ -84,12 +100,7 @@ pub extern "C" fn lt_table_key(
     ensures out_kept { result ≢ DONE → out.new ≡ out.old }
     ensures table_kept { handle.new.slot.held ≡ handle.old.slot.held }
 {
-    let Some(table) = handle.take(alloc) else {
-        return CLOSED;
-    };
-    let found = state(&table, alloc, key);
-    handle.put(table);
-    match found {
+    match state(alloc, handle, key) {
         Ok(state) => {
             *out = raw_key(&state);
             DONE
@@ -126,12 +137,7 @@ pub extern "C" fn lt_table_writer(
     ensures out_kept { result ≢ DONE → out.new ≡ out.old }
     ensures table_kept { handle.new.slot.held ≡ handle.old.slot.held }
 {
-    let Some(table) = handle.take(alloc) else {
-        return CLOSED;
-    };
-    let found = state(&table, alloc, key);
-    handle.put(table);
-    match found {
+    match state(alloc, handle, key) {
         Ok(state) => write_found(writer_in(&state, index), out),
         Err(code) => code,
     }
@@ -161,12 +167,7 @@ pub extern "C" fn lt_table_reader(
     ensures out_kept { result ≢ DONE → out.new ≡ out.old }
     ensures table_kept { handle.new.slot.held ≡ handle.old.slot.held }
 {
-    let Some(table) = handle.take(alloc) else {
-        return CLOSED;
-    };
-    let found = state(&table, alloc, key);
-    handle.put(table);
-    match found {
+    match state(alloc, handle, key) {
         Ok(state) => write_found(reader_in(&state, index), out),
         Err(code) => code,
     }
