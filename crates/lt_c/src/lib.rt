@@ -20,8 +20,8 @@
 //! with `rattle_`.
 //!
 //! Read next: `steps.rt`, `looks.rt`, `check.rt` and `shard.rt` have the exports, and `codes.rt` has what they answer.
-//! `handle.rt` and `slot.rt` have the handle, and `held.rt` what an open one holds. In `specs/`, `Steps` and `Looks`
-//! define what the contracts of the exports say.
+//! `handle.rt` and `slot.rt` have the handle, `held.rt` what an open one holds, and `calls.rt` the calls that a step can
+//! make. In `specs/`, `Steps` and `Looks` define what the contracts of the exports say.
 #![tactic(auto)]
 
 mod calls;
