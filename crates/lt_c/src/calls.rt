@@ -14,7 +14,7 @@ use lt_plain::{KeyTable, Reply};
 use std::alloc::AllocError;
 
 /// A call of the rules that is a step of its key.
-pub trait TableCall {
+pub trait StepCall {
     ghost use Rattle.lt_plain.specs.Rules.{Record, Outcome};
 
     /// What the call does to the record of its key.
@@ -43,7 +43,7 @@ pub struct VisitCall {
     pub ghost wait_in_range: { IsWaitNumber wait },
 }
 
-impl TableCall for VisitCall {
+impl StepCall for VisitCall {
     ghost act = { λ c. visit_of c.request c.wait c.access };
 
     fn make(
@@ -63,7 +63,7 @@ pub struct AcquireCall {
     pub ts: Timestamp,
 }
 
-impl TableCall for AcquireCall {
+impl StepCall for AcquireCall {
     ghost use Rattle.lt_plain.specs.Rules.{acquire};
 
     ghost act = { λ c r. acquire r c.txn c.ts };
@@ -85,7 +85,7 @@ pub struct UpdateCall {
     pub ts: Timestamp,
 }
 
-impl TableCall for UpdateCall {
+impl StepCall for UpdateCall {
     ghost use Rattle.lt_plain.specs.Rules.{update};
 
     ghost act = { λ c r. update r c.txn c.ts };
@@ -106,7 +106,7 @@ pub struct FinishCall {
     pub txn: TxnId,
 }
 
-impl TableCall for FinishCall {
+impl StepCall for FinishCall {
     ghost use Rattle.lt_plain.specs.Rules.{finish};
 
     ghost act = { λ c r. finish r c.txn };
@@ -127,7 +127,7 @@ pub struct LeaveCall {
     pub number: u64,
 }
 
-impl TableCall for LeaveCall {
+impl StepCall for LeaveCall {
     ghost use Rattle.lt_plain.specs.Rules.{leave};
 
     ghost act = { λ c r. leave r c.number };

@@ -4,7 +4,7 @@ ghost use Rattle.std.specs.Prelude.{◌≡◌, ◌≢◌, ◌≤◌, ◌<◌, So
 ghost use Rattle.lt_c.specs.Steps.{step_refusal, OnHandle, OnTable, MakesStep, AllocatesNothing, KeepsOut};
 ghost use Rattle.lt_c.specs.Codes.{IsReplyUnless};
 
-use crate::calls::TableCall;
+use crate::calls::StepCall;
 use crate::codes::{CLOSED, FIRST_REPLY, MEMORY};
 use crate::held::HeldTable;
 use crate::shapes::LtThrough;
@@ -63,7 +63,7 @@ impl TableHandle {
     }
 
     /// Makes the call at the key with these bytes, and gives its lets.
-    pub fn step<C: TableCall>(
+    pub fn step<C: StepCall>(
         &mut self,
         alloc: Global,
         key: &[u8],

@@ -10,7 +10,7 @@ ghost use Rattle.lt_c.specs.Shapes.{raw_let};
 ghost use Rattle.lt_c.specs.Steps.{StepsHeld, GivesLets, KeepsOut, MakesStep, AllocatesNothing, held_refusal};
 ghost use Rattle.lt_c.specs.Codes.{IsReplyUnless};
 
-use crate::calls::TableCall;
+use crate::calls::StepCall;
 use crate::codes::{FIRST_REPLY, LETS_LEFT, MEMORY, key_code, reply_code};
 use crate::shapes::{LtThrough, raw_let};
 use lt_ids::{Key, Through};
@@ -64,7 +64,7 @@ impl HeldTable {
     }
 
     /// Makes the call at the key. All lets of the step are then left to give.
-    fn make<C: TableCall>(&mut self, key: &Key, call: &C) -> Result<Reply, AllocError>
+    fn make<C: StepCall>(&mut self, key: &Key, call: &C) -> Result<Reply, AllocError>
         requires { self.old.lets ≡ [] }
         ensures ok { IfOk result (StepsHeld self.old self.new key.now (C.act call.now)) }
         ensures err { OnErr result (self.new ≡ self.old) }
@@ -88,7 +88,7 @@ impl HeldTable {
     }
 
     /// Makes the call at the key with these bytes, and gives its lets.
-    pub fn step<C: TableCall>(
+    pub fn step<C: StepCall>(
         &mut self,
         alloc: Global,
         key: &[u8],
