@@ -1,7 +1,7 @@
 //! What is a key, and when does one allocate? [`Key`] is the public type; `Bytes` is its storage, which no
 //! contract outside this crate mentions. `specs/Key.antt` defines which byte strings are keys and the order of the
 //! faults.
-ghost use Rattle.std.specs.Prelude.{◌≡◌, ◌==◌, ◌≤◌, length, IfOk, IsOk, IfSome, IfNone, IsNone, All, IsTrue, false, not, position};
+ghost use Rattle.std.specs.Prelude.{◌≡◌, ◌==◌, ◌≤◌, length, take, IfOk, IsOk, IfSome, IfNone, IsNone, All, IsTrue, true, false, not, position};
 ghost use Rattle.std.specs.Ordering.{nat_cmp, as_partial_cmp};
 ghost use Rattle.std.specs.Cmp.{partial_order_from_own_ties};
 ghost use Rattle.std.specs.Cmp.Rules.{comparing};
@@ -149,11 +149,46 @@ impl Debug for Key {
     }
 }
 
+/// Whether a key can contain the first eight bytes. All of them are tested, at once and not one after the other.
+#[inline]
+fn are_eight_in_key(bytes: &[u8]) -> bool
+    requires { 8 ≤ length bytes.now }
+    ensures { result ≡ true → All (λ b. IsTrue (is_key_byte b)) (take 8 bytes.now) }
+{
+    let mut all = true;
+    for i in 0..8 {
+        all &= is_in_key(bytes[i]);
+    }
+    all
+}
+
+/// Whether a key can contain these bytes.
+fn are_in_key(bytes: &[u8]) -> bool
+    ensures { result ≡ true → All (λ b. IsTrue (is_key_byte b)) bytes.now }
+{
+    let mut tested = 0;
+    for i in 0..bytes.len() / 8 {
+        if !are_eight_in_key(&bytes[tested..]) {
+            return false;
+        }
+        tested += 8;
+    }
+    for j in tested..bytes.len() {
+        if !is_in_key(bytes[j]) {
+            return false;
+        }
+    }
+    true
+}
+
 /// The index of the first byte that a key cannot contain.
 fn bad_byte(bytes: &[u8]) -> Option<usize>
     ensures place { result ≡ position (λ b. not (is_key_byte b)) bytes.now }
     ensures none { IfNone result (All (λ b. IsTrue (is_key_byte b)) bytes.now) }
 {
+    if are_in_key(bytes) {
+        return None;
+    }
     bytes.iter().position(|b| !is_in_key(*b))
 }
 
