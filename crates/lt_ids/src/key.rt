@@ -105,6 +105,7 @@ impl Model for Key {
 impl Key {
     /// The key with these bytes, or the first fault in the order of [`IdError`]. If the bytes have no other fault,
     /// the call fails only when an allocation fails. Up to 22 bytes allocate nothing.
+    #[inline(always)]
     pub fn from_bytes(alloc: Global, bytes: &[u8]) -> Result<Key, IdError>
         ensures fault { IfSome (key_fault bytes.now) (λ fault. result ≡ Err fault) }
         ensures key { IfNone (key_fault bytes.now) (IsKeyUnlessMemory bytes.now result) }
