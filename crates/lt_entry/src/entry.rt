@@ -74,6 +74,7 @@ fn any_txn() -> TxnId {
 }
 
 /// The parts of a call.
+#[inline(always)]
 fn call_parts(call: &Call) -> CallParts
     ensures { call_of result.kind result.ticket result.txn result.ts result.access result.longest ≡ call.now }
 {
@@ -169,6 +170,7 @@ fn plain(kind: ReplyKind) -> ReplyParts
 }
 
 /// The parts of a reply.
+#[inline(always)]
 fn reply_parts(reply: Reply) -> ReplyParts
     ensures { reply_of result.kind result.txn result.held ≡ reply }
 {
@@ -237,6 +239,7 @@ impl Model for Entry {
 
 impl Entry {
     /// The step at this key by the pass with this number, 1 to 1024. The call allocates nothing.
+    #[inline(always)]
     pub fn new(key: Key, pass: u32, call: &Call, reply: Reply, lets: Vec<Through>) -> Self
         ensures { result ≡ record { key = key; pass = pass; call = call.now; reply = reply; lets = lets.items } }
     {

@@ -11,3 +11,4 @@ pub mod Tables
 pub mod Waits
 pub mod Visits
 pub mod Copies
+pub mod LoneLocks

@@ -27,10 +27,10 @@ use Rattle.lt_plain.specs.Rules.{Record, empty, is_empty, Outcome, unchanged, ta
 use Rattle.lt_plain.specs.Table.{record_at, with_record, AreSound, IsKept, IsStep}
 use Rattle.lt_plain.specs.Lawful.{IsLawful}
 use Rattle.lt_plain.proofs.Rising.{keys-from_entries}
-use Rattle.lt_plain.proofs.Maps.{order, same_records, same_or_apart, is_apart, others_dropped, sound_filled}
+use Rattle.lt_plain.proofs.Maps.{order, same_records, same_or_apart, is_apart, kept_record, others_dropped, sound_filled}
 use Rattle.lt_lock.specs.declared.row.Row.{Row}
 use Rattle.lt_lock.specs.Linked.{Rows, row_at, request_of, writer_of, no_stand, stand_at, stands_at, line, queue_at, record_of, records_of, HasQueues, IsUsed, AreLinked}
-use Rattle.lt_lock.specs.RowStepped.{KeepsOthers, IsRow, RowStepped, IsTable}
+use Rattle.lt_lock.specs.RowStepped.{KeepsOthers, IsRow, RowStepped, IsTable, IsEmptied, emptied_id}
 
 -- a lookup among mapped values finds the image of what it found before
 find_mapped : {V X : Type 0} (g : V → X) (k : List ℕ) (es : List (List ℕ × V)) → find order k (map (λ e. (e.0, g e.1)) es) ≡ option_map g (lookup (is_at (order k)) es)
@@ -230,6 +230,11 @@ pub either_way : {T E : Type 0} (r : Result T E) (P : T → Type 0) (Q Y : Type 
 either_way (Ok t) P Q Y f g ok err = f t ok
 either_way (Err e) P Q Y f g ok err = g err
 
+-- what holds at all holds after an error
+pub on_err : {T E : Type 0} (r : Result T E) (X : Type 0) → X → OnErr r X
+on_err (Ok t) X x = tt
+on_err (Err e) X x = x
+
 -- a step at a key without a row, if the act leaves an empty record unchanged
 pub nothing_stepped : (m : Maps) (rows rows' : Rows) (k : List ℕ) (act : Record → Outcome) (reply : Reply) (lets : List Through) → None ≡ row_at rows k → rows' ≡ rows → act empty ≡ unchanged empty reply → lets ≡ [] → IsStep (records_of m rows) k act reply lets (records_of m rows')
 nothing_stepped m rows rows' k act reply lets none same nothing no_lets =
@@ -273,6 +278,10 @@ module _ {E : Type 0} (old new : Maps) (rows rows' : Rows) (k : List ℕ) (r aft
           ok err;
     }
 
+-- The row was written back after a step of its own: the table made that step.
+pub stepped : (old new : Maps) (rows rows' : Rows) (k : List ℕ) (r after : Row) → IsTable old rows → (some : Some r ≡ row_at rows k) → tree.WritesThrough order (order k) rows after rows' → (act : Record → Outcome) (reply : Reply) (lets : List Through) → RowStepped old new after r.id (act (record_of old r)) reply lets → IsStep (records_of old rows) k act reply lets (records_of new rows')
+stepped old new rows rows' k r after table some w = went_step old new rows rows' k r after table.linked some (w.3 (subst IsSome some refl))
+
 map_same : {A B : Type 0} (f g : A → B) → ((a : A) → f a ≡ g a) → (xs : List A) → map f xs ≡ map g xs
 map_same f g same [] = refl
 map_same f g same (x ∷ xs) = ap (λ y. y ∷ map f xs) (same x) ∙ ap (λ l. g x ∷ l) (map_same f g same xs)
@@ -307,6 +316,17 @@ nothing_dropped m rows k none = rw (missing m rows k none) (same_records _ _ (λ
   | inl s ↦ ap (get (records_of m rows)) s.0 ∙ get_of m rows k ∙ ap (option_map (record_of m)) (sym none) ∙ sym (get-remove nat_list_cmp_total (records_of m rows) k q ∙ rw s.1 refl)
   | inr d ↦ sym (get-remove nat_list_cmp_total (records_of m rows) k q ∙ rw d.1 refl)
 ]))
+
+-- A row that a lookup finds is to be dropped exactly if it is empty.
+pub emptied_at : (m : Maps) (rows : Rows) (k : List ℕ) (r : Row) → Some r ≡ row_at rows k → IsEmptied m rows k (emptied_id m r)
+emptied_at m rows k r some = elim (is_empty (record_of m r)) as (λ b. is_empty (record_of m r) ≡ b → IsEmptied m rows k (cond b (Some r.id) None)) [
+  | true ↦ λ e. (r, some, refl, e)
+  | false ↦ λ e. kept_record (records_of m rows) k (rw (found m rows k r some) e)
+] refl
+
+-- the same, of a row that is written back
+pub emptied_after : (m : Maps) (rows rows' : Rows) (k : List ℕ) (r after : Row) → Some r ≡ row_at rows k → tree.WritesThrough order (order k) rows after rows' → IsEmptied m rows' k (emptied_id m after)
+emptied_after m rows rows' k r after some w = emptied_at m rows' k after (sym (w.3 (subst IsSome some refl)).1)
 
 -- The row at a key is dropped, with its queues.
 module _ (old new : Maps) (rows rows' : Rows) (k : List ℕ) (r : Row) (linked : AreLinked old rows) (some : Some r ≡ row_at rows k) (u : UpdatesBy order (order k) rows rows' None) (drops : DropsRecord old new r.id) where

@@ -1,3 +1,4 @@
 pub mod Linked
+pub mod Lone
 pub mod Found
 pub mod RowStepped

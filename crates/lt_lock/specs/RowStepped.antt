@@ -1,20 +1,20 @@
 -- The effect of a call on a row and its queues.
-use Rattle.std.specs.Prelude.{◌≡◌, ◌≢◌, ℕ, Bool, Some, None, List, [], ◌++◌, ◌&&◌, drop, filter, is_none, length, nat_eq, not, slice_get, suc}
+use Rattle.std.specs.Prelude.{◌≡◌, ◌≢◌, ℕ, Bool, true, Option, Some, None, List, [], ◌++◌, ◌&&◌, drop, filter, if◌then◌else◌, is_none, length, nat_eq, not, slice_get, suc}
 use Rattle.std.specs.List.{find}
 use Rattle.std.specs.Option.{option_map}
 use Rattle.lt_ids.specs.declared.ticket.Through.{Through}
 use Rattle.lt_plain.specs.declared.call.Reply.{Reply}
 use Rattle.lt_ids.specs.declared.request.Access.{Access}
 use Rattle.lt_plain.specs.declared.queued.QueuedRequest.{QueuedRequest}
-use Rattle.lt_plain.specs.Rules.{Record, Outcome, IsOutcome, TakesNoMemory, has_txn, is_of, leading, set_back, stop_reading}
+use Rattle.lt_plain.specs.Rules.{Record, Outcome, IsOutcome, TakesNoMemory, has_txn, is_empty, is_of, leading, set_back, stop_reading}
 use Rattle.lt_plain.specs.Visit.{pass, visit}
 use Rattle.lt_plain.specs.Lawful.{IsLawful}
 use Rattle.lt_links.specs.declared.ids.Queue.{Queue}
 use Rattle.lt_links.specs.Maps.{Maps, has_record}
 use Rattle.lt_links.specs.declared.stand.Stand.{Stand}
 use Rattle.lt_lock.specs.declared.row.Row.{Row}
-use Rattle.lt_plain.specs.Table.{AreSound, IsStep}
-use Rattle.lt_lock.specs.Linked.{Rows, line, record_of, records_of, request_of, HasQueues, AreLinked}
+use Rattle.lt_plain.specs.Table.{AreSound, IsStep, without_empty}
+use Rattle.lt_lock.specs.Linked.{Rows, line, record_of, records_of, request_of, row_at, HasQueues, AreLinked}
 
 -- The queues of other rows are as before.
 pub record KeepsOthers (old new : Maps) (id : ℕ) : Type 0 where
@@ -103,3 +103,13 @@ KeepsRows old new rows after lets = (records_of new after ≡ records_of old row
 pub record IsTable (m : Maps) (rows : Rows) : Type 0 where
   pub linked : AreLinked m rows
   pub records_sound : AreSound (records_of m rows)
+
+-- the row's queues, if the row's record is empty
+abbrev pub emptied_id : Maps → Row → Option ℕ
+emptied_id m r = if is_empty (record_of m r) then Some r.id else None
+
+-- The key's row is empty and has these queues, or there is no empty record at the key to drop.
+abbrev pub IsEmptied : Maps → Rows → List ℕ → Option ℕ → Type 0
+IsEmptied m rows key (Some id) =
+    (r : Row) × (Some r ≡ row_at rows key) × (r.id ≡ id) × (is_empty (record_of m r) ≡ true)
+IsEmptied m rows key None = records_of m rows ≡ without_empty (records_of m rows) key

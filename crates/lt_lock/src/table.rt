@@ -1,365 +1,303 @@
-//! How does the linked table keep all keys? [`LinkedTable`] has a row for each key that is held, reserved or
-//! waited for, over one set of links. A function `.._at` applies a call to the row of one key, if there is one.
-//! Read `row.rt` and `visit.rt` next, which have the calls on a row.
-ghost use Rattle.std.specs.Prelude.{◌≡◌, [], true, IfOk, OnErr, OnOk, IsOk};
-ghost use Rattle.std.specs.FinMap as map;
-ghost use Rattle.std.specs.BTreeMap.{keys};
-ghost use Rattle.std.specs.Cmp.Lexicographic.{slice_cmp};
-ghost use Rattle.std.specs.List.Sorted.{IsStrictlySortedBy};
-ghost use Rattle.std.specs.Ordering.{nat_cmp};
-ghost use Rattle.lt_ids.specs.Ids.{IsWaitNumber};
-ghost use Rattle.lt_plain.specs.declared.call.Reply.TheVariants.{Absent};
-ghost use Rattle.lt_plain.specs.Rules.{empty, acquire, update, finish, leave, take_lock};
+//! How does the linked table keep its locks? In one of two ways. While it has a single lock and nobody waits, it
+//! keeps a lone lock. Once a second key is locked or somebody has to wait, the lock gets a row, and the table keeps
+//! rows until the last of them is dropped. A function `.._with` applies a call to whichever of the two the table
+//! keeps. Read `lone.rt` and `row_table.rt` next, which have the two.
+ghost use Rattle.std.specs.Prelude.{◌≡◌, ◌∷◌, [], true, false, IfOk, IfSome, IfNone, OnOk, OnErr, IsOk, IsSome, None};
+ghost use Rattle.std.specs.FinMap as finmap;
+ghost use Rattle.lt_plain.specs.Rules.{acquire, update, finish, leave};
+ghost use Rattle.lt_plain.specs.declared.call.Reply.TheVariants.{Freed};
 ghost use Rattle.lt_plain.specs.Step.{look};
-ghost use Rattle.lt_plain.specs.Table.{queued_of, record_at, without_empty, UsesNoMemoryAt, AreSound};
-ghost use Rattle.lt_lock.specs.Linked.{records_of, request_of, IsNamed, AreLinked};
-ghost use Rattle.lt_lock.specs.RowStepped.{IsTable, KeepsRows, UpdatesRows, visit_by};
+ghost use Rattle.lt_plain.specs.Table.{Records, record_at, UsesNoMemoryAt};
+ghost use Rattle.lt_lock.specs.Lone.{held, with_lone, is_lone_at, is_lone_of, IsWithLone, StepsWithLone, KeepsWithLone};
 
-use crate::copy::state;
-use crate::row;
-use crate::row::Row;
-use crate::visit::visit;
+use crate::lone::{LoneLock, is_lone_of, passes_lone, raise, taken};
+use crate::row_table::RowTable;
 use lt_ids::{Access, Key, Request, Through, Timestamp, TxnId};
-use lt_links::{Links, Stand};
 use lt_plain::{Holder, KeyState, KeyTable, Reply};
 use std::alloc::{AllocError, Global};
-use std::collections::BTreeMap;
 use std::marker::Model;
 
-/// A lock table that keeps the queued requests of all keys in one [`Links`](lt_links::Links). In a contract, it is
-/// the map of its keys' records.
+/// A lock table that keeps the queued requests of all keys in one [`Links`](lt_links::Links), and a single lock
+/// that nobody waits for without a row. In a contract, it is the map of its keys' records.
 #[derive(Drop)]
 pub struct LinkedTable {
-    links: Links,
-    rows: BTreeMap<Key, Row>,
+    lone: Option<LoneLock>,
+    rows: RowTable,
 }
 
 impl Model for LinkedTable {
     ghost use Rattle.lt_plain.specs.Codes.{records_code};
     ghost use Rattle.lt_plain.specs.Table.{Records};
+    ghost use Rattle.lt_lock.specs.Lone.{with_lone, IsWithLone};
 
     ghost Value = { Records };
 
     ghost coded = { records_code };
 
-    ghost use Rattle.lt_lock.specs.Linked.{records_of};
-    ghost use Rattle.lt_lock.specs.RowStepped.{IsTable, KeepsRows, UpdatesRows, visit_by};
+    ghost view = { λ t. with_lone t.lone t.rows };
 
-    ghost view = { λ t. records_of t.links t.rows };
-
-    ghost invariant = { λ t. IsTable t.links t.rows };
+    ghost invariant = { λ t. IsWithLone t.lone t.rows };
 }
 
 impl LinkedTable {
     /// A table without keys. This call allocates nothing; later calls allocate from this allocator.
     pub fn new(alloc: Global) -> Self
-        ensures { result ≡ map.empty }
+        ensures { result ≡ finmap.empty }
     {
         LinkedTable {
-            links: Links::new(alloc),
-            rows: BTreeMap::new(alloc),
+            lone: None,
+            rows: RowTable::new(alloc),
         }
     }
 }
 
-type Rows = BTreeMap<Key, Row>;
-
-fn stand_of(request: &Request, wait: u32) -> Stand
-    requires { IsWaitNumber wait }
-    ensures request { request_of result ≡ queued_of request.now wait }
-    ensures active { result.active ≡ true }
-    ensures named { IsNamed result }
+/// Gives the lone lock a row, if there is one.
+fn add_row(
+    lone: &mut Option<LoneLock>,
+    rows: &mut RowTable,
+    lets: &mut Vec<Through>,
+) -> Result<(), AllocError>
+    requires with_lone { IsWithLone lone.old rows.old }
+    requires lets { lets.old.items ≡ [] }
+    ensures none { OnOk result (lone.new ≡ None) }
+    ensures with_lone { IsWithLone lone.new rows.new }
+    ensures same { with_lone lone.new rows.new ≡ with_lone lone.old rows.old }
+    ensures lets { lets.new.items ≡ [] }
+    ensures no_lock { lone.old ≡ None → IsOk result }
 {
-    Stand {
-        number: request.number,
-        txn: request.txn,
-        ts: request.ts,
-        pass: request.pass,
-        wait,
-        active: true,
-    }
-}
-
-/// Drops the row at the key if it is empty. Only a lock that comes free or a request that stops waiting can leave
-/// a row empty.
-fn drop_if_empty(links: &mut Links, rows: &mut Rows, key: &Key)
-    requires { AreLinked links.old rows.old }
-    ensures linked { AreLinked links.new rows.new }
-    ensures records { records_of links.new rows.new ≡ without_empty (records_of links.old rows.old) key.now }
-{
-    let Some(row) = rows.get(key) else {
-        return;
+    let Some(alone) = lone else {
+        return Ok(());
     };
-    if row::is_empty(links, row) {
-        let id = row.id;
-        rows.remove(key);
-        links.drop_record(id);
-    }
+    rows.acquire(&alone.key, alone.holder.txn, alone.holder.ts, lets)?;
+    *lone = None;
+    Ok(())
 }
 
-fn visit_at(
-    links: &mut Links,
-    rows: &mut Rows,
-    key: &Key,
-    stand: &Stand,
-    longest: u32,
-    access: Access,
-) -> Result<Reply, AllocError>
-    requires table { IsTable links.old rows.old }
-    requires active { stand.now.active ≡ true }
-    requires named { IsNamed stand.now }
-    ensures ok { IfOk result (UpdatesRows links.old links.new rows.old rows.new key.now
-        (visit_by stand.now longest access) []) }
-    ensures table { IsTable links.new rows.new }
-    ensures err { OnErr result (records_of links.new rows.new ≡ records_of links.old rows.old) }
-    ensures no_memory { UsesNoMemoryAt (records_of links.old) rows.old key.now
-        (visit_by stand.now longest access) → IsOk result }
+/// Whether the table has neither a lone lock nor a row.
+fn has_no_lock(lone: &Option<LoneLock>, rows: &RowTable) -> bool
+    ensures { result ≡ true → (lone.now ≡ None) × (rows.now ≡ finmap.empty) }
 {
-    let Some(row) = rows.get_mut(key) else {
-        return Ok(Reply::Passed);
-    };
-    visit(links, row, stand, longest, access)
+    lone.is_none() && rows.has_no_row()
 }
 
-/// [`visit_at`], without a search if no key has a row.
-fn visit_key(
-    links: &mut Links,
-    rows: &mut Rows,
-    key: &Key,
-    stand: &Stand,
-    longest: u32,
-    access: Access,
-) -> Result<Reply, AllocError>
-    requires table { IsTable links.old rows.old }
-    requires active { stand.now.active ≡ true }
-    requires named { IsNamed stand.now }
-    ensures ok { IfOk result (UpdatesRows links.old links.new rows.old rows.new key.now
-        (visit_by stand.now longest access) []) }
-    ensures table { IsTable links.new rows.new }
-    ensures err { OnErr result (records_of links.new rows.new ≡ records_of links.old rows.old) }
-    ensures no_memory { UsesNoMemoryAt (records_of links.old) rows.old key.now
-        (visit_by stand.now longest access) → IsOk result }
-{
-    if rows.is_empty() {
-        return Ok(Reply::Passed);
-    }
-    visit_at(links, rows, key, stand, longest, access)
-}
-
-fn update_at(
-    links: &mut Links,
-    rows: &mut Rows,
+/// Takes the first lock of a table.
+fn take_alone(
+    lone: &mut Option<LoneLock>,
     key: &Key,
     txn: TxnId,
     ts: Timestamp,
-    lets: &mut Vec<Through>,
 ) -> Result<Reply, AllocError>
-    requires table { IsTable links.old rows.old }
-    requires lets { lets.old.items ≡ [] }
-    ensures ok { IfOk result (UpdatesRows links.old links.new rows.old rows.new key.now
-        (λ r. update r txn ts) lets.new.items) }
-    ensures table { IsTable links.new rows.new }
-    ensures err { OnErr result (KeepsRows links.old links.new rows.old rows.new lets.new.items) }
-    ensures no_memory { UsesNoMemoryAt (records_of links.old) rows.old key.now (λ r. update r txn ts) → IsOk result }
+    requires { lone.old ≡ None }
+    ensures ok { IfOk result (StepsWithLone lone.old lone.new finmap.empty finmap.empty key.now
+        (λ r. acquire r txn ts) []) }
+    ensures err { OnErr result (lone.new ≡ None) }
 {
-    let Some(row) = rows.get_mut(key) else {
-        return Ok(Reply::Other);
-    };
-    row::update(links, row, txn, ts, lets)
-}
-
-fn finish_at(
-    links: &mut Links,
-    rows: &mut Rows,
-    key: &Key,
-    txn: TxnId,
-    lets: &mut Vec<Through>,
-) -> Result<Reply, AllocError>
-    requires table { IsTable links.old rows.old }
-    requires lets { lets.old.items ≡ [] }
-    ensures ok { IfOk result (UpdatesRows links.old links.new rows.old rows.new key.now
-        (λ r. finish r txn) lets.new.items) }
-    ensures linked { AreLinked links.new rows.new }
-    ensures err { OnErr result (KeepsRows links.old links.new rows.old rows.new lets.new.items) }
-    ensures no_memory { UsesNoMemoryAt (records_of links.old) rows.old key.now (λ r. finish r txn) → IsOk result }
-{
-    let Some(row) = rows.get_mut(key) else {
-        return Ok(Reply::Other);
-    };
-    row::finish(links, row, txn, lets)
-}
-
-fn leave_at(
-    links: &mut Links,
-    rows: &mut Rows,
-    key: &Key,
-    number: u64,
-    lets: &mut Vec<Through>,
-) -> Result<Reply, AllocError>
-    requires table { IsTable links.old rows.old }
-    requires lets { lets.old.items ≡ [] }
-    ensures ok { IfOk result (UpdatesRows links.old links.new rows.old rows.new key.now
-        (λ r. leave r number) lets.new.items) }
-    ensures linked { AreLinked links.new rows.new }
-    ensures absent { IfOk result (λ reply. reply ≡ Absent → AreSound (records_of links.new rows.new)) }
-    ensures err { OnErr result (KeepsRows links.old links.new rows.old rows.new lets.new.items) }
-    ensures no_memory { UsesNoMemoryAt (records_of links.old) rows.old key.now (λ r. leave r number) → IsOk result }
-{
-    let Some(row) = rows.get_mut(key) else {
-        return Ok(Reply::Absent);
-    };
-    row::leave(links, row, number, lets)
-}
-
-/// [`leave_at`], without a search if no key has a row.
-fn leave_key(
-    links: &mut Links,
-    rows: &mut Rows,
-    key: &Key,
-    number: u64,
-    lets: &mut Vec<Through>,
-) -> Result<Reply, AllocError>
-    requires table { IsTable links.old rows.old }
-    requires lets { lets.old.items ≡ [] }
-    ensures ok { IfOk result (UpdatesRows links.old links.new rows.old rows.new key.now
-        (λ r. leave r number) lets.new.items) }
-    ensures linked { AreLinked links.new rows.new }
-    ensures absent { IfOk result (λ reply. reply ≡ Absent → AreSound (records_of links.new rows.new)) }
-    ensures err { OnErr result (KeepsRows links.old links.new rows.old rows.new lets.new.items) }
-    ensures no_memory { UsesNoMemoryAt (records_of links.old) rows.old key.now (λ r. leave r number) → IsOk result }
-{
-    if rows.is_empty() {
-        return Ok(Reply::Absent);
-    }
-    leave_at(links, rows, key, number, lets)
-}
-
-fn look_at(links: &Links, rows: &Rows, key: &Key, number: u64) -> Reply
-    requires { IsTable links.now rows.now }
-    ensures { result ≡ look (record_at (records_of links.now rows.now) key.now) number }
-{
-    match rows.get(key) {
-        None => Reply::Nothing,
-        Some(row) => row::look(links, row, number),
-    }
-}
-
-fn state_at(links: &Links, rows: &Rows, alloc: Global, key: &Key) -> Result<KeyState, AllocError>
-    requires { IsTable links.now rows.now }
-    ensures { IfOk result (λ state. state ≡ record_at (records_of links.now rows.now) key.now) }
-{
-    match rows.get(key) {
-        None => Ok(KeyState::empty(alloc)),
-        Some(row) => state(links, alloc, row),
-    }
-}
-
-/// The keys that have a row, in byte order.
-fn all_keys(rows: &Rows, alloc: Global) -> Result<Vec<Key>, AllocError>
-    ensures keys { IfOk result (λ all. all.items ≡ keys rows.now) }
-    ensures rising { OnOk result (IsStrictlySortedBy (slice_cmp nat_cmp) (keys rows.now)) }
-{
-    let mut all = Vec::with_capacity(alloc, rows.len())?;
-    for key in rows.keys() {
-        all.push(key.copy()?)?;
-    }
-    Ok(all)
-}
-
-/// Takes the lock of a key that has no row.
-fn insert_held(
-    links: &mut Links,
-    rows: &mut Rows,
-    key: &Key,
-    holder: &Holder,
-) -> Result<Reply, AllocError>
-    requires table { IsTable links.old rows.old }
-    requires none { record_at (records_of links.old rows.old) key.now ≡ empty }
-    ensures ok { IfOk result (UpdatesRows links.old links.new rows.old rows.new key.now
-        (λ r. take_lock r holder.now) []) }
-    ensures linked { AreLinked links.new rows.new }
-    ensures err { OnErr result (records_of links.new rows.new ≡ records_of links.old rows.old) }
-{
-    let copy = key.copy()?;
-    let queues = links.add_record()?;
-    let row = Row {
-        id: queues,
-        holder: Some(*holder),
-        distinguished: None,
-    };
-    if let Err(refused) = rows.insert(copy, row) {
-        links.drop_record(queues);
-        return Err(refused.into());
-    }
+    *lone = Some(taken(key, txn, ts)?);
     Ok(Reply::Taken)
 }
 
-/// A transaction acquires a key that has no row.
-fn acquire_free(
-    links: &mut Links,
-    rows: &mut Rows,
-    key: &Key,
-    txn: TxnId,
-    ts: Timestamp,
-) -> Result<Reply, AllocError>
-    requires table { IsTable links.old rows.old }
-    requires none { record_at (records_of links.old rows.old) key.now ≡ empty }
-    ensures ok { IfOk result (UpdatesRows links.old links.new rows.old rows.new key.now (λ r. acquire r txn ts) []) }
-    ensures table { IsTable links.new rows.new }
-    ensures err { OnErr result (records_of links.new rows.new ≡ records_of links.old rows.old) }
-    ensures no_memory { UsesNoMemoryAt (records_of links.old) rows.old key.now (λ r. acquire r txn ts) → IsOk result }
+/// An acquire or an update at the key of the lone lock. `None` if the lone lock is not at this key.
+fn raise_at(lone: &mut Option<LoneLock>, key: &Key, txn: TxnId, ts: Timestamp) -> Option<Reply>
+    ensures acquired { IfSome result (λ reply. (records : Records) →
+        StepsWithLone lone.old lone.new records records key.now (λ r. acquire r txn ts) [] reply) }
+    ensures updated { IfSome result (λ reply. (records : Records) →
+        StepsWithLone lone.old lone.new records records key.now (λ r. update r txn ts) [] reply) }
+    ensures none { IfNone result ((is_lone_at lone.old key.now ≡ false) × (lone.new ≡ lone.old)) }
+    ensures some { IsSome lone.new → IsSome lone.old }
 {
-    insert_held(links, rows, key, &Holder { txn, ts })
-}
-
-fn acquire_at(
-    links: &mut Links,
-    rows: &mut Rows,
-    key: &Key,
-    txn: TxnId,
-    ts: Timestamp,
-    lets: &mut Vec<Through>,
-) -> Result<Reply, AllocError>
-    requires table { IsTable links.old rows.old }
-    requires lets { lets.old.items ≡ [] }
-    ensures ok { IfOk result (UpdatesRows links.old links.new rows.old rows.new key.now
-        (λ r. acquire r txn ts) lets.new.items) }
-    ensures table { IsTable links.new rows.new }
-    ensures err { OnErr result (KeepsRows links.old links.new rows.old rows.new lets.new.items) }
-    ensures no_memory { UsesNoMemoryAt (records_of links.old) rows.old key.now (λ r. acquire r txn ts) → IsOk result }
-{
-    let Some(row) = rows.get_mut(key) else {
-        return acquire_free(links, rows, key, txn, ts);
+    let Some(alone) = lone else {
+        return None;
     };
-    row::acquire(links, row, txn, ts, lets)
+    if alone.key != *key {
+        return None;
+    }
+    Some(raise(alone, txn, ts))
 }
 
-/// [`acquire_at`], without a search if no key has a row.
-fn acquire_key(
-    links: &mut Links,
-    rows: &mut Rows,
+/// A transaction acquires the key: as the lone lock, if the table has no lock, and in the rows otherwise.
+#[inline(always)]
+fn acquire_with(
+    lone: &mut Option<LoneLock>,
+    rows: &mut RowTable,
     key: &Key,
     txn: TxnId,
     ts: Timestamp,
     lets: &mut Vec<Through>,
 ) -> Result<Reply, AllocError>
-    requires table { IsTable links.old rows.old }
+    requires with_lone { IsWithLone lone.old rows.old }
     requires lets { lets.old.items ≡ [] }
-    ensures ok { IfOk result (UpdatesRows links.old links.new rows.old rows.new key.now
+    ensures ok { IfOk result (StepsWithLone lone.old lone.new rows.old rows.new key.now
         (λ r. acquire r txn ts) lets.new.items) }
-    ensures table { IsTable links.new rows.new }
-    ensures err { OnErr result (KeepsRows links.old links.new rows.old rows.new lets.new.items) }
-    ensures no_memory { UsesNoMemoryAt (records_of links.old) rows.old key.now (λ r. acquire r txn ts) → IsOk result }
+    ensures with_lone { IsWithLone lone.new rows.new }
+    ensures err { OnErr result (KeepsWithLone lone.old lone.new rows.old rows.new lets.new.items) }
+    ensures no_memory { UsesNoMemoryAt (with_lone lone.old) rows.old key.now (λ r. acquire r txn ts) → IsOk result }
 {
-    if rows.is_empty() {
-        return acquire_free(links, rows, key, txn, ts);
+    if let Some(reply) = raise_at(lone, key, txn, ts) {
+        return Ok(reply);
     }
-    acquire_at(links, rows, key, txn, ts, lets)
+    if has_no_lock(lone, rows) {
+        return take_alone(lone, key, txn, ts);
+    }
+    add_row(lone, rows, lets)?;
+    rows.acquire(key, txn, ts, lets)
+}
+
+/// The holder raises its timestamp, in the lone lock or in the rows.
+#[inline(always)]
+fn update_with(
+    lone: &mut Option<LoneLock>,
+    rows: &mut RowTable,
+    key: &Key,
+    txn: TxnId,
+    ts: Timestamp,
+    lets: &mut Vec<Through>,
+) -> Result<Reply, AllocError>
+    requires with_lone { IsWithLone lone.old rows.old }
+    requires lets { lets.old.items ≡ [] }
+    ensures ok { IfOk result (StepsWithLone lone.old lone.new rows.old rows.new key.now
+        (λ r. update r txn ts) lets.new.items) }
+    ensures with_lone { IsWithLone lone.new rows.new }
+    ensures err { OnErr result (KeepsWithLone lone.old lone.new rows.old rows.new lets.new.items) }
+    ensures no_memory { UsesNoMemoryAt (with_lone lone.old) rows.old key.now (λ r. update r txn ts) → IsOk result }
+{
+    if let Some(reply) = raise_at(lone, key, txn, ts) {
+        return Ok(reply);
+    }
+    if lone.is_some() {
+        return Ok(Reply::Other);
+    }
+    rows.update(key, txn, ts, lets)
+}
+
+/// Frees the lone lock, if the transaction has it at this key. Says whether it has.
+fn free_at(lone: &mut Option<LoneLock>, key: &Key, txn: TxnId) -> bool
+    ensures freed { result ≡ true → (records : Records) →
+        StepsWithLone lone.old lone.new records finmap.empty key.now (λ r. finish r txn) [] Freed }
+    ensures gone { result ≡ true → lone.new ≡ None }
+    ensures other { result ≡ false → (is_lone_of lone.old key.now txn ≡ false) × (lone.new ≡ lone.old) }
+    ensures some { IsSome lone.new → IsSome lone.old }
+{
+    if !is_lone_of(lone, key, txn) {
+        return false;
+    }
+    *lone = None;
+    true
+}
+
+/// The holder releases the lone lock, or a lock in the rows.
+#[inline(always)]
+fn finish_with(
+    lone: &mut Option<LoneLock>,
+    rows: &mut RowTable,
+    key: &Key,
+    txn: TxnId,
+    lets: &mut Vec<Through>,
+) -> Result<Reply, AllocError>
+    requires with_lone { IsWithLone lone.old rows.old }
+    requires lets { lets.old.items ≡ [] }
+    ensures ok { IfOk result (StepsWithLone lone.old lone.new rows.old rows.new key.now
+        (λ r. finish r txn) lets.new.items) }
+    ensures with_lone { IsWithLone lone.new rows.new }
+    ensures err { OnErr result (KeepsWithLone lone.old lone.new rows.old rows.new lets.new.items) }
+    ensures no_memory { UsesNoMemoryAt (with_lone lone.old) rows.old key.now (λ r. finish r txn) → IsOk result }
+{
+    if lone.is_none() {
+        return rows.finish(key, txn, lets);
+    }
+    if free_at(lone, key, txn) {
+        return Ok(Reply::Freed);
+    }
+    Ok(Reply::Other)
+}
+
+/// A request leaves the key. Nobody waits for a lone lock.
+#[inline(always)]
+fn leave_with(
+    lone: &Option<LoneLock>,
+    rows: &mut RowTable,
+    key: &Key,
+    number: u64,
+    lets: &mut Vec<Through>,
+) -> Result<Reply, AllocError>
+    requires with_lone { IsWithLone lone.now rows.old }
+    requires lets { lets.old.items ≡ [] }
+    ensures ok { IfOk result (StepsWithLone lone.now lone.now rows.old rows.new key.now
+        (λ r. leave r number) lets.new.items) }
+    ensures with_lone { IsWithLone lone.now rows.new }
+    ensures err { OnErr result (KeepsWithLone lone.now lone.now rows.old rows.new lets.new.items) }
+    ensures no_memory { UsesNoMemoryAt (with_lone lone.now) rows.old key.now (λ r. leave r number) → IsOk result }
+{
+    if lone.is_some() {
+        return Ok(Reply::Absent);
+    }
+    rows.leave(key, number, lets)
+}
+
+/// What the request with this number finds at the key. Nobody waits for a lone lock.
+#[inline(always)]
+fn look_with(lone: &Option<LoneLock>, rows: &RowTable, key: &Key, number: u64) -> Reply
+    requires { IsWithLone lone.now rows.now }
+    ensures { result ≡ look (record_at (with_lone lone.now rows.now) key.now) number }
+{
+    if lone.is_some() {
+        return Reply::Nothing;
+    }
+    rows.look(key, number)
+}
+
+/// The state of a key that this holder has locked, and for which nobody waits.
+fn held_state(alloc: Global, holder: &Holder) -> KeyState
+    ensures { result ≡ held holder.now }
+{
+    let mut state = KeyState::empty(alloc);
+    state.holder = Some(*holder);
+    state
+}
+
+/// A copy of the key's record.
+fn state_with(
+    lone: &Option<LoneLock>,
+    rows: &RowTable,
+    alloc: Global,
+    key: &Key,
+) -> Result<KeyState, AllocError>
+    requires { IsWithLone lone.now rows.now }
+    ensures { IfOk result (λ state. state ≡ record_at (with_lone lone.now rows.now) key.now) }
+{
+    match lone {
+        None => rows.state(alloc, key),
+        Some(alone) if alone.key == *key => Ok(held_state(alloc, &alone.holder)),
+        Some(_) => Ok(KeyState::empty(alloc)),
+    }
+}
+
+/// A list of one key.
+fn one_key(alloc: Global, key: &Key) -> Result<Vec<Key>, AllocError>
+    ensures { IfOk result (λ all. all.items ≡ key.now ∷ []) }
+{
+    let mut all = Vec::with_capacity(alloc, 1)?;
+    all.push(key.copy()?)?;
+    Ok(all)
+}
+
+/// The keys that have a record, in byte order.
+fn keys_with(
+    lone: &Option<LoneLock>,
+    rows: &RowTable,
+    alloc: Global,
+) -> Result<Vec<Key>, AllocError>
+    ensures { IfOk result (λ all. all.items ≡ finmap.keys (with_lone lone.now rows.now)) }
+{
+    match lone {
+        None => rows.keys(alloc),
+        Some(alone) => one_key(alloc, &alone.key),
+    }
 }
 
 impl KeyTable for LinkedTable {
     ghost records = { λ t. t };
 
+    #[inline(always)]
     fn visit(
         &mut self,
         key: &Key,
@@ -368,17 +306,14 @@ impl KeyTable for LinkedTable {
         wait: u32,
         lets: &mut Vec<Through>,
     ) -> Result<Reply, AllocError> {
-        let stand = stand_of(request, wait);
-        visit_key(
-            &mut self.links,
-            &mut self.rows,
-            key,
-            &stand,
-            request.longest,
-            access,
-        )
+        if passes_lone(&self.lone, key, request, access) {
+            return Ok(Reply::Passed);
+        }
+        add_row(&mut self.lone, &mut self.rows, lets)?;
+        self.rows.visit(key, request, access, wait, lets)
     }
 
+    #[inline(always)]
     fn acquire(
         &mut self,
         key: &Key,
@@ -386,9 +321,10 @@ impl KeyTable for LinkedTable {
         ts: Timestamp,
         lets: &mut Vec<Through>,
     ) -> Result<Reply, AllocError> {
-        acquire_key(&mut self.links, &mut self.rows, key, txn, ts, lets)
+        acquire_with(&mut self.lone, &mut self.rows, key, txn, ts, lets)
     }
 
+    #[inline(always)]
     fn update(
         &mut self,
         key: &Key,
@@ -396,42 +332,38 @@ impl KeyTable for LinkedTable {
         ts: Timestamp,
         lets: &mut Vec<Through>,
     ) -> Result<Reply, AllocError> {
-        update_at(&mut self.links, &mut self.rows, key, txn, ts, lets)
+        update_with(&mut self.lone, &mut self.rows, key, txn, ts, lets)
     }
 
+    #[inline(always)]
     fn finish(
         &mut self,
         key: &Key,
         txn: TxnId,
         lets: &mut Vec<Through>,
     ) -> Result<Reply, AllocError> {
-        let reply = finish_at(&mut self.links, &mut self.rows, key, txn, lets)?;
-        drop_if_empty(&mut self.links, &mut self.rows, key);
-        Ok(reply)
+        finish_with(&mut self.lone, &mut self.rows, key, txn, lets)
     }
 
+    #[inline(always)]
     fn leave(
         &mut self,
         key: &Key,
         number: u64,
         lets: &mut Vec<Through>,
     ) -> Result<Reply, AllocError> {
-        let reply = leave_key(&mut self.links, &mut self.rows, key, number, lets)?;
-        if reply != Reply::Absent {
-            drop_if_empty(&mut self.links, &mut self.rows, key);
-        }
-        Ok(reply)
+        leave_with(&self.lone, &mut self.rows, key, number, lets)
     }
 
     fn look(&self, key: &Key, number: u64) -> Reply {
-        look_at(&self.links, &self.rows, key, number)
+        look_with(&self.lone, &self.rows, key, number)
     }
 
     fn state(&self, alloc: Global, key: &Key) -> Result<KeyState, AllocError> {
-        state_at(&self.links, &self.rows, alloc, key)
+        state_with(&self.lone, &self.rows, alloc, key)
     }
 
     fn keys(&self, alloc: Global) -> Result<Vec<Key>, AllocError> {
-        all_keys(&self.rows, alloc)
+        keys_with(&self.lone, &self.rows, alloc)
     }
 }

@@ -9,8 +9,7 @@ use Rattle.lt_ids.specs.Ids.{is_below}
 use Rattle.lt_plain.specs.declared.queued.Holder.{Holder}
 use Rattle.lt_plain.specs.declared.queued.QueuedRequest.{QueuedRequest}
 use Rattle.lt_plain.specs.declared.queued.QueuedWriter.{QueuedWriter}
-use Rattle.lt_plain.specs.declared.call.Reply.TheVariants.{Absent}
-use Rattle.lt_plain.specs.Rules.{Record, is_empty, number_of, eligible, Outcome, acquire, acquire_from, update, update_from, leave, distinguished_of, stop_reading, is_reserved_by, is_waiting}
+use Rattle.lt_plain.specs.Rules.{Record, is_empty, number_of, eligible, Outcome, acquire, acquire_from, update, update_from, distinguished_of, stop_reading}
 use Rattle.lt_plain.specs.Visit.{visit, visit_lock}
 use Rattle.lt_plain.specs.Lawful.{IsLawful}
 use Rattle.lt_plain.proofs.Holders.{either, one_of_three, joined, displaced, lock_keeps}
@@ -77,8 +76,3 @@ updated (Some k) r txn ts e taken = either IsTaken (nat_eq k.txn txn) _ _ (eithe
 
 pub update_filled : (r : Record) (txn : ℕ) (ts : Timestamp) → IsLawful r → is_empty r ≡ false → is_empty (update r txn ts).after ≡ false
 update_filled r txn ts l filled = taken_is_filled (update r txn ts).after (updated r.holder r txn ts refl (filled_is_taken r l filled))
-
--- if the request had no queue entry and no reservation, the record is unchanged
-pub absent_stays : (r : Record) (n : ℕ) → (leave r n).reply ≡ Absent → (leave r n).after ≡ r
-absent_stays r n = either (λ o. o.reply ≡ Absent → o.after ≡ r) (is_reserved_by r.reservation n) _ _ (λ e. absurd cc)
-    (either (λ o. o.reply ≡ Absent → o.after ≡ r) (is_waiting r n) _ _ (λ e. absurd cc) (λ e. refl))

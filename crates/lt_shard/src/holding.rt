@@ -28,6 +28,7 @@ pub(crate) fn is_recorded(keeping: Keeping) -> bool
 }
 
 /// Allocates room for one more step and a copy of its key, if steps are recorded.
+#[inline(always)]
 pub(crate) fn make_room(
     recorded: bool,
     key: &Key,
@@ -46,6 +47,7 @@ pub(crate) fn make_room(
 }
 
 /// Stores one more step if there is a key for its entry. Otherwise counts it among those that are not held.
+#[inline(always)]
 pub(crate) fn keep(spare: Option<Key>, before: &mut u64, held: &mut Vec<Entry>, step: MadeStep<'_>)
     requires room { IsSome spare → vec_len held.old < vec_capacity held.old }
     requires few { before.old + 1 < 2 ^ 64 }

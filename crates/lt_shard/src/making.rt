@@ -25,6 +25,7 @@ pub(crate) struct MadeStep<'a> {
 }
 
 /// Makes the call at the table. Everything is allocated before the table changes.
+#[inline(always)]
 pub(crate) fn make_step<'a, T: KeyTable>(
     alloc: Global,
     table: &mut T,

@@ -34,6 +34,7 @@ impl EnterRoom {
     ghost use Rattle.std.specs.Prelude.{◌≡◌, ◌≢◌, ◌<◌, ◌↔◌, [], length, IfOk};
     ghost use Rattle.lt_table_core.specs.Keys.{IsKeyList};
 
+    #[inline(always)]
     fn new(alloc: Global, accesses: &[(Key, Access)]) -> Result<EnterRoom, EnterError>
         ensures keys { IfOk result (λ room. IsKeyList accesses.now room.keys.items) }
         ensures none { (result ≡ Err EnterError.NoKeys) ↔ (accesses.now ≡ []) }
@@ -52,6 +53,7 @@ impl<N: Name, T: KeyTable, W: Waker> Table<N, T, W> {
     /// The number is drawn last, so none is drawn if the accesses are refused or an allocation fails. `txn` is the
     /// request's transaction, or `None`. The request joins the writers of a key only if they are fewer than
     /// `longest`; 0 means no bound.
+    #[inline(always)]
     pub fn enter<R: Wait>(
         &self,
         rt: &R,

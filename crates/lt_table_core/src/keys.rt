@@ -104,7 +104,7 @@ fn add_all(list: &mut Vec<(Key, Access)>, keys: Vec<Key>, access: Access) -> Res
     Ok(())
 }
 
-/// The key list of three accesses or more.
+/// The key list, by a sort. It serves any number of accesses.
 fn many_keys(alloc: Global, accesses: &[(Key, Access)]) -> Result<Vec<(Key, Access)>, AllocError>
     ensures { IfOk result (λ list. IsKeyList accesses.now list.items) }
 {

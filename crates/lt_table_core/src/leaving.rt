@@ -45,6 +45,7 @@ impl Guard {
 }
 
 impl<N: Name, T: KeyTable, W: Waker> Table<N, T, W> {
+    #[inline(always)]
     fn leave_on<R: Wait>(&self, rt: &R, guard: &mut Guard) -> Result<(), StepError>
         requires pass { guard.old.pass.of ≡ N.of }
         requires leaving { guard.old.walk.progress.mode ≡ Mode.Leaving }
@@ -63,6 +64,7 @@ impl<N: Name, T: KeyTable, W: Waker> Table<N, T, W> {
 
     /// Gives up the request's queue entries and reservations, with one leave step for each key in the guard's
     /// order. A guard that is already leaving continues at the key whose leave was refused.
+    #[inline(always)]
     pub fn leave<R: Wait>(&self, rt: &R, mut guard: Guard) -> Result<Left, LeaveStopped>
         requires pass { guard.pass.of ≡ N.of }
         ensures leave { IsLeave guard result }

@@ -40,6 +40,7 @@ impl<N: Name, T: KeyTable, W: Waker> Table<N, T, W> {
         poll_on(&self.book, guard)
     }
 
+    #[inline(always)]
     fn visit_on<R: Wait>(&self, rt: &R, guard: &mut Guard) -> Result<Scan, ScanError>
         requires pass { guard.old.pass.of ≡ N.of }
         ensures scan { IsScan self.now.max_waits guard.old guard.new result }
@@ -63,6 +64,7 @@ impl<N: Name, T: KeyTable, W: Waker> Table<N, T, W> {
     /// first loads the pass's status word, before it takes any lock: it is refused with `StillWaiting` if the
     /// request was not let through, and otherwise proceeds to the next key. If a queue is too long for the request,
     /// the request returns to the start of its list, and a later scan begins again there.
+    #[inline(always)]
     pub fn scan<R: Wait>(&self, rt: &R, guard: &mut Guard) -> Result<Scan, ScanError>
         requires pass { guard.old.pass.of ≡ N.of }
         ensures scan { IsScan self.now.max_waits guard.old guard.new result }

@@ -66,6 +66,7 @@ impl<N: Name, T: KeyTable, W: Waker> Table<N, T, W> {
 
     /// Makes the call at the key under the lock of the key's shard. The type of a lock does not tell which shard it
     /// holds. If it is another one, which never happens in a table that was opened, the call locks again.
+    #[inline(always)]
     pub(crate) fn step<R: Wait>(
         &self,
         rt: &R,

@@ -1,18 +1,8 @@
-use Rattle.lt_plain.specs.Rules.{finish}
-use Rattle.lt_plain.specs.declared.call.Call.TheVariants.{Finish}
-use Rattle.lt_plain.proofs.Lawfulness.{step_keeps_lawful}
-use Rattle.lt_plain.proofs.Maps.{step_dropped, sound_dropped}
-use Rattle.lt_lock.specs.Linked.{records_of}
+use Rattle.lt_lock.proofs.LoneLocks.{sound_with}
 use Rattle.lt_lock.proofs.table.LinkedTableKeyTable.finish.Goals as goal
 
-pub invariant_of-self-2 : goal.invariant_of-self-2
-invariant_of-self-2 c = record {
-  linked = c.drop_if_empty.ensures.linked;
-  records_sound = sound_dropped (records_of c.self.inside.links c.self.inside.rows) (records_of c.finish_at.new.links c.finish_at.new.rows) (records_of c.drop_if_empty.new.links c.drop_if_empty.new.rows) c.args.key.now (λ r. finish r c.args.txn) c.in_ok-reply.reply c.finish_at.new.lets.items (λ r. step_keeps_lawful r 0 (Finish c.args.txn)) c.in_ok-reply.ensures.ok c.drop_if_empty.ensures.records c.self.invariant.records_sound;
-}
+pub returns-clause-ok : goal.returns-clause-ok
+returns-clause-ok c = rw (← c.self.view_is) c.finish_with.ensures.ok
 
 pub returns-clause-sound : goal.returns-clause-sound
-returns-clause-sound c = (invariant_of-self-2 c).records_sound
-
-pub returns-clause-ok : goal.returns-clause-ok
-returns-clause-ok c = rw (← c.self.view_is) (step_dropped (records_of c.self.inside.links c.self.inside.rows) (records_of c.finish_at.new.links c.finish_at.new.rows) (records_of c.drop_if_empty.new.links c.drop_if_empty.new.rows) c.args.key.now (λ r. finish r c.args.txn) c.in_ok-reply.reply c.finish_at.new.lets.items c.in_ok-reply.ensures.ok c.drop_if_empty.ensures.records)
+returns-clause-sound c = sound_with c.finish_with.new.lone c.finish_with.new.rows c.finish_with.ensures.with_lone

@@ -1,16 +1,25 @@
-use Rattle.std.proofs.Common.{[], ap}
-use Rattle.std.proofs.lemmas.Result.{IfOk-weaker}
-use Rattle.lt_plain.specs.Visit.{visit}
-use Rattle.lt_plain.specs.Table.{queued_of, record_at}
-use Rattle.lt_plain.proofs.Maps.{act_alike}
-use Rattle.lt_lock.specs.Linked.{records_of, request_of}
+use Rattle.std.proofs.Common.{◌≡◌, true, false, IsSome, sym, rules}
+use mathlib.Core.Bool.{true≢false}
+use Rattle.lt_plain.specs.Table.{queued_of}
+use Rattle.lt_lock.specs.Lone.{passes_lone}
+use Rattle.lt_lock.proofs.LoneLocks.{sound_with, pass_lone, wait_lone, some_unless}
 use Rattle.lt_lock.proofs.table.LinkedTableKeyTable.visit.Goals as goal
 
--- the queue entry is that of the request
-pub returns-clause-ok : goal.returns-clause-ok
-returns-clause-ok c =
-    let old = records_of c.self.inside.links c.self.inside.rows in
-    let new = records_of c.visit_key.new.links c.visit_key.new.rows in
-    rw (← c.self.view_is, c.requires.lets) (IfOk-weaker c.visit_key.result _ _
-    (λ reply is. act_alike old new c.args.key.now (λ r. visit r (request_of c.stand_of-stand.result) c.args.request.now.longest c.args.access) (λ r. visit r (queued_of c.args.request.now c.args.wait) c.args.request.now.longest c.args.access) reply [] is
-    (ap (λ q. visit (record_at old c.args.key.now) q c.args.request.now.longest c.args.access) c.stand_of-stand.ensures.request)) c.visit_key.ensures.ok)
+-- the visit passes
+pub returns-then-passes_lone-clause-ok : goal.returns-then-passes_lone-clause-ok
+returns-then-passes_lone-clause-ok c =
+    let passes : passes_lone c.self.inside.lone c.args.key.now c.args.request.now.txn c.args.request.now.ts c.args.access ≡ true = search rules in
+    rw (← c.self.view_is, c.requires.lets) (pass_lone c.self.inside.lone c.self.inside.rows c.args.key.now (queued_of c.args.request.now c.args.wait) c.args.request.now.longest c.args.access passes)
+
+pub returns-then-passes_lone-clause-sound : goal.returns-then-passes_lone-clause-sound
+returns-then-passes_lone-clause-sound c = rw (← c.self.view_is) (sound_with c.self.inside.lone c.self.inside.rows c.self.invariant)
+
+-- the lone lock gets no row
+pub returns-in_err-add_row-clause-sound : goal.returns-in_err-add_row-clause-sound
+returns-in_err-add_row-clause-sound c = sound_with c.add_row.new.lone c.add_row.new.rows c.in_err-add_row.ensures.with_lone
+
+pub returns-in_err-add_row-clause-no_memory : goal.returns-in_err-add_row-clause-no_memory
+returns-in_err-add_row-clause-no_memory c t =
+    let waits : passes_lone c.self.inside.lone c.args.key.now c.args.request.now.txn c.args.request.now.ts c.args.access ≡ false = search rules in
+    let some : IsSome c.self.inside.lone = some_unless c.self.inside.lone (λ none. true≢false (sym (c.in_err-add_row.ensures.no_lock none))) in
+    absurd (wait_lone c.self.inside.lone c.self.inside.rows c.args.key.now (queued_of c.args.request.now c.args.wait) c.args.request.now.longest c.args.access some waits (rw (← c.self.view_is) at t))

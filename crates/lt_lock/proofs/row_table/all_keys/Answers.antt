@@ -1,0 +1,8 @@
+use Rattle.std.proofs.Common.{◌++◌, ◌∙◌, ap, sym, append-nil}
+use Rattle.lt_lock.proofs.row_table.all_keys.Goals as goal
+
+pub returns-clause-keys : goal.returns-clause-keys
+returns-clause-keys c =
+    sym (append-nil c.loop-key.all.items)
+    ∙ ap (λ rest. c.loop-key.all.items ++ rest) (sym c.in-None.ensures.steps.0)
+    ∙ c.loop-key.invariant
