@@ -1,8 +1,8 @@
 //! How is a table of calls played at one key? [`expect`] makes them in order and compares each reply and its lets.
 //!
-//! A row ([`ExpectedStep`]) is a call, its reply, and the waits that it lets through. [`make`] makes a single
-//! call, also for the random tests of [`crate::linked`]: a call that runs out of memory must change nothing, and
-//! is made a second time. [`crate::worked`] has the rows.
+//! A row ([`ExpectedStep`]) is a call, its reply, and the waits that it lets through, in plain numbers. [`make`]
+//! makes a single call, also for the random tests of [`crate::linked`]: a call that runs out of memory must change
+//! nothing, and is made a second time. [`crate::worked`] has the rows.
 ghost use Rattle.std.specs.Prelude.{◌<◌, ◌≤◌};
 
 use lt_ids::{Access, IdError, Key, Through, Ticket, Timestamp, TxnId};
@@ -27,39 +27,6 @@ pub fn at(wall: u64) -> Timestamp {
 
 pub fn ticket(number: u64, wait: u32) -> Result<Ticket, Fail> {
     Ok(Ticket::new(number, wait).ok_or("a ticket")?)
-}
-
-/// A visit of a request, without a bound, whose transaction has the request's number.
-pub fn visit(number: u64, wall: u64, access: Access, wait: u32) -> Result<Call, Fail> {
-    Ok(Call::Visit {
-        ticket: ticket(number, wait)?,
-        txn: Some(txn(number)?),
-        ts: at(wall),
-        access,
-        longest: 0,
-    })
-}
-
-/// A visit to write, at time 1 and without a bound, of a request without a transaction.
-pub fn visit_alone(number: u64, wait: u32) -> Result<Call, Fail> {
-    Ok(Call::Visit {
-        ticket: ticket(number, wait)?,
-        txn: None,
-        ts: at(1),
-        access: Access::Write,
-        longest: 0,
-    })
-}
-
-/// A visit to write, at time 1, of a request with the bound `longest`.
-pub fn visit_within(number: u64, wait: u32, longest: u32) -> Result<Call, Fail> {
-    Ok(Call::Visit {
-        ticket: ticket(number, wait)?,
-        txn: Some(txn(number)?),
-        ts: at(1),
-        access: Access::Write,
-        longest,
-    })
 }
 
 /// The key of these bytes. An allocation that fails is tried a second time.
@@ -117,24 +84,155 @@ pub fn make<T: KeyTable>(
     }
 }
 
-/// The waits that a call lets through, in order, each by its request number and wait number. No call of an example
-/// lets more than two through.
-pub type ExpectedLets = [Option<(u64, u32)>; 2];
-
-pub const NOBODY: ExpectedLets = [None, None];
-
-/// This wait of this request is let through.
-pub fn one(number: u64, wait: u32) -> ExpectedLets {
-    [Some((number, wait)), None]
+/// The waits that a call lets through, in order. No call of an example lets more than two through.
+#[derive(Clone, Copy)]
+pub enum ExpectedLets {
+    Nobody,
+    /// This wait of this request: its number and its wait number.
+    One(u64, u32),
+    /// The first wait of each of these requests.
+    Two(u64, u64),
 }
 
-/// The first wait of each of these requests is let through, in this order.
-pub fn two(first: u64, second: u64) -> ExpectedLets {
-    [Some((first, 1)), Some((second, 1))]
+pub const NOBODY: ExpectedLets = ExpectedLets::Nobody;
+
+/// A call of a row, in plain numbers. [`call_of`] makes it.
+#[derive(Clone, Copy)]
+pub enum ExpectedCall {
+    /// A transaction and a time.
+    Acquire(u64, u64),
+    /// A transaction and a time.
+    Update(u64, u64),
+    /// A transaction.
+    Finish(u64),
+    /// A request's number.
+    Leave(u64),
+    /// A request's number.
+    Look(u64),
+    /// A visit, without a bound, of a request whose transaction has the request's number: the number, the time, the
+    /// access and the wait number.
+    Visit(u64, u64, Access, u32),
+    /// A visit to write, at time 1 and without a bound, of a request without a transaction: its number and the wait
+    /// number.
+    Alone(u64, u32),
+    /// A visit to write, at time 1, of a request with a bound: its number, the wait number and the bound.
+    Within(u64, u32, u32),
+}
+
+/// The reply of a row.
+#[derive(Clone, Copy)]
+pub enum ExpectedReply {
+    Is(Reply),
+    /// The request waits for this transaction, whose lock is held if the flag is true: [`Reply::WaitFor`].
+    For(u64, bool),
+    /// The request waits for this transaction as the first: [`Reply::WaitFirst`].
+    First(u64, bool),
 }
 
 /// A row: a call, its reply, and the waits that it lets through.
-pub type ExpectedStep = (Call, Reply, ExpectedLets);
+pub type ExpectedStep = (ExpectedCall, ExpectedReply, ExpectedLets);
+
+fn visit(number: u64, wall: u64, access: Access, wait: u32) -> Result<Call, Fail> {
+    Ok(Call::Visit {
+        ticket: ticket(number, wait)?,
+        txn: Some(txn(number)?),
+        ts: at(wall),
+        access,
+        longest: 0,
+    })
+}
+
+fn visit_alone(number: u64, wait: u32) -> Result<Call, Fail> {
+    Ok(Call::Visit {
+        ticket: ticket(number, wait)?,
+        txn: None,
+        ts: at(1),
+        access: Access::Write,
+        longest: 0,
+    })
+}
+
+fn visit_within(number: u64, wait: u32, longest: u32) -> Result<Call, Fail> {
+    Ok(Call::Visit {
+        ticket: ticket(number, wait)?,
+        txn: Some(txn(number)?),
+        ts: at(1),
+        access: Access::Write,
+        longest,
+    })
+}
+
+/// The call of a row.
+fn call_of(row: ExpectedCall) -> Result<Call, Fail> {
+    Ok(match row {
+        ExpectedCall::Acquire(number, wall) => Call::Acquire {
+            txn: txn(number)?,
+            ts: at(wall),
+        },
+        ExpectedCall::Update(number, wall) => Call::Update {
+            txn: txn(number)?,
+            ts: at(wall),
+        },
+        ExpectedCall::Finish(number) => Call::Finish { txn: txn(number)? },
+        ExpectedCall::Leave(number) => Call::Leave { number },
+        ExpectedCall::Look(number) => Call::Look { number },
+        ExpectedCall::Visit(number, wall, access, wait) => visit(number, wall, access, wait)?,
+        ExpectedCall::Alone(number, wait) => visit_alone(number, wait)?,
+        ExpectedCall::Within(number, wait, longest) => visit_within(number, wait, longest)?,
+    })
+}
+
+/// The reply of a row.
+fn reply_of(row: ExpectedReply) -> Result<Reply, Fail> {
+    Ok(match row {
+        ExpectedReply::Is(reply) => reply,
+        ExpectedReply::For(number, is_held) => Reply::WaitFor(txn(number)?, is_held),
+        ExpectedReply::First(number, is_held) => Reply::WaitFirst(txn(number)?, is_held),
+    })
+}
+
+/// A wait that pass 3 is told of.
+fn through(number: u64, wait: u32) -> Result<Option<Through>, Fail> {
+    Ok(Some(Through {
+        pass: 3,
+        ticket: ticket(number, wait)?,
+    }))
+}
+
+/// The waits that a row lets through.
+fn lets_of(row: ExpectedLets) -> Result<[Option<Through>; 2], Fail> {
+    Ok(match row {
+        ExpectedLets::Nobody => [None, None],
+        ExpectedLets::One(number, wait) => [through(number, wait)?, None],
+        ExpectedLets::Two(first, second) => [through(first, 1)?, through(second, 1)?],
+    })
+}
+
+/// Makes the call of a row at the key, as pass 3, and fails unless it has the row's reply and lets.
+fn expect_step<T: KeyTable>(
+    rt: &impl Abort,
+    alloc: Global,
+    table: &mut T,
+    key: &Key,
+    step: &ExpectedStep,
+    refusals: &mut u64,
+) -> Result<(), Fail> {
+    let (call, reply, lets) = *step;
+    let call = call_of(call)?;
+    // Each call gets a new list of lets, so that fault injection reaches the allocation of each list.
+    let mut found = Vec::new(alloc);
+    let before = looks(table, key);
+    assert_eq!(rt;
+        make(rt, table, key, &before, 3, &call, &mut found, refusals)?,
+        reply_of(reply)?
+    );
+    assert_eq!(rt;
+        [found.get(0).copied(), found.get(1).copied()],
+        lets_of(lets)?
+    );
+    assert!(rt; found.len() <= 2);
+    Ok(())
+}
 
 /// Makes the calls of the rows at the key `a`, as pass 3 and in order, and fails unless each has its reply and its
 /// lets.
@@ -146,27 +244,8 @@ pub fn expect<T: KeyTable>(
 ) -> Result<(), Fail> {
     let a = key(alloc, b"a")?;
     let mut refusals = 0;
-    for (call, reply, through) in steps {
-        // Each call gets a new list of lets, so that fault injection reaches the allocation of each list.
-        let mut lets = Vec::new(alloc);
-        let before = looks(table, &a);
-        assert_eq!(rt;
-            make(rt, table, &a, &before, 3, call, &mut lets, &mut refusals)?,
-            *reply
-        );
-        let mut want = [None, None];
-        let mut found = [None, None];
-        for index in 0..2 {
-            found[index] = lets.get(index).copied();
-            if let Some((number, wait)) = through[index] {
-                want[index] = Some(Through {
-                    pass: 3,
-                    ticket: ticket(number, wait)?,
-                });
-            }
-        }
-        assert_eq!(rt; found, want);
-        assert!(rt; lets.len() <= 2);
+    for step in steps {
+        expect_step(rt, alloc, table, &a, step, &mut refusals)?;
     }
     Ok(())
 }

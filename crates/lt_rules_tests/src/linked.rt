@@ -8,8 +8,8 @@
 ghost use Rattle.std.specs.Prelude.{◌<◌, ◌≤◌};
 
 use crate::calls::{
-    ExpectedLets, ExpectedStep, FoundByLook, NOBODY, NUMBERS, at, expect, key, looks, make, one,
-    ticket, two, txn, visit, visit_alone, visit_within,
+    ExpectedCall, ExpectedLets, ExpectedReply, FoundByLook, NOBODY, NUMBERS, expect, key, looks,
+    make, ticket, txn,
 };
 use crate::sight::VisitAnswers;
 use lt_ids::{Access, Key, Through, Timestamp};
@@ -27,68 +27,124 @@ fn expect_the_example<T: KeyTable>(
     alloc: Global,
     table: &mut T,
 ) -> Result<(), Fail> {
-    let nine = txn(9)?;
-    let take = Call::Acquire {
-        txn: nine,
-        ts: at(10),
-    };
     let steps = [
-        (take, Reply::Taken, NOBODY),
-        (visit(1, 12, Access::Read, 1)?, Reply::MustWait, NOBODY),
+        (
+            ExpectedCall::Acquire(9, 10),
+            ExpectedReply::Is(Reply::Taken),
+            NOBODY,
+        ),
+        (
+            ExpectedCall::Visit(1, 12, Access::Read, 1),
+            ExpectedReply::Is(Reply::MustWait),
+            NOBODY,
+        ),
         // A second visit replaces the queue entry of the first. So the raise below lets the request through once,
         // with its second wait.
-        (visit(1, 12, Access::Read, 2)?, Reply::MustWait, NOBODY),
-        (take, Reply::Kept, NOBODY),
         (
-            Call::Update {
-                txn: nine,
-                ts: at(13),
-            },
-            Reply::Raised,
-            one(1, 2),
-        ),
-        (
-            Call::Update {
-                txn: txn(8)?,
-                ts: at(14),
-            },
-            Reply::Other,
+            ExpectedCall::Visit(1, 12, Access::Read, 2),
+            ExpectedReply::Is(Reply::MustWait),
             NOBODY,
         ),
-        (visit(2, 12, Access::Write, 1)?, Reply::MustWait, NOBODY),
+        (
+            ExpectedCall::Acquire(9, 10),
+            ExpectedReply::Is(Reply::Kept),
+            NOBODY,
+        ),
+        (
+            ExpectedCall::Update(9, 13),
+            ExpectedReply::Is(Reply::Raised),
+            ExpectedLets::One(1, 2),
+        ),
+        (
+            ExpectedCall::Update(8, 14),
+            ExpectedReply::Is(Reply::Other),
+            NOBODY,
+        ),
+        (
+            ExpectedCall::Visit(2, 12, Access::Write, 1),
+            ExpectedReply::Is(Reply::MustWait),
+            NOBODY,
+        ),
         // A read below the lock's timestamp passes, and the queue entry keeps its first wait.
-        (visit(2, 12, Access::Read, 2)?, Reply::Passed, NOBODY),
-        (visit(3, 20, Access::Write, 1)?, Reply::MustWait, NOBODY),
-        // A queued writer that now reads, and has to wait, keeps its position and gets the new wait number.
-        (visit(3, 20, Access::Read, 2)?, Reply::MustWait, NOBODY),
-        (Call::Leave { number: 1 }, Reply::Absent, NOBODY),
-        (Call::Finish { txn: txn(8)? }, Reply::Other, NOBODY),
-        (Call::Finish { txn: nine }, Reply::Freed, one(2, 1)),
         (
-            Call::Look { number: 3 },
-            Reply::WaitFirst(txn(2)?, false),
+            ExpectedCall::Visit(2, 12, Access::Read, 2),
+            ExpectedReply::Is(Reply::Passed),
             NOBODY,
         ),
-        (Call::Leave { number: 2 }, Reply::Left, one(3, 2)),
-        (Call::Look { number: 3 }, Reply::Reserved, NOBODY),
-        (Call::Leave { number: 3 }, Reply::Left, NOBODY),
-        (Call::Look { number: 3 }, Reply::Nothing, NOBODY),
-        (Call::Leave { number: 3 }, Reply::Absent, NOBODY),
+        (
+            ExpectedCall::Visit(3, 20, Access::Write, 1),
+            ExpectedReply::Is(Reply::MustWait),
+            NOBODY,
+        ),
+        // A queued writer that now reads, and has to wait, keeps its position and gets the new wait number.
+        (
+            ExpectedCall::Visit(3, 20, Access::Read, 2),
+            ExpectedReply::Is(Reply::MustWait),
+            NOBODY,
+        ),
+        (
+            ExpectedCall::Leave(1),
+            ExpectedReply::Is(Reply::Absent),
+            NOBODY,
+        ),
+        (
+            ExpectedCall::Finish(8),
+            ExpectedReply::Is(Reply::Other),
+            NOBODY,
+        ),
+        (
+            ExpectedCall::Finish(9),
+            ExpectedReply::Is(Reply::Freed),
+            ExpectedLets::One(2, 1),
+        ),
+        (
+            ExpectedCall::Look(3),
+            ExpectedReply::First(2, false),
+            NOBODY,
+        ),
+        (
+            ExpectedCall::Leave(2),
+            ExpectedReply::Is(Reply::Left),
+            ExpectedLets::One(3, 2),
+        ),
+        (
+            ExpectedCall::Look(3),
+            ExpectedReply::Is(Reply::Reserved),
+            NOBODY,
+        ),
+        (
+            ExpectedCall::Leave(3),
+            ExpectedReply::Is(Reply::Left),
+            NOBODY,
+        ),
+        (
+            ExpectedCall::Look(3),
+            ExpectedReply::Is(Reply::Nothing),
+            NOBODY,
+        ),
+        (
+            ExpectedCall::Leave(3),
+            ExpectedReply::Is(Reply::Absent),
+            NOBODY,
+        ),
         // The key has no record any more, so these calls find it as at the start.
-        (take, Reply::Taken, NOBODY),
-        (Call::Finish { txn: nine }, Reply::Freed, NOBODY),
-        (Call::Look { number: 3 }, Reply::Nothing, NOBODY),
+        (
+            ExpectedCall::Acquire(9, 10),
+            ExpectedReply::Is(Reply::Taken),
+            NOBODY,
+        ),
+        (
+            ExpectedCall::Finish(9),
+            ExpectedReply::Is(Reply::Freed),
+            NOBODY,
+        ),
+        (
+            ExpectedCall::Look(3),
+            ExpectedReply::Is(Reply::Nothing),
+            NOBODY,
+        ),
     ];
     expect(rt, alloc, table, &steps)
-}
-
-/// Transaction 9's acquire at time 10, and its finish.
-fn nine() -> Result<(Call, Call), Fail> {
-    let take = Call::Acquire {
-        txn: txn(9)?,
-        ts: at(10),
-    };
-    Ok((take, Call::Finish { txn: txn(9)? }))
 }
 
 /// Writers without a transaction, at a lock that comes free and at one that is reserved. The key ends without a
@@ -98,66 +154,172 @@ fn expect_no_transaction<T: KeyTable>(
     alloc: Global,
     table: &mut T,
 ) -> Result<(), Fail> {
-    let (take, finish) = nine()?;
-    let (second, first_behind) = (txn(2)?, Reply::WaitFirst(txn(2)?, false));
     let steps = [
-        (take, Reply::Taken, NOBODY),
-        (visit_alone(1, 1)?, Reply::MustWait, NOBODY),
-        (visit(2, 1, Access::Write, 1)?, Reply::MustWait, NOBODY),
-        (visit_alone(3, 1)?, Reply::MustWait, NOBODY),
+        (
+            ExpectedCall::Acquire(9, 10),
+            ExpectedReply::Is(Reply::Taken),
+            NOBODY,
+        ),
+        (
+            ExpectedCall::Alone(1, 1),
+            ExpectedReply::Is(Reply::MustWait),
+            NOBODY,
+        ),
+        (
+            ExpectedCall::Visit(2, 1, Access::Write, 1),
+            ExpectedReply::Is(Reply::MustWait),
+            NOBODY,
+        ),
+        (
+            ExpectedCall::Alone(3, 1),
+            ExpectedReply::Is(Reply::MustWait),
+            NOBODY,
+        ),
         // Request 1 is let through without a reservation. Request 2 has the reservation, and 3 waits for it.
-        (finish, Reply::Freed, two(1, 2)),
-        (Call::Look { number: 1 }, Reply::Nothing, NOBODY),
-        (Call::Look { number: 3 }, first_behind, NOBODY),
+        (
+            ExpectedCall::Finish(9),
+            ExpectedReply::Is(Reply::Freed),
+            ExpectedLets::Two(1, 2),
+        ),
+        (
+            ExpectedCall::Look(1),
+            ExpectedReply::Is(Reply::Nothing),
+            NOBODY,
+        ),
+        (
+            ExpectedCall::Look(3),
+            ExpectedReply::First(2, false),
+            NOBODY,
+        ),
         // A write of a smaller number without a transaction passes, and 2 keeps its reservation.
-        (visit_alone(1, 1)?, Reply::Passed, NOBODY),
-        (Call::Look { number: 2 }, Reply::Reserved, NOBODY),
+        (
+            ExpectedCall::Alone(1, 1),
+            ExpectedReply::Is(Reply::Passed),
+            NOBODY,
+        ),
+        (
+            ExpectedCall::Look(2),
+            ExpectedReply::Is(Reply::Reserved),
+            NOBODY,
+        ),
         // The transaction of 2 takes the lock, and 3 now waits for the holder.
         (
-            Call::Acquire {
-                txn: second,
-                ts: at(20),
-            },
-            Reply::Taken,
+            ExpectedCall::Acquire(2, 20),
+            ExpectedReply::Is(Reply::Taken),
+            NOBODY,
+        ),
+        (ExpectedCall::Look(3), ExpectedReply::First(2, true), NOBODY),
+        // No writer has a transaction, so the finish lets both through and reserves the lock for none.
+        (
+            ExpectedCall::Alone(5, 1),
+            ExpectedReply::Is(Reply::MustWait),
             NOBODY,
         ),
         (
-            Call::Look { number: 3 },
-            Reply::WaitFirst(second, true),
+            ExpectedCall::Finish(2),
+            ExpectedReply::Is(Reply::Freed),
+            ExpectedLets::Two(3, 5),
+        ),
+        (
+            ExpectedCall::Look(3),
+            ExpectedReply::Is(Reply::Nothing),
             NOBODY,
         ),
-        // No writer has a transaction, so the finish lets both through and reserves the lock for none.
-        (visit_alone(5, 1)?, Reply::MustWait, NOBODY),
-        (Call::Finish { txn: second }, Reply::Freed, two(3, 5)),
-        (Call::Look { number: 3 }, Reply::Nothing, NOBODY),
-        (visit(7, 1, Access::Write, 1)?, Reply::Passed, NOBODY),
+        (
+            ExpectedCall::Visit(7, 1, Access::Write, 1),
+            ExpectedReply::Is(Reply::Passed),
+            NOBODY,
+        ),
     ];
     expect(rt, alloc, table, &steps)
 }
 
 /// Requests with a bound, at a lock that is held and at one that is reserved.
 fn expect_bounds<T: KeyTable>(rt: &impl Abort, alloc: Global, table: &mut T) -> Result<(), Fail> {
-    let (take, finish) = nine()?;
     let steps = [
-        (take, Reply::Taken, NOBODY),
-        (visit_within(2, 1, 1)?, Reply::MustWait, NOBODY),
-        (visit_within(3, 1, 1)?, Reply::TooLong, NOBODY),
-        (Call::Leave { number: 3 }, Reply::Absent, NOBODY),
+        (
+            ExpectedCall::Acquire(9, 10),
+            ExpectedReply::Is(Reply::Taken),
+            NOBODY,
+        ),
+        (
+            ExpectedCall::Within(2, 1, 1),
+            ExpectedReply::Is(Reply::MustWait),
+            NOBODY,
+        ),
+        (
+            ExpectedCall::Within(3, 1, 1),
+            ExpectedReply::Is(Reply::TooLong),
+            NOBODY,
+        ),
+        (
+            ExpectedCall::Leave(3),
+            ExpectedReply::Is(Reply::Absent),
+            NOBODY,
+        ),
         // The visit removes the request from the readers even if it then finds the writers too many.
-        (visit(3, 12, Access::Read, 1)?, Reply::MustWait, NOBODY),
-        (visit_within(3, 2, 1)?, Reply::TooLong, NOBODY),
-        (Call::Leave { number: 3 }, Reply::Absent, NOBODY),
-        (finish, Reply::Freed, one(2, 1)),
-        (visit(1, 1, Access::Write, 1)?, Reply::Passed, NOBODY),
-        (Call::Look { number: 2 }, Reply::Idle, NOBODY),
+        (
+            ExpectedCall::Visit(3, 12, Access::Read, 1),
+            ExpectedReply::Is(Reply::MustWait),
+            NOBODY,
+        ),
+        (
+            ExpectedCall::Within(3, 2, 1),
+            ExpectedReply::Is(Reply::TooLong),
+            NOBODY,
+        ),
+        (
+            ExpectedCall::Leave(3),
+            ExpectedReply::Is(Reply::Absent),
+            NOBODY,
+        ),
+        (
+            ExpectedCall::Finish(9),
+            ExpectedReply::Is(Reply::Freed),
+            ExpectedLets::One(2, 1),
+        ),
+        (
+            ExpectedCall::Visit(1, 1, Access::Write, 1),
+            ExpectedReply::Is(Reply::Passed),
+            NOBODY,
+        ),
+        (
+            ExpectedCall::Look(2),
+            ExpectedReply::Is(Reply::Idle),
+            NOBODY,
+        ),
         // An inactive writer counts, so 4 is refused. Request 2 is itself that writer, so its visit waits again.
-        (visit_within(4, 1, 1)?, Reply::TooLong, NOBODY),
-        (visit_within(2, 2, 1)?, Reply::MustWait, NOBODY),
-        (visit_within(4, 1, 2)?, Reply::MustWait, NOBODY),
+        (
+            ExpectedCall::Within(4, 1, 1),
+            ExpectedReply::Is(Reply::TooLong),
+            NOBODY,
+        ),
+        (
+            ExpectedCall::Within(2, 2, 1),
+            ExpectedReply::Is(Reply::MustWait),
+            NOBODY,
+        ),
+        (
+            ExpectedCall::Within(4, 1, 2),
+            ExpectedReply::Is(Reply::MustWait),
+            NOBODY,
+        ),
         // Two writers wait: 2 and 4. The reservation of 1 is not counted.
-        (visit_within(3, 3, 2)?, Reply::TooLong, NOBODY),
-        (visit_within(3, 3, 3)?, Reply::MustWait, NOBODY),
-        (Call::Leave { number: 1 }, Reply::Left, one(2, 2)),
+        (
+            ExpectedCall::Within(3, 3, 2),
+            ExpectedReply::Is(Reply::TooLong),
+            NOBODY,
+        ),
+        (
+            ExpectedCall::Within(3, 3, 3),
+            ExpectedReply::Is(Reply::MustWait),
+            NOBODY,
+        ),
+        (
+            ExpectedCall::Leave(1),
+            ExpectedReply::Is(Reply::Left),
+            ExpectedLets::One(2, 2),
+        ),
     ];
     expect(rt, alloc, table, &steps)
 }
