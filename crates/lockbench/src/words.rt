@@ -77,7 +77,7 @@ fn load<'a>(alloc: Global) -> Result<Command<'a>, AllocError> {
         .arg(flag(
             alloc,
             "wait",
-            "With --threads: sleep until let through, in index of polling",
+            "With --threads: sleep until let through, in place of polling",
         ))?
         .arg(history(alloc))?
         .arg(trace(alloc))
