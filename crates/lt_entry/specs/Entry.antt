@@ -1,5 +1,5 @@
 -- How an entry stores the call and the reply of its step.
-use Rattle.std.specs.Prelude.{ℕ, Bool, Some, None, List}
+use Rattle.std.specs.Prelude.{ℕ, Bool, Some, None, List, []}
 use Rattle.lt_ids.specs.Ids.{Wait}
 use Rattle.lt_ids.specs.declared.timestamp.Timestamp.{Timestamp}
 use Rattle.lt_ids.specs.declared.request.Access.{Access}
@@ -11,6 +11,8 @@ use Rattle.lt_plain.specs.Step.{EntryState}
 use Rattle.lt_plain.specs.declared.call.Reply.TheVariants as reply
 use Rattle.lt_entry.specs.declared.entry.CallKind.{CallKind}
 use Rattle.lt_entry.specs.declared.entry.CallKind.TheVariants.{OwnedVisit, UnownedVisit, Acquire, Update, Finish, Leave, Look}
+use Rattle.lt_entry.specs.declared.entry.ReplyRest.{ReplyRest}
+use Rattle.lt_entry.specs.declared.entry.ReplyRest.TheVariants.{NoLets, Lets}
 use Rattle.lt_entry.specs.declared.entry.ReplyKind.{ReplyKind}
 use Rattle.lt_entry.specs.declared.entry.ReplyKind.TheVariants.{Passed, MustWait, TooLong, Taken, Kept, Raised, Other, Freed, Left, Absent, Nothing, Reserved, Idle, WaitFor, WaitFirst, WaitOwn}
 
@@ -42,6 +44,16 @@ reply_of Idle txn held = reply.Idle
 reply_of WaitFor txn held = reply.WaitFor txn held
 reply_of WaitFirst txn held = reply.WaitFirst txn held
 reply_of WaitOwn txn held = reply.WaitOwn txn
+
+-- the lets of a step whose reply has this rest
+abbrev pub lets_in : ReplyRest → List Through
+lets_in (NoLets txn) = []
+lets_in (Lets room) = room.value.lets.items
+
+-- the transaction that such a reply names, if its kind names one
+abbrev pub txn_in : ReplyRest → ℕ
+txn_in (NoLets txn) = txn
+txn_in (Lets room) = room.value.txn
 
 -- the step with these parts
 abbrev pub entry_with : List ℕ → ℕ → Call → Reply → List Through → EntryState

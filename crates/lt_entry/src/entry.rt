@@ -2,13 +2,15 @@
 //! side by side, to be small; `specs/Entry.antt` puts them together again. Read `specs/Ranges.antt` next for the
 //! numbers that an entry can have, and `specs/Legal.antt` for the legal histories.
 ghost use Rattle.std.specs.Prelude.{◌≡◌, ◌≤◌, All};
-ghost use Rattle.lt_entry.specs.Entry.{call_of, reply_of, entry_with};
+ghost use Rattle.lt_entry.specs.Entry.{call_of, reply_of, entry_with, lets_in, txn_in};
 ghost use Rattle.lt_entry.specs.Ranges.{IsTxn, IsOwner, IsTicket, IsTime, IsCall, IsReply, IsInRange, NamesNumber};
 
 use lt_ids::{Access, Key, Through, Ticket, Timestamp, TxnId};
 use lt_plain::{Call, Reply};
+use std::alloc::{AllocError, Global};
 use std::fmt::{self, Debug, Formatter, Write};
 use std::marker::Model;
+use std::snapshot::Snapshot;
 
 /// The kind of an entry's call. A visit with a transaction and one without are different kinds.
 #[derive(Clone, Copy, Debug, PartialEq, Eq)]
@@ -206,10 +208,117 @@ fn reply_parts(reply: Reply) -> ReplyParts
     }
 }
 
-/// One step of a key, as a history keeps it. Its fields are laid out to take 96 bytes, because a table may keep
+/// The lets of a step that lets requests through, and the transaction that its reply names.
+#[derive(Drop)]
+struct LettingReply {
+    txn: TxnId,
+    lets: Vec<Through>,
+}
+
+/// The lets of a step, and the transaction that its reply names. Few steps let a request through, so only those have
+/// an allocation for it.
+#[derive(Drop)]
+enum ReplyRest {
+    NoLets(TxnId),
+    Lets(Box<LettingReply>),
+}
+
+/// Room for the lets of one step. A shard allocates it before the step is made, so that the entry of a step that has
+/// been made needs no memory.
+#[derive(Drop)]
+pub struct LetsRoom {
+    alloc: Global,
+    room: Box<LettingReply>,
+}
+
+impl LetsRoom {
+    /// Allocates the room. Error: `AllocError` if the allocation fails.
+    pub fn new(alloc: Global) -> Result<Self, AllocError> {
+        let room = LettingReply {
+            txn: any_txn(),
+            lets: Vec::new(alloc),
+        };
+        match Box::new(alloc, room) {
+            Ok(room) => Ok(LetsRoom { alloc, room }),
+            Err(_) => Err(AllocError),
+        }
+    }
+
+    /// Puts these lets into the room. The call allocates nothing.
+    pub fn fill(self, lets: Vec<Through>) -> Lets
+        ensures { result ≡ lets.items }
+    {
+        let LetsRoom { alloc, mut room } = self;
+        room.lets = lets;
+        Lets {
+            alloc,
+            rest: ReplyRest::Lets(room),
+        }
+    }
+}
+
+/// The lets of a step, as an entry takes them. In a contract, they are the list of them.
+#[derive(Drop)]
+pub struct Lets {
+    alloc: Global,
+    rest: ReplyRest,
+}
+
+impl Model for Lets {
+    ghost use Rattle.std.specs.Prelude.{List};
+    ghost use Rattle.lt_ids.specs.declared.ticket.Through.{Through};
+    ghost use Rattle.lt_entry.specs.Entry.{lets_in};
+
+    ghost Value = { List Through };
+
+    ghost view = { λ l. lets_in l.rest };
+}
+
+impl Lets {
+    ghost use Rattle.std.specs.Prelude.{◌≡◌, []};
+
+    /// The lets of a step that lets nobody through. The call allocates nothing.
+    #[inline(always)]
+    pub fn none(alloc: Global) -> Self
+        ensures { result ≡ [] }
+    {
+        Lets {
+            alloc,
+            rest: ReplyRest::NoLets(any_txn()),
+        }
+    }
+}
+
+/// The same lets, for a reply that names this transaction.
+#[inline(always)]
+fn naming(txn: TxnId, rest: ReplyRest) -> ReplyRest
+    ensures txn { txn_in result ≡ txn }
+    ensures lets { lets_in result ≡ lets_in rest }
+{
+    match rest {
+        ReplyRest::NoLets(_) => ReplyRest::NoLets(txn),
+        ReplyRest::Lets(mut room) => {
+            room.txn = txn;
+            ReplyRest::Lets(room)
+        }
+    }
+}
+
+/// The transaction that a reply with this rest names.
+fn txn_in(rest: &ReplyRest) -> TxnId
+    ensures { result ≡ txn_in rest.now }
+{
+    match rest {
+        ReplyRest::NoLets(txn) => *txn,
+        ReplyRest::Lets(room) => room.txn,
+    }
+}
+
+/// One step of a key, as a history keeps it. Its fields are laid out to take 80 bytes, because a table may keep
 /// every step until it is closed. In a contract, it is a record of its key, pass, call, reply and lets.
 #[derive(Drop)]
 pub struct Entry {
+    alloc: Global,
     key: Key,
     call_kind: CallKind,
     reply_kind: ReplyKind,
@@ -221,31 +330,32 @@ pub struct Entry {
     wall: u64,
     ticket: Ticket,
     txn: TxnId,
-    reply_txn: TxnId,
-    lets: Vec<Through>,
+    rest: ReplyRest,
 }
 
 impl Model for Entry {
     ghost use Rattle.lt_plain.specs.Step.{EntryState};
-    ghost use Rattle.lt_entry.specs.Entry.{call_of, reply_of, entry_with};
+    ghost use Rattle.lt_entry.specs.Entry.{call_of, reply_of, entry_with, lets_in, txn_in};
 
     ghost Value = { EntryState };
 
     ghost view = { λ e. entry_with e.key e.pass
         (call_of e.call_kind e.ticket e.txn (record { wall = e.wall; logical = e.logical }) e.access e.longest)
-        (reply_of e.reply_kind e.reply_txn e.held)
-        e.lets.items };
+        (reply_of e.reply_kind (txn_in e.rest) e.held)
+        (lets_in e.rest) };
 }
 
 impl Entry {
     /// The step at this key by the pass with this number, 1 to 1024. The call allocates nothing.
     #[inline(always)]
-    pub fn new(key: Key, pass: u32, call: &Call, reply: Reply, lets: Vec<Through>) -> Self
-        ensures { result ≡ record { key = key; pass = pass; call = call.now; reply = reply; lets = lets.items } }
+    pub fn new(key: Key, pass: u32, call: &Call, reply: Reply, lets: Lets) -> Self
+        ensures { result ≡ record { key = key; pass = pass; call = call.now; reply = reply; lets = lets } }
     {
         let asked = call_parts(call);
         let told = reply_parts(reply);
+        let Lets { alloc, rest } = lets;
         Entry {
+            alloc,
             key,
             call_kind: asked.kind,
             reply_kind: told.kind,
@@ -257,8 +367,7 @@ impl Entry {
             wall: asked.ts.wall,
             ticket: asked.ticket,
             txn: asked.txn,
-            reply_txn: told.txn,
-            lets,
+            rest: naming(told.txn, rest),
         }
     }
 
@@ -325,9 +434,9 @@ impl Entry {
             ReplyKind::Nothing => Reply::Nothing,
             ReplyKind::Reserved => Reply::Reserved,
             ReplyKind::Idle => Reply::Idle,
-            ReplyKind::WaitFor => Reply::WaitFor(self.reply_txn, self.held),
-            ReplyKind::WaitFirst => Reply::WaitFirst(self.reply_txn, self.held),
-            ReplyKind::WaitOwn => Reply::WaitOwn(self.reply_txn),
+            ReplyKind::WaitFor => Reply::WaitFor(txn_in(&self.rest), self.held),
+            ReplyKind::WaitFirst => Reply::WaitFirst(txn_in(&self.rest), self.held),
+            ReplyKind::WaitOwn => Reply::WaitOwn(txn_in(&self.rest)),
         }
     }
 
@@ -335,7 +444,10 @@ impl Entry {
     pub fn lets(&self) -> &[Through]
         ensures { result.now ≡ self.now.lets }
     {
-        &self.lets
+        match &self.rest {
+            ReplyRest::NoLets(_) => &[],
+            ReplyRest::Lets(room) => &room.lets,
+        }
     }
 
     /// Tells the prover that all numbers of the entry are in their ranges, so that a text of histories can contain
@@ -366,11 +478,14 @@ impl Entry {
         lets_in_range(lets);
     }
 
-    /// The lets of the step, as the vector that stores them.
-    pub fn all_lets(&self) -> &Vec<Through>
-        ensures { result.now.items ≡ self.now.lets }
+    /// The lets of the step, for the proofs alone. At run time, the call does nothing.
+    pub fn snapshot_of_lets(&self) -> Snapshot<Vec<Through>>
+        ensures { result.value.items ≡ self.now.lets }
     {
-        &self.lets
+        match &self.rest {
+            ReplyRest::NoLets(_) => Snapshot::of(&Vec::new(self.alloc)),
+            ReplyRest::Lets(room) => Snapshot::of(&room.lets),
+        }
     }
 }
 

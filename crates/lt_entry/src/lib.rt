@@ -12,4 +12,4 @@
 
 mod entry;
 
-pub use entry::Entry;
+pub use entry::{Entry, Lets, LetsRoom};

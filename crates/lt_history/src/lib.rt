@@ -40,6 +40,6 @@ pub use composer::{compose, put_histories};
 pub use cursor::Expected;
 pub use error::{Fault, HistoryLineError};
 pub use line::{Line, LineStep, read_line};
-pub use lt_entry::Entry;
+pub use lt_entry::{Entry, Lets, LetsRoom};
 pub use pieces::Checker;
 pub use printer::{PrintError, print, write_out};

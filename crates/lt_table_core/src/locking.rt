@@ -69,6 +69,7 @@ impl<N: Name, T: KeyTable, W: Waker> Table<N, T, W> {
     }
 
     /// Makes the call at the key through the guard's pass. The request stays as it is.
+    #[inline(always)]
     fn step_in<R: Wait>(
         &self,
         rt: &R,

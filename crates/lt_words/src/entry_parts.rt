@@ -45,13 +45,13 @@ impl EntryParts {
     pub fn of(entry: &Entry) -> EntryParts
         ensures { result ≡ entry.now }
     {
-        EntryParts::new(
-            entry.key(),
-            entry.pass(),
-            &entry.call(),
-            &entry.reply(),
-            entry.all_lets(),
-        )
+        EntryParts {
+            key: Snapshot::of(entry.key()),
+            pass: entry.pass(),
+            call: Snapshot::of(&entry.call()),
+            reply: Snapshot::of(&entry.reply()),
+            lets: entry.snapshot_of_lets(),
+        }
     }
 
     /// The pass that makes the step.

@@ -7,7 +7,7 @@ ghost use Rattle.std.specs.Prelude.{◌≡◌, ◌<◌, ◌≤◌, ◌^◌, IfOk
 ghost use Rattle.lt_words.specs.Row.{Opening};
 
 use crate::seat::DropPass;
-use lt_entry::Entry;
+use lt_entry::{Entry, Lets};
 use lt_ids::{IdError, Key, TxnId};
 use lt_plain::{Call, Reply};
 use lt_words::{Book, Pass, abandon_all, shard_of};
@@ -31,7 +31,7 @@ fn idle_finish(alloc: Global, byte: u8, pass: u32, txn: TxnId) -> Result<Entry, 
 {
     let key = Key::from_bytes(alloc, &[byte])?;
     let call = Call::Finish { txn };
-    let lets = Vec::new(alloc);
+    let lets = Lets::none(alloc);
     Ok(Entry::new(key, pass, &call, Reply::Other, lets))
 }
 
