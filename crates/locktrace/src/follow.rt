@@ -1,5 +1,5 @@
-//! How does a command see the steps of a text, one after the other? [`follow_steps`] reads the text line by line,
-//! checks each line, and gives the steps that are wanted to a taker, each with the state of its key after it.
+//! How does a command see the steps of a text, one after the other? [`follow_steps`] reads the text line by line and
+//! checks each line. It gives each step that was asked for to a taker, with the state of the key after the step.
 use crate::failure::{TraceFailure, of_check, of_line};
 use lt_history::{Checker, Fault, Line, Report, read_line, write_out};
 use lt_ids::Key;
