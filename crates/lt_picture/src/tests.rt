@@ -286,7 +286,7 @@ fn the_worked_key_is_shown_step_by_step(rt: HostRuntime) -> Result<(), Fail> {
 }
 
 #[test]
-fn an_inactive_writer_stands_in_parentheses(rt: HostRuntime) -> Result<(), Fail> {
+fn an_inactive_writer_is_shown_in_parentheses(rt: HostRuntime) -> Result<(), Fail> {
     let steps = steps_of(rt.alloc(), &lost_calls()?)?;
     let rows: [LineRow; 1] = [(
         80,
@@ -532,7 +532,7 @@ fn looks(alloc: Global, many: usize) -> Result<Vec<ShownStep>, AllocError> {
 }
 
 #[test]
-fn more_than_400_steps_are_too_many(rt: HostRuntime) -> Result<(), Fail> {
+fn more_than_400_steps_are_refused(rt: HostRuntime) -> Result<(), Fail> {
     let alloc = rt.alloc();
     let key = key(alloc, b"k")?;
     let steps = match looks(alloc, 401) {

@@ -342,12 +342,12 @@ fn the_linked_table_lets_writers_without_a_transaction_through(
 }
 
 #[test]
-fn the_plain_table_tells_that_writers_are_too_many(rt: HostRuntime) -> Result<(), Fail> {
+fn the_plain_table_answers_that_a_queue_is_too_long(rt: HostRuntime) -> Result<(), Fail> {
     expect_bounds(&rt, rt.alloc(), &mut PlainTable::new(rt.alloc()))
 }
 
 #[test]
-fn the_linked_table_tells_that_writers_are_too_many(rt: HostRuntime) -> Result<(), Fail> {
+fn the_linked_table_answers_that_a_queue_is_too_long(rt: HostRuntime) -> Result<(), Fail> {
     expect_bounds(&rt, rt.alloc(), &mut LinkedTable::new(rt.alloc()))
 }
 

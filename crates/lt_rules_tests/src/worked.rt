@@ -93,7 +93,9 @@ fn a_key_from_its_first_lock_to_its_last_waiter(rt: HostRuntime) -> Result<(), F
 }
 
 #[test]
-fn writers_without_a_transaction_go_on_before_the_next(rt: HostRuntime) -> Result<(), Fail> {
+fn writers_without_a_transaction_proceed_until_one_with_a_transaction(
+    rt: HostRuntime,
+) -> Result<(), Fail> {
     let steps = [
         TAKE,
         (
@@ -186,7 +188,7 @@ fn a_write_without_a_transaction_leaves_the_reservation(rt: HostRuntime) -> Resu
 }
 
 #[test]
-fn too_many_writers_are_told_to_who_has_a_bound(rt: HostRuntime) -> Result<(), Fail> {
+fn a_request_with_a_bound_does_not_join_a_long_queue(rt: HostRuntime) -> Result<(), Fail> {
     let steps = [
         TAKE,
         (
@@ -240,7 +242,7 @@ fn too_many_writers_are_told_to_who_has_a_bound(rt: HostRuntime) -> Result<(), F
 }
 
 #[test]
-fn a_writer_that_stands_waits_anew_past_its_bound(rt: HostRuntime) -> Result<(), Fail> {
+fn a_queued_writer_keeps_waiting_past_its_bound(rt: HostRuntime) -> Result<(), Fail> {
     let steps = [
         TAKE,
         (
@@ -283,7 +285,7 @@ fn a_writer_that_stands_waits_anew_past_its_bound(rt: HostRuntime) -> Result<(),
 }
 
 #[test]
-fn a_reader_that_finds_the_writers_too_many_stands_no_more(rt: HostRuntime) -> Result<(), Fail> {
+fn a_reader_past_its_bound_leaves_the_queue(rt: HostRuntime) -> Result<(), Fail> {
     let steps = [
         TAKE,
         (

@@ -243,7 +243,7 @@ fn with_failure(mut rows: Vec<ScarceRow>, index: usize, before: u32) -> Option<V
 
 /// A call that runs out of memory reports that and changes nothing. The same call then succeeds.
 #[test]
-fn out_of_memory_is_told_and_changes_nothing(rt: HostRuntime) -> Result<(), Fail> {
+fn out_of_memory_is_reported_and_changes_nothing(rt: HostRuntime) -> Result<(), Fail> {
     for (index, before) in [(0, 0), (2, 1), (4, 2)] {
         let rows = with_failure(rows(rt.alloc())?, index, before).ok_or("the rows")?;
         come_out(&rt, rt.alloc(), 4, before, &rows, 4)?;
@@ -253,7 +253,7 @@ fn out_of_memory_is_told_and_changes_nothing(rt: HostRuntime) -> Result<(), Fail
 
 /// A full shard answers `HistoryFull` even if the call would run out of memory.
 #[test]
-fn a_full_history_is_told_before_out_of_memory(rt: HostRuntime) -> Result<(), Fail> {
+fn a_full_history_is_reported_before_out_of_memory(rt: HostRuntime) -> Result<(), Fail> {
     let full = CallOutcome::NotLeft(StepError::HistoryFull);
     let mut rows = rows(rt.alloc())?;
     rows.pop().ok_or("the leave")?;

@@ -8,7 +8,7 @@ use std::test::Fail;
 /// Shards do not share a lock: for each two of four shards, an acquire in one returns while another thread is
 /// inside an acquire in the other.
 #[test]
-fn shards_work_apart(rt: HostRuntime) -> Result<(), Fail> {
+fn shards_do_not_share_a_lock(rt: HostRuntime) -> Result<(), Fail> {
     let keys = [(b'a', 1), (b'b', 2), (b'c', 3), (b'd', 0)];
     for (first, first_shard) in keys {
         for (second, second_shard) in keys {
@@ -47,7 +47,7 @@ fn a_poll_takes_no_lock(rt: HostRuntime) -> Result<(), Fail> {
 /// The waker is called with no lock held, and after the let was shown: while it runs, the request that was let
 /// through polls and makes a step in the same shard.
 #[test]
-fn a_waker_is_called_under_no_lock(rt: HostRuntime) -> Result<(), Fail> {
+fn a_waker_is_called_while_no_lock_is_held(rt: HostRuntime) -> Result<(), Fail> {
     let wanted = Woken {
         scan: Scan::Waiting(0),
         finish: Reply::Freed,

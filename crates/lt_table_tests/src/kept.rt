@@ -52,7 +52,7 @@ fn a_streamed_table_goes_on_after_each_take(rt: HostRuntime) -> Result<(), Fail>
 /// A reader receives the steps that follow those it has received. If another caller took some of them, this read
 /// and every further one report that.
 #[test]
-fn a_reader_is_told_of_steps_that_another_took(rt: HostRuntime) -> Result<(), Fail> {
+fn a_reader_learns_how_many_steps_another_took(rt: HostRuntime) -> Result<(), Fail> {
     let kept = keep(
         &rt,
         rt.alloc(),
@@ -138,7 +138,7 @@ fn tells_the_same<R: Abort + Wait>(
 /// A streamed table gives the answers of a whole table at the same indices, wherever the takes are. Its pieces,
 /// followed by what is left, are the history of the whole table.
 #[test]
-fn a_streamed_table_tells_what_a_whole_one_tells(rt: HostRuntime) -> Result<(), Fail> {
+fn a_streamed_table_answers_as_a_whole_one(rt: HostRuntime) -> Result<(), Fail> {
     let alloc = rt.alloc();
     let whole = plays(&rt, alloc, config(1, 5), CALLS).ok_or("the run")?;
     assert_eq!(rt; whole.told.as_str(), TOLD);
@@ -157,7 +157,7 @@ fn a_streamed_table_tells_what_a_whole_one_tells(rt: HostRuntime) -> Result<(), 
 
 /// An unrecorded table gives the same answers and has no steps.
 #[test]
-fn an_unrecorded_table_tells_what_a_whole_one_tells(rt: HostRuntime) -> Result<(), Fail> {
+fn an_unrecorded_table_answers_as_a_whole_one(rt: HostRuntime) -> Result<(), Fail> {
     tells_the_same(&rt, rt.alloc(), config(1, 5), Keeping::Unrecorded, 4, "")
 }
 

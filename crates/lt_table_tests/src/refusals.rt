@@ -215,16 +215,22 @@ fn come_out<R: Abort + Wait>(
 }
 
 #[test]
-fn a_whole_table_comes_out_alike_whatever_is_refused(rt: HostRuntime) -> Result<(), Fail> {
+fn a_whole_table_has_the_same_outcome_under_any_allocation_failure(
+    rt: HostRuntime,
+) -> Result<(), Fail> {
     come_out(&rt, rt.alloc(), Keeping::Whole, (0, 0, 0, 7))
 }
 
 #[test]
-fn a_streamed_table_comes_out_alike_whatever_is_refused(rt: HostRuntime) -> Result<(), Fail> {
+fn a_streamed_table_has_the_same_outcome_under_any_allocation_failure(
+    rt: HostRuntime,
+) -> Result<(), Fail> {
     come_out(&rt, rt.alloc(), Keeping::Streamed, (0, 2, 2, 5))
 }
 
 #[test]
-fn an_unrecorded_table_comes_out_alike_whatever_is_refused(rt: HostRuntime) -> Result<(), Fail> {
+fn an_unrecorded_table_has_the_same_outcome_under_any_allocation_failure(
+    rt: HostRuntime,
+) -> Result<(), Fail> {
     come_out(&rt, rt.alloc(), Keeping::Unrecorded, (2, 0, 7, 0))
 }

@@ -298,7 +298,7 @@ fn expect_output<H: Threads + Wait + Sync + Abort>(
 /// Each script has its answers and histories with few shards and with many, and also if the writer takes three
 /// bytes at a time.
 #[test]
-fn scripts_are_answered_and_their_steps_told(rt: HostRuntime) {
+fn scripts_give_their_answers_and_their_steps(rt: HostRuntime) {
     for run in &RUNS {
         for (shards, at_once) in [(1, 1024), (4, 3), (64, 1024)] {
             let options = options(shards, 1000000, false, 1000000);
@@ -459,7 +459,7 @@ fn expect_notes<H: Threads + Wait + Sync + Abort>(rt: &H, alloc: Global, row: &N
 
 /// The gate is asked before each line and told after it, each time with the pass and the line.
 #[test]
-fn a_gate_is_asked_and_told_of_each_line(rt: HostRuntime) {
+fn a_gate_sees_each_line_begin_and_end(rt: HostRuntime) {
     for row in &NOTED {
         expect_notes(&rt, rt.alloc(), row);
     }

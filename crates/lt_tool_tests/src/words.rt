@@ -591,7 +591,7 @@ fn options_end_as_the_rules_say(rt: HostRuntime) {
 /// Help is written to standard output, with status 0. If the output fails after eight bytes, it holds that prefix,
 /// and the status is 5.
 #[test]
-fn help_is_told(rt: HostRuntime) {
+fn help_is_printed(rt: HostRuntime) {
     for (words, help, prefix) in HELPS {
         for (stops_at, code, written) in [(1024, 0, help), (8, 5, prefix)] {
             let mut output = blank(1024, stops_at);
@@ -604,7 +604,7 @@ fn help_is_told(rt: HostRuntime) {
 
 /// The jobs that words name. `--` ends the options, so the name of a file after it may begin with a hyphen.
 #[test]
-fn words_are_read(rt: HostRuntime) {
+fn command_lines_are_read(rt: HostRuntime) {
     let options = Options::default();
     let none: &'static [&'static str] = &[];
     let few = Options {
@@ -688,7 +688,7 @@ fn faulty_options_are_refused(rt: HostRuntime) {
 
 /// The status and the message of each failure.
 #[test]
-fn failures_are_told(rt: HostRuntime) {
+fn failures_are_reported(rt: HostRuntime) {
     let script = RunError::Script {
         line: 18446744073709551615,
         fault: ScriptFault::BadAccess,

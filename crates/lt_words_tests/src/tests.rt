@@ -66,7 +66,9 @@ fn no_number_past_the_limit_is_drawn(rt: HostRuntime) -> Result<(), Fail> {
 }
 
 #[test]
-fn a_shard_is_the_sum_of_the_bytes_among_so_many(rt: HostRuntime) -> Result<(), Fail> {
+fn the_shard_of_a_key_is_the_sum_of_its_bytes_modulo_the_shards(
+    rt: HostRuntime,
+) -> Result<(), Fail> {
     // The sum is 97 + 98 = 195, which is 17 * 11 + 8 and 3 * 64 + 3.
     assert_eq!(rt; shards_of(rt.alloc(), b"ab"), Some((0, 1, 8, 3)));
     // The sum is 64 * 126 = 8064, which is 733 * 11 + 1.

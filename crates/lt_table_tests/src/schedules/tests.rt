@@ -319,7 +319,7 @@ fn tell<W: Write>(
 }
 
 #[test]
-fn both_tables_agree_with_the_rules_read_a_second_time(rt: HostRuntime) -> Result<(), Fail> {
+fn both_tables_agree_with_the_second_evaluation(rt: HostRuntime) -> Result<(), Fail> {
     let mut counts = ScheduleCaseCounts::new();
     for seed in 0..1_000 {
         compare_both(&rt, rt.alloc(), seed, &mut counts)?;
@@ -332,7 +332,9 @@ fn both_tables_agree_with_the_rules_read_a_second_time(rt: HostRuntime) -> Resul
 /// of memory is made again, and the results are the same as without a failure. The test prints which call of which
 /// table it was.
 #[test]
-fn schedules_come_out_alike_whatever_is_refused(rt: HostRuntime) -> Result<(), Fail> {
+fn schedules_have_the_same_outcome_under_any_allocation_failure(
+    rt: HostRuntime,
+) -> Result<(), Fail> {
     let mut counts = ScheduleCaseCounts::new();
     for seed in 0..5 {
         let [linked, plain] = compare_both(&rt, rt.alloc(), seed, &mut counts)?;

@@ -45,7 +45,7 @@ fn a_let_before_the_sleep_is_not_missed(rt: HostRuntime) -> Result<(), Fail> {
 /// One step lets a writer and two readers through. The waker is told of each let once, with its pass, request
 /// number and wait number, and each poll after that reports the let.
 #[test]
-fn a_waker_is_told_of_each_let_once(rt: HostRuntime) -> Result<(), Fail> {
+fn a_waker_is_called_once_for_each_let(rt: HostRuntime) -> Result<(), Fail> {
     let woken = wake_three(&rt, rt.alloc()).ok_or("the lets")?;
     assert_eq!(rt; woken.early, 0);
     assert_eq!(rt; woken.count, 3);
@@ -88,7 +88,7 @@ fn a_wait_of_an_unrecorded_table_ends_at_its_time(rt: HostRuntime) -> Result<(),
 /// Two threads, each of which is lent a pass, work at one key each. A visit, an acquire, a leave and a finish are
 /// four steps at each key.
 #[test]
-fn two_threads_are_lent_their_passes(rt: HostRuntime) -> Result<(), Fail> {
+fn two_threads_use_lent_passes(rt: HostRuntime) -> Result<(), Fail> {
     let steps = lend_to_two(&rt, rt.alloc()).ok_or("the threads")?;
     assert_eq!(rt; steps, 8);
     Ok(())

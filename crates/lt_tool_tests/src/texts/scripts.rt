@@ -146,7 +146,7 @@ fn bounded(script: &Script) -> Option<(u32, usize)> {
 
 /// Only the fifth word can be a bound, and only if it is not a key with its access.
 #[test]
-fn a_bound_stands_before_the_keys(rt: HostRuntime) -> Result<(), Fail> {
+fn a_bound_precedes_the_keys(rt: HostRuntime) -> Result<(), Fail> {
     for (text, longest, keys) in [
         ("1 open 7 1.0", 0, 0),
         ("1 open 7 1.0 a:w", 0, 1),
@@ -181,7 +181,7 @@ fn first_fault(read: Result<Script, ScriptError>) -> Option<(usize, ScriptFault)
 
 /// Each row is a text, its first faulty line, and the first fault of that line in the order of the faults.
 #[test]
-fn each_fault_is_told_with_its_line(rt: HostRuntime) {
+fn each_fault_is_reported_with_its_line(rt: HostRuntime) {
     for (text, line, fault) in [
         ("0 scan", 1, ScriptFault::BadPass),
         ("65 scan", 1, ScriptFault::BadPass),

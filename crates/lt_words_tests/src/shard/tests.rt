@@ -35,7 +35,7 @@ fn a_shard_steps_shows_a_let_and_fills_up(rt: HostRuntime) -> Result<(), Fail> {
 /// One step lets two tickets of a pass through. The pass's status word is then the greater ticket, whichever
 /// request came first: request 2, wait 1, which is 2 * 2^24 + 1.
 #[test]
-fn of_two_lets_of_a_pass_its_word_is_the_higher(rt: HostRuntime) -> Result<(), Fail> {
+fn a_pass_with_two_lets_reads_the_higher_ticket(rt: HostRuntime) -> Result<(), Fail> {
     for (first, second) in [(1, 2), (2, 1)] {
         let words = match let_two(&rt, rt.alloc(), first, second) {
             Some(words) => words,

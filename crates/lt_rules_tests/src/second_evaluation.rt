@@ -203,7 +203,7 @@ fn compare(
 }
 
 #[test]
-fn random_calls_agree_with_the_rules_read_a_second_time(rt: HostRuntime) -> Result<(), Fail> {
+fn random_calls_agree_with_the_second_evaluation(rt: HostRuntime) -> Result<(), Fail> {
     let key = Key::from_bytes(rt.alloc(), b"key")?;
     let mut counts = RuleCaseCounts::new();
     for seed in 0..5_000 {
