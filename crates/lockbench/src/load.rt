@@ -347,7 +347,7 @@ pub fn report<H: Threads + Wait + Clock + CpuClock + Sync, R: Runtime>(
     let ready = prepare_with(alloc, config_of(load), load.keeping)?;
     let played = play::<Brand, H>(threads, alloc, ready, load, &keys)?;
     if played.ending.steps != played.tally.steps {
-        bail!("the table has another number of steps than the calls told of");
+        bail!("the table has another number of steps than the calls reported");
     }
     tell_load(rt, load)?;
     tell_times(rt, played.tally.steps, &played.spent)?;

@@ -110,7 +110,7 @@ struct Worker<N: Name> {
     seat: Seat<N>,
     random: Random,
     keeping: Keeping,
-    told: CallOutcome,
+    outcome: CallOutcome,
     tally: SoakTally,
 }
 
@@ -176,16 +176,16 @@ fn random_call(random: &mut Random) -> TableCommand {
     }
 }
 
-/// The next call after a call with the outcome `told`. None if there is nothing left to do, for instance after a
+/// The next call after a call with this outcome. None if there is nothing left to do, for instance after a
 /// full shard stopped a leave: unless the table is streamed, the shard stays full. None also if an allocation
 /// fails.
 fn next_command(
     alloc: Global,
     random: &mut Random,
     keeping: Keeping,
-    told: CallOutcome,
+    outcome: CallOutcome,
 ) -> Option<TableCommand> {
-    match told {
+    match outcome {
         CallOutcome::NotLeft(_) if keeping == Keeping::Streamed => Some(TableCommand::Leave),
         CallOutcome::NotEntered(_) | CallOutcome::NotLeft(_) => None,
         CallOutcome::Left => random_enter(alloc, random).ok(),
@@ -213,7 +213,7 @@ fn may_be_full(keeping: Keeping) -> bool {
 /// Whether the rules allow this outcome of a call, if no allocation fails. `before` is the outcome of the call
 /// before it.
 fn is_possible(keeping: Keeping, before: CallOutcome, line: &PlayedCommand) -> bool {
-    match line.told {
+    match line.outcome {
         CallOutcome::Scanned(Scan::Waiting(_)) => match line.replies.split_last() {
             Some((last, others)) => *last == Reply::MustWait && are_passed(others),
             None => false,
@@ -232,14 +232,14 @@ fn is_possible(keeping: Keeping, before: CallOutcome, line: &PlayedCommand) -> b
         CallOutcome::NotStepped(error) | CallOutcome::NotLeft(error) => {
             may_be_full(keeping) && error == StepError::HistoryFull
         }
-        _ => !line.told.is_out_of_memory(),
+        _ => !line.outcome.is_out_of_memory(),
     }
 }
 
 /// How many steps a line reports. On a streamed table a leave that stops is made again and then reports all of its
 /// steps, so the one that stopped counts as 0.
 fn steps_of(keeping: Keeping, line: &PlayedCommand) -> u64 {
-    match line.told {
+    match line.outcome {
         CallOutcome::Stepped(_) => 1,
         CallOutcome::NotLeft(_) if keeping == Keeping::Streamed => 0,
         CallOutcome::Scanned(_) | CallOutcome::Left | CallOutcome::NotLeft(_) => line
@@ -255,7 +255,7 @@ fn steps_of(keeping: Keeping, line: &PlayedCommand) -> u64 {
 fn tally_of(keeping: Keeping, before: CallOutcome, line: &PlayedCommand) -> SoakTally {
     SoakTally {
         steps: steps_of(keeping, line),
-        draws: if let CallOutcome::Entered(_) = line.told {
+        draws: if let CallOutcome::Entered(_) = line.outcome {
             1
         } else {
             0
@@ -280,7 +280,7 @@ fn make<N: Name, T: KeyTable, R: Wait>(
         seat,
         random,
         keeping,
-        told,
+        outcome,
         tally,
     } = worker;
     let (seat, line) = play(rt, alloc, table, seat, command)?;
@@ -288,8 +288,8 @@ fn make<N: Name, T: KeyTable, R: Wait>(
         seat,
         random,
         keeping,
-        told: line.told,
-        tally: tally.and(&tally_of(keeping, told, &line)),
+        outcome: line.outcome,
+        tally: tally.and(&tally_of(keeping, outcome, &line)),
     })
 }
 
@@ -307,8 +307,8 @@ fn is_done(clock: &impl Clock, limit: &Limit, calls: u64) -> bool {
 }
 
 /// Whether a full shard stopped the pass's leave.
-fn is_stopped(told: CallOutcome) -> bool {
-    match told {
+fn is_stopped(outcome: CallOutcome) -> bool {
+    match outcome {
         CallOutcome::NotLeft(_) => true,
         _ => false,
     }
@@ -316,8 +316,8 @@ fn is_stopped(told: CallOutcome) -> bool {
 
 /// Whether a thread that has made `calls` calls continues. If its leave stopped, it sleeps for a moment and then
 /// continues past the limit, since the leave has to be made again.
-fn goes_on<R: Wait + Clock>(rt: &R, limit: &Limit, told: CallOutcome, calls: u64) -> bool {
-    if is_stopped(told) {
+fn goes_on<R: Wait + Clock>(rt: &R, limit: &Limit, outcome: CallOutcome, calls: u64) -> bool {
+    if is_stopped(outcome) {
         sleep(rt, Duration::from_micros(PAUSE));
         return true;
     }
@@ -335,10 +335,10 @@ fn work<N: Name, T: KeyTable, R: Wait + Clock>(
 ) -> Option<Worker<N>> {
     let mut worker = worker;
     for calls in 0..u64::MAX {
-        if !goes_on(rt, limit, worker.told, calls) {
+        if !goes_on(rt, limit, worker.outcome, calls) {
             break;
         }
-        let next = next_command(alloc, &mut worker.random, worker.keeping, worker.told);
+        let next = next_command(alloc, &mut worker.random, worker.keeping, worker.outcome);
         let Some(command) = next else {
             break;
         };
@@ -360,7 +360,7 @@ fn workers_of<N: Name>(
             seat,
             random: Random::new(random.next()),
             keeping,
-            told: CallOutcome::Left,
+            outcome: CallOutcome::Left,
             tally: SoakTally::none(),
         };
         workers.push(worker).ok()?;

@@ -161,7 +161,7 @@ fn job_of(alloc: Global, matches: &ArgMatches<'_>) -> anyhow::Result<BenchJob> {
 }
 
 /// The job of a command line that clap refuses: help, or an error whose text has no `error: ` prefix.
-fn told(alloc: Global, error: &Error) -> anyhow::Result<BenchJob> {
+fn job_of_error(alloc: Global, error: &Error) -> anyhow::Result<BenchJob> {
     let text = format!(in alloc; "{error}")?;
     match error.kind() {
         ErrorKind::DisplayHelp => Ok(BenchJob::Help(text)),
@@ -175,7 +175,7 @@ fn told(alloc: Global, error: &Error) -> anyhow::Result<BenchJob> {
 fn read(alloc: Global, words: &[&str]) -> anyhow::Result<BenchJob> {
     match command(alloc)?.try_get_matches_from(words) {
         Ok(matches) => job_of(alloc, &matches),
-        Err(error) => told(alloc, &error),
+        Err(error) => job_of_error(alloc, &error),
     }
 }
 

@@ -1,6 +1,6 @@
 //! How does the command `check` read its text? [`check_file`] checks a file in pieces, with as many threads as there
-//! are processors. [`check_reader`] checks what has no offsets, such as a pipe, on one thread. Both say on standard
-//! error how far they are, if that is a terminal.
+//! are processors. [`check_reader`] checks an input that cannot be read at an offset, such as a pipe, on one thread.
+//! Both report their progress on standard error, if it is a terminal.
 use crate::failure::{TraceFailure, of_audit};
 use crate::follow::write_text;
 use crate::output::{Output, ending_of};

@@ -1,5 +1,5 @@
-//! What do the steps of a legal text amount to? [`Gatherer`] gives each step to the statistics, and
-//! [`Gatherer::text`] is their summary. docs/FORMATS.md, "What a text amounts to", describes its lines.
+//! How are the steps of a legal text summarized? [`Gatherer`] gives each step to the statistics, and
+//! [`Gatherer::text`] is the summary. docs/FORMATS.md, "The summary of a legal text", describes its lines.
 use crate::failure::TraceFailure;
 use crate::follow::StepTaker;
 use lt_history::Report;

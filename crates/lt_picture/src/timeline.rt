@@ -1,5 +1,5 @@
-//! Where does a request or a transaction stand after each step? [`timeline`] has a lane's phases, before the first step
-//! and after each. [`run_end`] finds where a phase ends. `specs/Phases.antt` defines both.
+//! In which phase is a request or a transaction after each step? [`timeline`] gives the phases of a lane, the first of
+//! them before the first step. [`run_end`] finds where a phase ends. `specs/Phases.antt` defines both.
 ghost use Rattle.std.specs.Prelude.{ℕ, ◌≡◌, ◌≢◌, ◌≤◌, ◌<◌, IfOk, length, nat_eq, slice_get};
 ghost use Rattle.std.specs.List.{find};
 ghost use Rattle.lt_plain.specs.Rules.{number_of, writer_number};

@@ -1,4 +1,4 @@
-//! Does the plain table agree with the rules as they are read a second time, from the tables of `docs/RULES.md`?
+//! Does the plain table agree with a second evaluation of the rules, made from the tables of `docs/RULES.md`?
 //!
 //! Each seed gives 40 random calls at one key, made at a [`PlainTable`] and at a [`Second`]. After each call the
 //! replies, the lets and the looks of all requests must be equal. The test fails unless each case of the rules

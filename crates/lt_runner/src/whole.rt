@@ -1,4 +1,4 @@
-//! How does a whole run go, from an empty table to its final histories?
+//! What are the stages of a whole run, from an empty table to its final histories?
 //!
 //! [`run`] opens a table, has the lines run, collects what the workers return, and closes the table. Read next:
 //! `running.rt`, which runs the lines of all passes, and `specs/Ran.antt` for the promise.

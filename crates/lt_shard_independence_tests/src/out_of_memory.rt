@@ -99,7 +99,7 @@ fn play_at<N: Name, T: KeyTable, R: Wait>(
     let question = Question::State(b'a');
     let (seat, sight) = ask_through(rt, alloc, table, seat, question, &mut Vec::new(alloc))?;
     seats.insert(index, seat).ok()?;
-    Some((line.told, stand_of(&sight)))
+    Some((line.outcome, stand_of(&sight)))
 }
 
 fn run_named<N: Name, R: Wait>(
@@ -162,8 +162,8 @@ fn come_out<R: Abort + Wait>(
 ) -> Result<(), Fail> {
     let ended = run_scarce(rt, alloc, limits(max_steps), before, rows).ok_or("the run")?;
     assert_eq!(rt; ended.came.len(), rows.len());
-    for (came, ((_, _, told), stand)) in ended.came.iter().zip(rows) {
-        assert_eq!(rt; *came, (*told, Some(*stand)), "failing after {before}");
+    for (came, ((_, _, outcome), stand)) in ended.came.iter().zip(rows) {
+        assert_eq!(rt; *came, (*outcome, Some(*stand)), "failing after {before}");
     }
     let history = ended.histories.shards.first().ok_or("the shard")?;
     assert_eq!(rt; (history.len(), ended.histories.draws), (steps, 1));

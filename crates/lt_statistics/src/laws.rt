@@ -1,5 +1,5 @@
-//! What do the definitions of the statistics amount to? A longest queue and a longest wait are no shorter than any other,
-//! and the hottest keys come first. `specs/Laws.antt` has the laws.
+//! What follows from the definitions of the statistics? No queue and no wait is longer than the longest one, and the
+//! hottest keys come first. `specs/Laws.antt` has the laws.
 ghost use Rattle.lt_statistics.specs.Laws.{LongestWaits, NoLongerQueue, RankingIsHottestFirst};
 
 /// After no step is a queue longer than the longest one.

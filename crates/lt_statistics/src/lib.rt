@@ -1,4 +1,4 @@
-//! What do the steps of a text of histories amount to? [`Statistics`] takes the steps of a text one after the other, and
+//! How are the steps of a text of histories summarized? [`Statistics`] takes the steps of a text one after the other, and
 //! [`Statistics::finish`] gives their [`TextSummary`]: counts, the longest queue, the longest wait and the hottest keys.
 //!
 //! It holds the open waits of one key and [`MOST_KEYS`] keys, however long the text is. It counts what it is given: a

@@ -1,4 +1,4 @@
-//! A lock table for a transactional store: requests of many threads queue at contended keys, and each one is told
+//! A lock table for a transactional store: requests of many threads queue at contended keys, and each one learns
 //! when it may proceed.
 //!
 //! This page says how a store uses the table and what the store may rely on. The locks are exclusive and on single
@@ -34,6 +34,9 @@
 //! let ready = prepare(alloc, config).ok()?;
 //! serve::<Brand, R>(rt, alloc, ready)
 //! ```
+//!
+//! The prover cannot guess which name `Brand` stands for. A file beside the proofs of the calling function says it:
+//! `docs/EMBEDDING.md`, "The name of a table", shows that file.
 //!
 //! # The life of a request
 //!

@@ -65,11 +65,11 @@ pub struct KeptRun {
 /// The results so far, as text.
 #[derive(Drop)]
 pub struct Texts {
-    /// What each line came to. For a call: its outcome, as in `told`. For a take or a read: how many steps it gave
+    /// What each line came to. For a call: its outcome, as in `outcomes`. For a take or a read: how many steps it gave
     /// and the index of the first, or the index before which the steps are gone.
     pub came: String,
     /// The outcome of each call, in the format that `playing` uses for a whole table.
-    pub told: String,
+    pub outcomes: String,
     /// The steps that were taken out, in order, a line each. At the end of a run the steps that were left follow.
     pub steps: String,
 }
@@ -78,7 +78,7 @@ impl Texts {
     fn new(alloc: Global) -> Self {
         Texts {
             came: String::new(alloc),
-            told: String::new(alloc),
+            outcomes: String::new(alloc),
             steps: String::new(alloc),
         }
     }
@@ -167,7 +167,7 @@ fn play_at<N: Name, T: KeyTable, R: Wait>(
     let seat = seats.remove(index);
     let (seat, line) = play(rt, alloc, table, seat, command)?;
     seats.insert(index, seat).ok()?;
-    put_line(&mut texts.told, &line)?;
+    put_line(&mut texts.outcomes, &line)?;
     put_line(&mut texts.came, &line)
 }
 

@@ -70,7 +70,7 @@ fn a_reader_learns_how_many_steps_another_took(rt: HostRuntime) -> Result<(), Fa
     Ok(())
 }
 
-/// A shard that may hold one step makes five and stores none of them. A reader is told that they are gone.
+/// A shard that may hold one step makes five and stores none of them. A reader learns that they are gone.
 #[test]
 fn an_unrecorded_table_is_never_full(rt: HostRuntime) -> Result<(), Fail> {
     let kept = keep(
@@ -97,7 +97,7 @@ const CALLS: &'static str =
     "3 acquire 9 10 a\n0 enter - 1 aw 0\n0 scan\n1 enter 2 1 awbw 0\n1 scan\n2 enter - 1 aw 0\n2 scan\n3 finish 9 a\n0 poll\n1 poll\n2 poll\n1 leave\n2 poll\n3 acquire 9 10 b\n";
 
 /// The outcome of each call, with the index of its step.
-const TOLD: &'static str =
+const OUTCOMES: &'static str =
     "0 Stepped(Taken)\n- Entered(1)\n- Scanned(Waiting(0)) [MustWait]\n- Entered(2)\n- Scanned(Waiting(0)) [MustWait]\n- Entered(3)\n- Scanned(Waiting(0)) [MustWait]\n4 Stepped(Freed)\n- Polled(Through)\n- Polled(Through)\n- Polled(Waiting)\n- Left [Left, Absent]\n- Polled(Through)\n7 Stepped(Taken)\n";
 
 /// The calls, with a take after every `every` calls.
@@ -129,7 +129,7 @@ fn tells_the_same<R: Abort + Wait>(
 {
     let text = with_takes(alloc, every).ok_or("the calls")?;
     let kept = keep(rt, alloc, config, keeping, &text).ok_or("the run")?;
-    assert_eq!(rt; kept.texts.told.as_str(), TOLD);
+    assert_eq!(rt; kept.texts.outcomes.as_str(), OUTCOMES);
     assert_eq!(rt; kept.texts.steps.as_str(), steps);
     assert_eq!(rt; kept.draws, 3);
     Ok(())
@@ -141,7 +141,7 @@ fn tells_the_same<R: Abort + Wait>(
 fn a_streamed_table_answers_as_a_whole_one(rt: HostRuntime) -> Result<(), Fail> {
     let alloc = rt.alloc();
     let whole = plays(&rt, alloc, config(1, 5), CALLS).ok_or("the run")?;
-    assert_eq!(rt; whole.told.as_str(), TOLD);
+    assert_eq!(rt; whole.outcomes.as_str(), OUTCOMES);
     for every in [1, 3, 7] {
         tells_the_same(
             &rt,

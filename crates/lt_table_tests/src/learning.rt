@@ -1,7 +1,7 @@
 //! A waiting request learns the prefix that another request has seen, and then finds out that it was let through.
 ghost use Rattle.std.specs.Prelude.{◌≡◌};
 
-use crate::playing::{config, told_of};
+use crate::playing::{config, outcomes_of};
 use crate::text::rows_of;
 use lt_plain::KeyTable;
 use lt_table::{Config, Ready, Table, open, prepare};
@@ -76,16 +76,16 @@ fn learn_in<R: Wait>(rt: &R, alloc: Global, config: Config) -> Option<String> {
     let after = rows_of(alloc, "0 poll\n")?;
     let ready = prepare(alloc, config).ok()?;
     let lines = learn_named::<Brand, R>(rt, alloc, ready, &before, &after)?;
-    told_of(alloc, &lines)
+    outcomes_of(alloc, &lines)
 }
 
 /// The request that freed the lock has seen the let. The waiting request learns this, and its next poll says that
 /// the wait is over.
 #[test]
 fn a_request_learns_that_it_was_let_through(rt: HostRuntime) -> Result<(), Fail> {
-    let told = learn_in(&rt, rt.alloc(), config(1, 2)).ok_or("the run")?;
+    let outcomes = learn_in(&rt, rt.alloc(), config(1, 2)).ok_or("the run")?;
     assert_eq!(rt;
-        told.as_str(),
+        outcomes.as_str(),
         "- Entered(1)\n0 Stepped(Taken)\n- Entered(2)\n- Scanned(Waiting(0)) [MustWait]\n- Polled(Waiting)\n2 Stepped(Freed)\n- Polled(Through)\n"
     );
     Ok(())

@@ -26,7 +26,7 @@ pub fn config(shards: usize, passes: usize) -> Config {
 pub struct Played {
     /// The outcome of each call, a line each, after the index of its step or a hyphen. The outcomes of a scan and
     /// a leave are followed by the replies of their steps.
-    pub told: String,
+    pub outcomes: String,
     /// All steps, shard by shard, a line each.
     pub steps: String,
     /// How many steps each shard made, and how many request numbers were drawn.
@@ -34,8 +34,8 @@ pub struct Played {
 }
 
 /// Whether the replies that the guard keeps belong to this call.
-fn has_replies(told: CallOutcome) -> bool {
-    match told {
+fn has_replies(outcome: CallOutcome) -> bool {
+    match outcome {
         CallOutcome::Scanned(_) | CallOutcome::Left | CallOutcome::NotLeft(_) => true,
         _ => false,
     }
@@ -52,15 +52,15 @@ fn put_index(text: &mut String, at: Option<u64>) -> Option<()> {
 /// Appends a line: the index of a call's step, and the call's outcome.
 pub fn put_line(text: &mut String, line: &PlayedCommand) -> Option<()> {
     put_index(text, line.at)?;
-    if has_replies(line.told) {
-        writeln!(text, "{:?} {:?}", line.told, line.replies.as_slice()).ok()
+    if has_replies(line.outcome) {
+        writeln!(text, "{:?} {:?}", line.outcome, line.replies.as_slice()).ok()
     } else {
-        writeln!(text, "{:?}", line.told).ok()
+        writeln!(text, "{:?}", line.outcome).ok()
     }
 }
 
 /// The outcome of each call, a line each.
-pub fn told_of(alloc: Global, lines: &[PlayedCommand]) -> Option<String> {
+pub fn outcomes_of(alloc: Global, lines: &[PlayedCommand]) -> Option<String> {
     let mut text = String::new(alloc);
     for line in lines {
         put_line(&mut text, line)?;
@@ -92,9 +92,9 @@ fn counts_of(alloc: Global, histories: &Histories) -> Option<String> {
     format!(in alloc; "{:?} {}", counts.as_slice(), histories.draws).ok()
 }
 
-fn outcome_of(alloc: Global, ran: &TableRun) -> Option<Played> {
+fn played_of(alloc: Global, ran: &TableRun) -> Option<Played> {
     Some(Played {
-        told: told_of(alloc, &ran.lines)?,
+        outcomes: outcomes_of(alloc, &ran.lines)?,
         steps: steps_of(alloc, &ran.histories)?,
         counts: counts_of(alloc, &ran.histories)?,
     })
@@ -104,5 +104,5 @@ fn outcome_of(alloc: Global, ran: &TableRun) -> Option<Played> {
 pub fn plays<R: Wait>(rt: &R, alloc: Global, config: Config, text: &str) -> Option<Played> {
     let rows = rows_of(alloc, text)?;
     let ran = run(rt, alloc, config, &rows, &[]).ok()?;
-    outcome_of(alloc, &ran)
+    played_of(alloc, &ran)
 }

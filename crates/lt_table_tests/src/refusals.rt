@@ -25,7 +25,7 @@ const CALLS_AFTER: &'static str =
     "1 finish 9 A\n0 poll\n0 scan\n0 scan\n0 acquire 1 20 A\n0 leave\n0 finish 1 A\n";
 
 /// The outcome of each call.
-const TOLD: [CallOutcome; 10] = [
+const OUTCOMES: [CallOutcome; 10] = [
     CallOutcome::Stepped(Reply::Taken),
     CallOutcome::Entered(1),
     CallOutcome::Scanned(Scan::Waiting(0)),
@@ -117,10 +117,10 @@ fn are_replied<R: Abort>(rt: &R, steps: &[Entry], replies: &[Reply]) -> Result<(
 }
 
 /// Asserts that each call had the expected outcome.
-fn are_told<R: Abort>(rt: &R, done: &Done) {
-    assert_eq!(rt; done.lines.len(), TOLD.len());
-    for (line, told) in done.lines.iter().zip(&TOLD) {
-        assert_eq!(rt; line.told, *told);
+fn check_outcomes<R: Abort>(rt: &R, done: &Done) {
+    assert_eq!(rt; done.lines.len(), OUTCOMES.len());
+    for (line, outcome) in done.lines.iter().zip(&OUTCOMES) {
+        assert_eq!(rt; line.outcome, *outcome);
     }
 }
 
@@ -209,7 +209,7 @@ fn come_out<R: Abort + Wait>(
         done = play_once(rt, alloc, keeping, &before, &after);
     }
     let done = done.ok_or("the script")?;
-    are_told(rt, &done);
+    check_outcomes(rt, &done);
     are_seen(rt, &done)?;
     are_kept(rt, &done, kept)
 }

@@ -40,7 +40,7 @@ fn is_stored<R: Abort>(
     let entry = history.get(at as usize).ok_or("the step")?;
     assert_eq!(rt; entry.key().as_bytes(), b"a".as_slice());
     assert_eq!(rt; entry.pass(), pass);
-    assert_eq!(rt; line.told, CallOutcome::Stepped(entry.reply()));
+    assert_eq!(rt; line.outcome, CallOutcome::Stepped(entry.reply()));
     assert!(rt; is_call(&entry.call(), u64::from(pass), is_taking));
     Ok(())
 }
@@ -50,10 +50,10 @@ fn is_stored<R: Abort>(
 fn compare_request<R: Abort>(rt: &R, round: &[PlayedCommand]) -> Result<(), Fail>
     requires { length round.now ≡ 5 }
 {
-    assert!(rt; matches!(round[0].told, CallOutcome::Entered(_)));
-    assert_eq!(rt; round[1].told, CallOutcome::Scanned(Scan::Proceed));
+    assert!(rt; matches!(round[0].outcome, CallOutcome::Entered(_)));
+    assert_eq!(rt; round[1].outcome, CallOutcome::Scanned(Scan::Proceed));
     assert_eq!(rt; round[1].replies.as_slice(), [Reply::Passed].as_slice());
-    assert_eq!(rt; round[4].told, CallOutcome::Left);
+    assert_eq!(rt; round[4].outcome, CallOutcome::Left);
     assert_eq!(rt; round[4].replies.as_slice(), [Reply::Absent].as_slice());
     Ok(())
 }
@@ -68,11 +68,11 @@ fn compare_lock<R: Abort>(
 ) -> Result<(), Fail>
     requires { length round.now ≡ 5 }
 {
-    let wanted = match round[2].told {
+    let wanted = match round[2].outcome {
         CallOutcome::Stepped(Reply::Taken) => CallOutcome::Stepped(Reply::Freed),
-        told => told,
+        outcome => outcome,
     };
-    assert_eq!(rt; round[3].told, wanted);
+    assert_eq!(rt; round[3].outcome, wanted);
     is_stored(rt, worked, &round[2], pass, true)?;
     is_stored(rt, worked, &round[3], pass, false)
 }

@@ -53,8 +53,8 @@ pub struct ThreadsRun {
 }
 
 /// Whether the call was refused because a shard was full.
-fn is_full(told: CallOutcome) -> bool {
-    match told {
+fn is_full(outcome: CallOutcome) -> bool {
+    match outcome {
         CallOutcome::NotScanned(error) => error == ScanError::HistoryFull,
         CallOutcome::NotStepped(error) | CallOutcome::NotLeft(error) => error
             == StepError::HistoryFull,
@@ -73,7 +73,7 @@ fn play_through<N: Name, T: KeyTable, R: Wait>(
     let mut seat = seat;
     for _ in 0..TURNS {
         let (next, line) = play(rt, alloc, table, seat, command)?;
-        if !is_full(line.told) {
+        if !is_full(line.outcome) {
             return Some((next, line));
         }
         seat = next;
@@ -174,11 +174,11 @@ pub fn lines_of<N: Name>(
     for worker in worked {
         let ThreadWork {
             seat,
-            lines: told,
+            lines: made,
             ..
         } = worker?;
         seats.push(seat).ok()?;
-        lines.push(told).ok()?;
+        lines.push(made).ok()?;
     }
     Some(lines)
 }

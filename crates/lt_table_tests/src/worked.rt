@@ -23,7 +23,7 @@ fn numbers_and_waits_run_out(rt: HostRuntime) -> Result<(), Fail> {
     )
     .ok_or("the run")?;
     assert_eq!(rt;
-        played.told.as_str(),
+        played.outcomes.as_str(),
         "0 Stepped(Taken)\n- Entered(1)\n- NotEntered(NumbersOut)\n- Scanned(Waiting(0)) [MustWait]\n2 Stepped(Freed)\n- Polled(Through)\n- Scanned(Rescan) []\n- NotScanned(WaitsOut)\n- Polled(Idle)\n- Left [Left]\n"
     );
     assert_eq!(rt; played.counts.as_str(), "[4] 1");
@@ -42,10 +42,10 @@ fn a_request_names_1_to_256_accesses(rt: HostRuntime) -> Result<(), Fail> {
     .ok_or("the run")?;
     let refused =
         "- NotEntered(NoKeys)\n- NotEntered(TooManyKeys)\n- NotEntered(TooManyKeys)\n- Entered(1)\n- Scanned(Proceed) [Passed, ";
-    assert!(rt; played.told.starts_with(refused), "{}", played.told);
+    assert!(rt; played.outcomes.starts_with(refused), "{}", played.outcomes);
     let last =
         "768 Stepped(Taken)\n- Entered(3)\n- Scanned(Proceed) [Passed]\n- Left [Absent]\n- Entered(4)\n- Scanned(Waiting(0)) [MustWait]\n";
-    assert!(rt; played.told.ends_with(last), "{}", played.told);
+    assert!(rt; played.outcomes.ends_with(last), "{}", played.outcomes);
     // Each request that scans and leaves makes two steps for each of its keys. The acquire and the last scan make
     // one each.
     assert_eq!(rt; played.counts.as_str(), "[772] 4");

@@ -20,7 +20,7 @@ use std::sync::Wait;
 /// The outcome of a command, and the replies of the request's latest scan or of its leave.
 #[derive(Drop)]
 pub struct PlayedCommand {
-    pub told: CallOutcome,
+    pub outcome: CallOutcome,
     pub replies: Vec<Reply>,
     /// The index of a single call's step in its shard's history, from 0. None if the call made no step or may make
     /// several.
@@ -30,13 +30,13 @@ pub struct PlayedCommand {
 /// The outcome of a call, and the index of its step in its shard's history, if it made exactly one.
 #[derive(Clone, Copy)]
 struct CallReport {
-    told: CallOutcome,
+    outcome: CallOutcome,
     at: Option<u64>,
 }
 
 /// The report of a call that makes no step of its own.
-fn reported(told: CallOutcome) -> CallReport {
-    CallReport { told, at: None }
+fn reported(outcome: CallOutcome) -> CallReport {
+    CallReport { outcome, at: None }
 }
 
 fn keys_of(alloc: Global, accesses: &[(u8, Access)]) -> Option<Vec<(Key, Access)>> {
@@ -69,7 +69,7 @@ fn replies_of(alloc: Global, answers: &[Answer]) -> Option<Vec<Reply>> {
 fn stepped(answered: Result<Answer, StepError>) -> CallReport {
     match answered {
         Ok(answer) => CallReport {
-            told: CallOutcome::Stepped(answer.reply),
+            outcome: CallOutcome::Stepped(answer.reply),
             at: Some(answer.at),
         },
         Err(error) => reported(CallOutcome::NotStepped(error)),
@@ -324,15 +324,29 @@ fn leave<N: Name, T: KeyTable, R: Wait>(
         Ok(Left { pass, answers }) => {
             let seat = Seat::free(pass);
             let replies = replies_of(alloc, &answers)?;
-            let told = CallOutcome::Left;
-            Some((seat, PlayedCommand { told, replies, at }))
+            let outcome = CallOutcome::Left;
+            Some((
+                seat,
+                PlayedCommand {
+                    outcome,
+                    replies,
+                    at,
+                },
+            ))
         }
         Err(LeaveStopped { guard, error }) => {
             let replies = replies_of(alloc, guard.answers());
             let seat = Seat::open(guard);
             let replies = replies?;
-            let told = CallOutcome::NotLeft(error);
-            Some((seat, PlayedCommand { told, replies, at }))
+            let outcome = CallOutcome::NotLeft(error);
+            Some((
+                seat,
+                PlayedCommand {
+                    outcome,
+                    replies,
+                    at,
+                },
+            ))
         }
     }
 }
@@ -353,9 +367,16 @@ fn in_guard<N: Name, T: KeyTable, R: Wait>(
     let said = by_guard(rt, alloc, table, &mut guard, command);
     let replies = replies_of(alloc, guard.answers());
     let seat = Seat::open(guard);
-    let CallReport { told, at } = said?;
+    let CallReport { outcome, at } = said?;
     let replies = replies?;
-    Some((seat, PlayedCommand { told, replies, at }))
+    Some((
+        seat,
+        PlayedCommand {
+            outcome,
+            replies,
+            at,
+        },
+    ))
 }
 
 /// Plays a command on a seat. None if an allocation outside the call fails, or a transaction number is invalid.
@@ -368,9 +389,16 @@ pub fn play<N: Name, T: KeyTable, R: Wait>(
 ) -> Option<(Seat<N>, PlayedCommand)> {
     match seat.into_holds() {
         Holds::Free(pass) => {
-            let (seat, CallReport { told, at }) = by_pass(rt, alloc, table, pass, command)?;
+            let (seat, CallReport { outcome, at }) = by_pass(rt, alloc, table, pass, command)?;
             let replies = Vec::new(alloc);
-            Some((seat, PlayedCommand { told, replies, at }))
+            Some((
+                seat,
+                PlayedCommand {
+                    outcome,
+                    replies,
+                    at,
+                },
+            ))
         }
         Holds::Open(guard) => in_guard(rt, alloc, table, guard, command),
     }

@@ -229,14 +229,25 @@ fn play_through<N: Name, T: KeyTable, R: Wait>(
     refusals: &mut Vec<TableCall>,
 ) -> Option<(Seat<N>, PlayedCommand)> {
     let (seat, line) = play(rt, alloc, table, seat, command)?;
-    if !line.told.is_out_of_memory() {
+    if !line.outcome.is_out_of_memory() {
         return Some((seat, line));
     }
     refusals.push(call_of(&seat, command)).ok()?;
     let (seat, again) = play(rt, alloc, table, seat, command)?;
-    let PlayedCommand { told, replies, at } = again;
+    let PlayedCommand {
+        outcome,
+        replies,
+        at,
+    } = again;
     let replies = joined(command, line.replies, replies)?;
-    Some((seat, PlayedCommand { told, replies, at }))
+    Some((
+        seat,
+        PlayedCommand {
+            outcome,
+            replies,
+            at,
+        },
+    ))
 }
 
 /// A run in progress: the seats, one line for each command so far, the answers to the questions, and the calls

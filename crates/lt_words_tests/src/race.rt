@@ -1,4 +1,4 @@
-//! What do threads get that draw request numbers and commit steps through one book at the same time?
+//! What do threads get when they draw request numbers and commit steps through one book at the same time?
 //!
 //! Two or four workers run at once. Each has a pass of its own, draws its numbers, and makes the first step of 16
 //! shards that no other worker uses. [`drawn_by_two`] and [`drawn_by_four`] return all numbers; [`crate::tests`]

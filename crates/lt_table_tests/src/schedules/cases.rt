@@ -180,13 +180,13 @@ impl ScheduleCaseCounts {
     /// Counts the outcome of a command.
     pub fn add_line(&mut self, before: Before, command: &TableCommand, line: &PlayedCommand) {
         let has_steps = !line.replies.is_empty();
-        if let Some(case) = told_case(before, command, line.told, has_steps) {
+        if let Some(case) = outcome_case(before, command, line.outcome, has_steps) {
             self.add(case);
         }
-        if before.goes_on && matches!(line.told, CallOutcome::Scanned(_)) {
+        if before.goes_on && matches!(line.outcome, CallOutcome::Scanned(_)) {
             self.add(ScheduleCase::ScanOfSeveralKeysGoesOnAfterALet);
         }
-        if before.goes_on && matches!(line.told, CallOutcome::Scanned(Scan::TooLong(_))) {
+        if before.goes_on && matches!(line.outcome, CallOutcome::Scanned(Scan::TooLong(_))) {
             self.add(ScheduleCase::TooLongAfterALet);
         }
     }
@@ -289,13 +289,13 @@ fn call_case(before: Before, command: &TableCommand, is_full: bool) -> ScheduleC
 }
 
 /// The case of a command's outcome. `has_steps` says whether the latest scan or leave made any steps.
-fn told_case(
+fn outcome_case(
     before: Before,
     command: &TableCommand,
-    told: CallOutcome,
+    outcome: CallOutcome,
     has_steps: bool,
 ) -> Option<ScheduleCase> {
-    match told {
+    match outcome {
         CallOutcome::Entered(_) => Some(ScheduleCase::Entered),
         CallOutcome::NotEntered(EnterError::NoKeys) => Some(ScheduleCase::NoKeys),
         CallOutcome::NotEntered(EnterError::NumbersOut) => Some(ScheduleCase::NumbersOut),

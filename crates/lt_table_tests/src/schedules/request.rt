@@ -1,4 +1,4 @@
-//! What does a request do, by a second reading of the rules?
+//! What does a request do, by a second evaluation of the rules?
 //! [`PlainRequest`] is written from `docs/RULES.md`, "A request". Read next `steps`, which makes its key steps,
 //! and `table`, which holds the requests of all passes.
 use crate::schedules::steps::{AskedCall, Steps};
@@ -150,8 +150,8 @@ impl PlainRequest {
         self.replies.clear();
         let list = self.list.clone()?;
         for (key, is_write) in list.iter().skip(self.index) {
-            if let Some(told) = self.visit(steps, max_waits, *key, *is_write)? {
-                return Ok(told);
+            if let Some(outcome) = self.visit(steps, max_waits, *key, *is_write)? {
+                return Ok(outcome);
             }
             self.index = self.index.wrapping_add(1);
         }

@@ -247,7 +247,7 @@ fn add_command(
     let command = random_command(alloc, random, &schedule.second, before.is_open)?;
     let line = schedule.second.play(index, &command)?;
     counts.add_line(before, &command, &line);
-    schedule.rows.push((index, command, line.told)).ok()?;
+    schedule.rows.push((index, command, line.outcome)).ok()?;
     schedule.lines.push(line).ok()?;
     Some(())
 }

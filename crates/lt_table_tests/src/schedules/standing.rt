@@ -1,4 +1,4 @@
-//! The state of a key in plain numbers: as a second reading of the rules gives it, and as a table reports it.
+//! The state of a key in plain numbers: as a second evaluation of the rules gives it, and as a table reports it.
 use lt_plain::{QueuedRequest, QueuedWriter};
 use lt_table::KeyState;
 use lt_test_kit::second::{PlainStand, Time};

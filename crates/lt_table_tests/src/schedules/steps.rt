@@ -1,4 +1,4 @@
-//! Which key steps are made, and what is the state of the keys, by a second reading of the rules?
+//! Which key steps are made, and what is the state of the keys, by a second evaluation of the rules?
 //! [`Steps`] has the record of each key (`lt_test_kit::second::Second`) and every step that was made. It computes
 //! status words, queues and shards from them. Read next `request`, which makes the steps of a request.
 ghost use Rattle.std.specs.Prelude.{◌<◌};

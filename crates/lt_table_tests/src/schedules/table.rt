@@ -1,4 +1,4 @@
-//! What does a table answer to each call, by a second reading of the rules?
+//! What does a table answer to each call, by a second evaluation of the rules?
 //! [`SecondTable`] plays the commands of several passes, with none of the code of `lt_table`. Read next `request`,
 //! which has the rules of a request, and `steps`, which makes the key steps.
 ghost use Rattle.std.specs.Prelude.{◌<◌};
@@ -197,15 +197,23 @@ impl SecondTable {
     /// schedule has.
     pub fn play(&mut self, index: usize, command: &TableCommand) -> Option<PlayedCommand> {
         let Some(mut request) = self.requests.remove(&index) else {
-            let (told, at) = self.by_pass(index, command)?;
+            let (outcome, at) = self.by_pass(index, command)?;
             let replies: Vec<Reply> = Vec::new(self.alloc);
-            return Some(PlayedCommand { told, replies, at });
+            return Some(PlayedCommand {
+                outcome,
+                replies,
+                at,
+            });
         };
-        let (told, at) = self.by_request(index, &mut request, command)?;
+        let (outcome, at) = self.by_request(index, &mut request, command)?;
         let replies = Vec::from_slice(self.alloc, request.replies()).ok()?;
-        if told != CallOutcome::Left {
+        if outcome != CallOutcome::Left {
             self.requests.insert(index, request).ok()?;
         }
-        Some(PlayedCommand { told, replies, at })
+        Some(PlayedCommand {
+            outcome,
+            replies,
+            at,
+        })
     }
 }

@@ -1,4 +1,4 @@
-//! Do both tables agree with a second reading of the rules, also when an allocation fails?
+//! Do both tables agree with a second evaluation of the rules, also when an allocation fails?
 //! Each seed gives one schedule. It is played on a linked and on a plain table, and every outcome, answer and
 //! history is compared with what the schedule expects. Read next `schedule`.
 use crate::linked::run;
@@ -72,7 +72,7 @@ fn lets_of(alloc: Global, entry: &Entry) -> Result<Vec<Let>, AllocError> {
 /// Whether the line has these replies. After a scan that ran out of memory and was made again, the guard has only
 /// the replies of the second scan, until it scans again or leaves.
 fn has_replies(ran: &TableRun, line: &PlayedCommand, wanted: &[Reply]) -> bool {
-    let is_aside = match line.told {
+    let is_aside = match line.outcome {
         CallOutcome::Scanned(_) | CallOutcome::NotScanned(ScanError::HistoryFull) => false,
         CallOutcome::NotScanned(ScanError::WaitsOut)
         | CallOutcome::Left
@@ -93,7 +93,11 @@ fn compare_lines<R: Abort>(
     assert_eq!(rt; ran.lines.len(), schedule.lines.len());
     let mut number = 0u64;
     for (line, wanted) in ran.lines.iter().zip(&schedule.lines) {
-        assert_eq!(rt; line.told, wanted.told, "seed {seed}, command {number}");
+        assert_eq!(rt;
+            line.outcome,
+            wanted.outcome,
+            "seed {seed}, command {number}"
+        );
         assert_eq!(rt;
             line.at,
             wanted.at,
@@ -166,11 +170,11 @@ fn compare_standing<R: Abort>(
     state: &KeyState,
     wanted: &Standing,
 ) -> Result<(), Fail> {
-    let mut told = standing_of(alloc, state);
-    if told.is_err() {
-        told = standing_of(alloc, state);
+    let mut found = standing_of(alloc, state);
+    if found.is_err() {
+        found = standing_of(alloc, state);
     }
-    assert_eq!(rt; told?, *wanted, "how a key stands, seed {seed}");
+    assert_eq!(rt; found?, *wanted, "how a key stands, seed {seed}");
     Ok(())
 }
 

@@ -42,14 +42,14 @@ fn a_let_before_the_sleep_is_not_missed(rt: HostRuntime) -> Result<(), Fail> {
     Ok(())
 }
 
-/// One step lets a writer and two readers through. The waker is told of each let once, with its pass, request
+/// One step lets a writer and two readers through. The waker is called once for each let, with its pass, request
 /// number and wait number, and each poll after that reports the let.
 #[test]
 fn a_waker_is_called_once_for_each_let(rt: HostRuntime) -> Result<(), Fail> {
     let woken = wake_three(&rt, rt.alloc()).ok_or("the lets")?;
     assert_eq!(rt; woken.early, 0);
     assert_eq!(rt; woken.count, 3);
-    assert_eq!(rt; woken.told.as_slice(), [111, 221, 331].as_slice());
+    assert_eq!(rt; woken.calls.as_slice(), [111, 221, 331].as_slice());
     let polls: &[Poll] = &[Poll::Through, Poll::Through, Poll::Through];
     assert_eq!(rt; woken.polls.as_slice(), polls);
     Ok(())

@@ -1,5 +1,5 @@
-//! Is a waker told of each let once?
-//! [`wake_three`] opens a table with a waker that notes what it is told. Three requests wait at a key, and one
+//! Is a waker called once for each let?
+//! [`wake_three`] opens a table with a waker that notes its calls. Three requests wait at a key, and one
 //! step lets all of them through. Read next `tests`.
 ghost use Rattle.std.specs.Prelude.{◌≡◌};
 
@@ -15,15 +15,15 @@ use std::marker::Brand;
 use std::sync::Wait;
 use std::sync::atomic::{AtomicU64, AtomicUsize, Ordering};
 
-/// What a waker was told: how often, and for the first four times the pass, the request number and the wait
+/// The calls of a waker: how many, and for the first four times the pass, the request number and the wait
 /// number, as one number of three digits.
 #[derive(Drop)]
 pub struct WakerNotes {
     count: AtomicUsize,
-    told: [AtomicU64; 4],
+    calls: [AtomicU64; 4],
 }
 
-/// A waker that notes what it is told.
+/// A waker that notes its calls.
 #[derive(Drop)]
 struct Noting<'a> {
     notes: &'a WakerNotes,
@@ -32,8 +32,8 @@ struct Noting<'a> {
 impl<'a> Waker for Noting<'a> {
     fn wake(&self, pass: u32, ticket: Ticket) {
         let index = self.notes.count.fetch_add(1, Ordering::SeqCst);
-        if let Some(told) = self.notes.told.get(index) {
-            told.store(digits_of(pass, ticket), Ordering::SeqCst);
+        if let Some(call) = self.notes.calls.get(index) {
+            call.store(digits_of(pass, ticket), Ordering::SeqCst);
         }
     }
 }
@@ -51,7 +51,7 @@ impl WakerNotes {
     fn new() -> Self {
         WakerNotes {
             count: AtomicUsize::new(0),
-            told: [
+            calls: [
                 AtomicU64::new(0),
                 AtomicU64::new(0),
                 AtomicU64::new(0),
@@ -60,23 +60,23 @@ impl WakerNotes {
         }
     }
 
-    /// All that the waker was told, the smallest first.
+    /// All calls of the waker, the smallest first.
     fn all(&self, alloc: Global) -> Option<Vec<u64>> {
         let mut all = Vec::new(alloc);
-        for told in self.told.iter().take(self.count.load(Ordering::SeqCst)) {
-            all.push(told.load(Ordering::SeqCst)).ok()?;
+        for call in self.calls.iter().take(self.count.load(Ordering::SeqCst)) {
+            all.push(call.load(Ordering::SeqCst)).ok()?;
         }
         all.sort().ok()?;
         Some(all)
     }
 }
 
-/// The results of a run: how often the waker was called before the lock was freed, what it was told by the end and
-/// how often, and what the requests then polled.
+/// The results of a run: how often the waker was called before the lock was freed, all its calls, their number, and
+/// what the requests then polled.
 #[derive(Drop)]
 pub struct WokenCallers {
     pub early: usize,
-    pub told: Vec<u64>,
+    pub calls: Vec<u64>,
     pub count: usize,
     pub polls: Vec<Poll>,
 }
@@ -179,7 +179,7 @@ fn wake_on<N: Name, T: KeyTable, W: Waker, R: Wait>(
     free(rt, table, holder, &key, txn)?;
     Some(WokenCallers {
         early,
-        told: notes.all(alloc)?,
+        calls: notes.all(alloc)?,
         count: notes.count.load(Ordering::SeqCst),
         polls: poll_all(alloc, table, waiting)?,
     })
