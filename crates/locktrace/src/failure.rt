@@ -13,7 +13,7 @@ use thiserror::Error;
 #[derive(Clone, Copy, Debug, PartialEq, Eq, Error)]
 pub enum TraceFailure {
     /// The words after the program's name are not a command line of the program.
-    #[error("the words are no command line; see locktrace --help")]
+    #[error("command line refused; see locktrace --help")]
     Words,
     /// The first faulty line, counted from 1, and the name of the first fault in it.
     #[error("line {line}: {name}")]
