@@ -1,20 +1,22 @@
 -- A stream is read line by line and given to a checker.
 use Rattle.std.proofs.Common.{◌≡◌, ℕ, ◌+◌, ◌≤◌, ◌⊎◌, Bool, true, false, cond, eqb, List, [], ◌∷◌, ◌++◌, length, drop, Option, Some, None, Result, Ok, Err, refl, sym, ap, subst, ◌∙◌, inl, inr, append_assoc, arith, length-append}
-use Rattle.std.specs.Prelude.{IfSome, IfOk, IfErr}
+use Rattle.std.specs.Prelude.{IfSome, IfNone, IfOk, IfErr}
 use Rattle.std.specs.Io.{StartsWith}
 use Rattle.std.specs.Io.BufRead.{take_through, drop_through, DropsThrough}
 use Rattle.std.specs.Io.KnownBytes.{Consumes, IsAtEnd, Keeps}
+use Rattle.std.proofs.lemmas.Bool.{eqb-true}
 use Rattle.std.proofs.lemmas.List.{append-nil, take-append-drop}
+use Rattle.lt_history.specs.Cursor.{spot}
 use Rattle.lt_history.specs.declared.checker.Report.{Report}
 use Rattle.lt_history.specs.declared.checker.CheckError.{CheckError}
 use Rattle.lt_history.specs.declared.checker.CheckError.TheVariants as checks
 use Rattle.lt_history.specs.declared.error.Fault.TheVariants.{Header}
 use Rattle.lt_history.specs.declared.pieces.Checker.{Checker}
-use Rattle.lt_history.specs.Pieces.{IsCountable, HasTaken, HasBegun, LacksHeader, MovesOver, TakesLines, RefusesFrom, GivesByRules}
+use Rattle.lt_history.specs.Pieces.{IsCountable, HasTaken, HasBegun, LacksHeader, MovesOver, TakesLines, RefusesFrom, GivesByRules, NoLineComesNext}
 use Rattle.lt_history.specs.Verdict.{Judges}
 use Rattle.lt_history.specs.Version.{header_of}
 use Rattle.lt_history.proofs.Verdicts.{is_said, legal_is_said, fault_is_said}
-use Rattle.lt_audit.specs.Audit.{IsLineRead, IsBeginning, IsReading, RefusesPending, EndsWith, EndsAs, IsNoVerdict, EndsReading, EndsReadingAs, IsAudited, IsAuditedAs, stopped, IsSplit, IsCallWithRecord, IsExplained}
+use Rattle.lt_audit.specs.Audit.{EndsLine, StopsAtLineEnd, IsNoLine, IsAfterLine, IsLineRead, IsBeginning, IsReading, RefusesPending, EndsWith, EndsAs, IsNoVerdict, EndsReading, EndsReadingAs, IsAudited, IsAuditedAs, stopped, IsSplit, IsCallWithRecord, IsExplained}
 use Rattle.lt_audit.specs.declared.explained.Explained.{Explained}
 use Rattle.lt_audit.specs.declared.error.AuditError.{AuditError}
 use Rattle.lt_audit.specs.declared.error.AuditError.TheVariants as errors
@@ -36,6 +38,30 @@ none_through (x ∷ xs) e = absurd (by_byte (eqb x 10) e)
     by_byte : (b : Bool) → length (cond b (x ∷ []) (x ∷ take_through 10 xs)) ≡ 0 → ⊥
     by_byte true e = omega (arith, e)
     by_byte false e = omega (arith, e)
+
+-- What a read up to a line end takes ends with one, or nothing is left.
+ends_or_all : (xs : List ℕ) → EndsLine (take_through 10 xs) ⊎ (drop_through 10 xs ≡ [])
+ends_or_all [] = inr refl
+ends_or_all (x ∷ xs) = by_byte (eqb x 10) refl (ends_or_all xs)
+  where
+    further : EndsLine (take_through 10 xs) ⊎ (drop_through 10 xs ≡ []) → EndsLine (x ∷ take_through 10 xs) ⊎ (drop_through 10 xs ≡ [])
+    further (inl e) = inl (x ∷ e.0, ap (λ (t : List ℕ). x ∷ t) e.1)
+    further (inr e) = inr e
+
+    by_byte : (b : Bool) → eqb x 10 ≡ b → EndsLine (take_through 10 xs) ⊎ (drop_through 10 xs ≡ []) → EndsLine (cond b (x ∷ []) (x ∷ take_through 10 xs)) ⊎ (cond b xs (drop_through 10 xs) ≡ [])
+    by_byte true is more = inl ([], ap (λ (y : ℕ). y ∷ []) (eqb-true x 10 is))
+    by_byte false is more = further more
+
+ends_more : (old bytes new : List ℕ) → new ≡ old ++ bytes → EndsLine bytes → EndsLine new
+ends_more old bytes new grown e = (old ++ e.0, grown ∙ (ap (λ (t : List ℕ). old ++ t) e.1 ∙ sym (append_assoc old e.0 (10 ∷ []))))
+
+pub line_stops : (source now : Option (List ℕ)) (old new : List ℕ) → IfSome source (λ xs. new ≡ old ++ take_through 10 xs) → DropsThrough source now 10 → StopsAtLineEnd source now new
+line_stops None now old new known drops = tt
+line_stops (Some xs) now old new known drops = by_end (ends_or_all xs)
+  where
+    by_end : EndsLine (take_through 10 xs) ⊎ (drop_through 10 xs ≡ []) → EndsLine new ⊎ IsAtEnd now
+    by_end (inl e) = inl (ends_more old (take_through 10 xs) new known e)
+    by_end (inr e) = inr (subst IsAtEnd (sym drops) e)
 
 pub line_read : (source now : Option (List ℕ)) (old new : List ℕ) (n : ℕ) → StartsWith new old → length new ≡ length old + n → IfSome source (λ xs. new ≡ old ++ take_through 10 xs) → DropsThrough source now 10 → IsLineRead source now old new n
 line_read None now old new n starts size known drops = record {
@@ -227,16 +253,45 @@ rest_is_audited_as source now c pending (Err e) h k = k source h
 
 -- ---- one line
 
-pub explained : (source now : Option (List ℕ)) (c : Checker) (pending : List ℕ) (x : Explained) → IsReading source now c pending → IsSplit pending x.line.items → IfSome x.asked (λ a. IsCallWithRecord c x.line.items a.0 a.1) → IfSome x.expected (GivesByRules c x.line.items)
-    → IsExplained source x
-explained source now c pending x h split asked given = by_source source now h.taken split
-  where
-    with_rest : (s : Option (List ℕ)) (after : List ℕ) → IfSome s (λ all. all ≡ h.before ++ (x.line.items ++ after)) → IsExplained s x
-    with_rest s after is_given = record { checker = c; before = h.before; has_taken = h.has_taken; after = after; is_given = is_given; asked = asked; given = given }
+-- What a line is, beside where it stands in the text.
+pub record Findings (c : Checker) (number : ℕ) (x : Explained) : Type 0 where
+  pub numbered : c.report.steps + 2 ≡ number
+  pub asked : IfSome x.asked (λ a. IsCallWithRecord c x.line.items a.0 a.1)
+  pub unasked : IfNone x.asked (IsNoLine x.line.items)
+  pub given : IfSome x.expected (GivesByRules c x.line.items)
+  pub ungiven : IfNone x.expected (NoLineComesNext c.report.version (spot c.cursor) x.line.items)
 
-    by_source : (s n : Option (List ℕ)) → Consumes s n (h.before ++ pending) → IsSplit pending x.line.items → IsExplained s x
-    by_source None n k split = with_rest None [] tt
-    by_source (Some xs) None k split = absurd k
-    by_source (Some xs) (Some ys) k (inl same) = with_rest (Some xs) ys (k ∙ (append_assoc h.before pending ys ∙ ap (λ (t : List ℕ). h.before ++ (t ++ ys)) same))
-    by_source (Some xs) (Some ys) k (inr cut) =
-        with_rest (Some xs) (10 ∷ ys) (k ∙ (append_assoc h.before pending ys ∙ ap (λ (t : List ℕ). h.before ++ t) (ap (λ (t : List ℕ). t ++ ys) cut ∙ append_assoc x.line.items (10 ∷ []) ys)))
+pub explained : (source mid now : Option (List ℕ)) (c : Checker) (old pending : List ℕ) (n number : ℕ) (x : Explained) → IsReading source mid c old → IsLineRead mid now old pending n → StopsAtLineEnd mid now pending → IsSplit pending x.line.items → Findings c number x
+    → IsExplained source number x
+unfolding reads_line
+explained source mid now c old pending n number x before r stops split found = by_source source mid now before.taken (reads_line source mid now c old pending n before r).taken stops split
+  where
+    with_rest : (s : Option (List ℕ)) (after : List ℕ) → IfSome s (λ all. (all ≡ before.before ++ (x.line.items ++ after)) × IsAfterLine after) → IsExplained s number x
+    with_rest s after is_given = record {
+      checker = c;
+      before = before.before;
+      has_taken = before.has_taken;
+      numbered = found.numbered;
+      after = after;
+      is_given = is_given;
+      asked = found.asked;
+      unasked = found.unasked;
+      given = found.given;
+      ungiven = found.ungiven;
+    }
+
+    nothing_left : (ys : List ℕ) → EndsLine pending ⊎ (ys ≡ []) → (EndsLine pending → ⊥) → ys ≡ []
+    nothing_left ys (inl e) open_end = absurd (open_end e)
+    nothing_left ys (inr e) open_end = e
+
+    by_source : (s m l : Option (List ℕ)) → Consumes s m (before.before ++ old) → Consumes s l (before.before ++ pending) → StopsAtLineEnd m l pending → IsSplit pending x.line.items → IsExplained s number x
+    by_source None m l j k stops split = with_rest None [] tt
+    by_source (Some xs) None l j k stops split = absurd j
+    by_source (Some xs) (Some zs) None j k stops split = absurd k
+    by_source (Some xs) (Some zs) (Some ys) j k stops (inl whole) =
+        let text : xs ≡ before.before ++ (x.line.items ++ ys) = k ∙ (append_assoc before.before pending ys ∙ ap (λ (t : List ℕ). before.before ++ (t ++ ys)) whole.0) in
+        with_rest (Some xs) [] (subst (λ (t : List ℕ). xs ≡ before.before ++ (x.line.items ++ t)) (nothing_left ys stops whole.1) text, tt)
+    by_source (Some xs) (Some zs) (Some ys) j k stops (inr cut) =
+        let text : xs ≡ before.before ++ (x.line.items ++ (10 ∷ ys)) =
+        k ∙ (append_assoc before.before pending ys ∙ ap (λ (t : List ℕ). before.before ++ t) (ap (λ (t : List ℕ). t ++ ys) cut ∙ append_assoc x.line.items (10 ∷ []) ys)) in
+        with_rest (Some xs) (10 ∷ ys) (text, refl)

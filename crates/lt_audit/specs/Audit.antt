@@ -1,11 +1,11 @@
 -- What the check of a stream says of the text that the stream gives.
-use Rattle.std.specs.Prelude.{ℕ, ◌≡◌, ◌⊎◌, ◌≤◌, List, ◌++◌, length, take, Option, Result, Ok, Err, IfSome, ◌∷◌, []}
+use Rattle.std.specs.Prelude.{ℕ, ◌≡◌, ◌⊎◌, ◌+◌, ◌≤◌, List, ◌++◌, length, take, Option, Result, Ok, Err, IfSome, IfNone, ◌∷◌, []}
 use Rattle.std.specs.Io.KnownBytes.{Consumes, IsAtEnd}
 use Rattle.lt_history.specs.declared.checker.Report.{Report}
 use Rattle.lt_history.specs.declared.checker.CheckError.{CheckError}
 use Rattle.lt_history.specs.declared.checker.CheckError.TheVariants as checks
 use Rattle.lt_history.specs.declared.pieces.Checker.{Checker}
-use Rattle.lt_history.specs.Pieces.{IsCountable, HasTaken, RefusesFrom, GivesByRules, SaysAtEnd, AcceptsAtEnd, RefusesAtEnd}
+use Rattle.lt_history.specs.Pieces.{IsCountable, HasTaken, RefusesFrom, GivesByRules, NoLineComesNext, SaysAtEnd, AcceptsAtEnd, RefusesAtEnd}
 use Rattle.lt_plain.specs.declared.call.Call.{Call}
 use Rattle.lt_plain.specs.Rules.{Record}
 use Rattle.lt_history.specs.Cursor.{spot}
@@ -25,6 +25,14 @@ pub record IsLineRead (source now : Option (List ℕ)) (old new : List ℕ) (n :
   pub count : length bytes ≡ n
   pub taken : Consumes source now bytes
   pub at_end : n ≡ 0 → IsAtEnd source
+
+-- The bytes end with a line end.
+abbrev pub EndsLine : List ℕ → Type 0
+EndsLine bytes = (line : List ℕ) × (bytes ≡ line ++ 10 ∷ [])
+
+-- A read stopped at a line end, or at the end of the source.
+abbrev pub StopsAtLineEnd : Option (List ℕ) → Option (List ℕ) → List ℕ → Type 0
+StopsAtLineEnd source now new = IfSome source (λ xs. EndsLine new ⊎ IsAtEnd now)
 
 -- A read gave the first n bytes of the chunk. It gave none only at the end.
 pub record IsChunkRead (source now : Option (List ℕ)) (chunk : List ℕ) (n : ℕ) : Type 0 where
@@ -102,7 +110,16 @@ EndsReadingAs now c pending e = (source : Option (List ℕ)) → IsReading sourc
 
 -- The line is the bytes without the line end at their end, if they have one.
 abbrev pub IsSplit : List ℕ → List ℕ → Type 0
-IsSplit bytes line = (bytes ≡ line) ⊎ (bytes ≡ line ++ 10 ∷ [])
+IsSplit bytes line = ((bytes ≡ line) × (EndsLine bytes → ⊥)) ⊎ (bytes ≡ line ++ 10 ∷ [])
+
+-- No line has this text, given without its line end.
+abbrev pub IsNoLine : List ℕ → Type 0
+IsNoLine bytes = (p : Parts) → IsLine p → line_text p ≡ bytes ++ 10 ∷ [] → ⊥
+
+-- These bytes come after a line: a line end, or none.
+abbrev pub IsAfterLine : List ℕ → Type 0
+IsAfterLine [] = Unit {0}
+IsAfterLine (b ∷ bs) = b ≡ 10
 
 -- The line, given without its line end, has this call, and this is the record of its key before it.
 pub record IsCallWithRecord (c : Checker) (bytes : List ℕ) (call : Call) (state : Record) : Type 0 where
@@ -112,12 +129,17 @@ pub record IsCallWithRecord (c : Checker) (bytes : List ℕ) (call : Call) (stat
   pub call_is : call ≡ parts.step.call
   pub state_is : state ≡ record_before (spot c.cursor) parts.key
 
--- The source gives legal lines and then this line, and this is what the rules give for its call there.
-pub record IsExplained (source : Option (List ℕ)) (x : Explained) : Type 0 where
+-- The source gives legal lines and then this line, which has this number, counted from 1. The record is what its call
+-- finds, and the reply and the tickets are what the rules give for it. Without a call, the line is no line; without a
+-- reply, no line with this text may come next.
+pub record IsExplained (source : Option (List ℕ)) (number : ℕ) (x : Explained) : Type 0 where
   pub checker : Checker
   pub before : List ℕ
   pub has_taken : IsCountable before → HasTaken checker before
+  pub numbered : checker.report.steps + 2 ≡ number
   pub after : List ℕ
-  pub is_given : IfSome source (λ all. all ≡ before ++ (x.line.items ++ after))
+  pub is_given : IfSome source (λ all. (all ≡ before ++ (x.line.items ++ after)) × IsAfterLine after)
   pub asked : IfSome x.asked (λ a. IsCallWithRecord checker x.line.items a.0 a.1)
+  pub unasked : IfNone x.asked (IsNoLine x.line.items)
   pub given : IfSome x.expected (GivesByRules checker x.line.items)
+  pub ungiven : IfNone x.expected (NoLineComesNext checker.report.version (spot checker.cursor) x.line.items)

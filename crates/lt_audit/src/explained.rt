@@ -3,9 +3,10 @@
 //! [`explain`] reads a text up to a line that a check refused. It gives the record of the line's key before it, the
 //! reply and the lets that the rules give for its call, and the key's latest lines. Read next: `rule.rt`, which names
 //! the row of docs/RULES.md that applies.
-ghost use Rattle.std.specs.Prelude.{◌≡◌, IfOk, IfErr, IfSome};
-ghost use Rattle.lt_history.specs.Pieces.{GivesByRules};
-ghost use Rattle.lt_audit.specs.Audit.{IsReading, IsAuditedAs, IsExplained, IsCallWithRecord, IsSplit};
+ghost use Rattle.std.specs.Prelude.{◌≡◌, IfOk, IfErr, IfSome, IfNone};
+ghost use Rattle.lt_history.specs.Cursor.{spot};
+ghost use Rattle.lt_history.specs.Pieces.{GivesByRules, NoLineComesNext};
+ghost use Rattle.lt_audit.specs.Audit.{IsReading, IsAuditedAs, IsExplained, IsCallWithRecord, IsNoLine, IsSplit};
 
 use crate::error::AuditError;
 use crate::stream::{begin, read_line, take_pending};
@@ -72,6 +73,7 @@ fn asked(
     line: &[u8],
 ) -> Result<Option<(Call, KeyState)>, AuditError>
     ensures ok { IfOk result (λ x. IfSome x (λ a. IsCallWithRecord checker.now line.now a.0 a.1)) }
+    ensures none { IfOk result (λ x. IfNone x (IsNoLine line.now)) }
     ensures err { IfErr result (λ e. e ≡ AuditError.Memory) }
 {
     match lt_history::read_line(alloc, line) {
@@ -84,9 +86,11 @@ fn asked(
     }
 }
 
-/// What the rules give for the call of this line, if it comes next.
+/// What the rules give for the call of this line, if it may come next.
 fn expected(alloc: Global, checker: Checker, line: &[u8]) -> Result<Option<Expected>, AuditError>
     ensures ok { IfOk result (λ x. IfSome x (GivesByRules checker line.now)) }
+    ensures none { IfOk result (λ x. IfNone x
+        (NoLineComesNext checker.report.version (spot checker.cursor) line.now)) }
     ensures err { IfErr result (λ e. e ≡ AuditError.Memory) }
 {
     match checker.expected(alloc, line) {
@@ -97,14 +101,14 @@ fn expected(alloc: Global, checker: Checker, line: &[u8]) -> Result<Option<Expec
 }
 
 /// Reads the text up to the line with this number, counted from 1, and says what the rules give for it. The lines
-/// before it must be legal, as they are if a check refused this one. `Read` also means that there is no such line of a
+/// before it must be legal, as they are if a check refused this one; an error of the check is answered otherwise. `Read` also means that there is no such line of a
 /// step: the number is below 2, or the text has fewer lines.
 pub fn explain<R: BufRead>(
     alloc: Global,
     reader: &mut R,
     number: usize,
 ) -> Result<Explained, AuditError>
-    ensures ok { IfOk result (IsExplained (R.remaining reader.old)) }
+    ensures ok { IfOk result (IsExplained (R.remaining reader.old) number) }
     ensures err { IfErr result (IsAuditedAs (R.remaining reader.old)) }
 {
     if number < 2 {
@@ -126,6 +130,10 @@ pub fn explain<R: BufRead>(
         note_line(alloc, &mut recent, &line, latest_index(&checker))?;
     }
     if read_line(reader, &mut pending)? == 0 {
+        return Err(AuditError::Read);
+    }
+    // The checker counts the lines too: the two counts agree.
+    if checker.report().steps != number - 2 {
         return Err(AuditError::Read);
     }
     let line = Vec::from_slice(alloc, without_end(&pending))?;

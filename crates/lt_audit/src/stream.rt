@@ -3,9 +3,9 @@
 //! [`check_stream`] reads in chunks and gives the whole lines of each to a checker of `lt_history`. It stops at the
 //! first fault. [`read_line`] and [`take_pending`] go line by line, as the explanation of a line does. Read next:
 //! `specs/Audit.antt`, `chunks.rt`, and `lt_history/src/pieces.rt` for the checker.
-ghost use Rattle.std.specs.Prelude.{◌≡◌, ◌+◌, ◌≤◌, length, IfOk, IfErr, Ok, Err};
+ghost use Rattle.std.specs.Prelude.{◌≡◌, ◌+◌, ◌≤◌, length, OnOk, IfOk, IfErr, Ok, Err};
 ghost use Rattle.lt_history.specs.Pieces.{TakesLines, HasBegun, LacksHeader};
-ghost use Rattle.lt_audit.specs.Audit.{IsLineRead, IsBeginning, IsReading, RefusesPending, EndsWith, EndsAs, EndsReading, EndsReadingAs, IsAudited, IsAuditedAs, IsNoVerdict, stopped};
+ghost use Rattle.lt_audit.specs.Audit.{IsLineRead, StopsAtLineEnd, IsBeginning, IsReading, RefusesPending, EndsWith, EndsAs, EndsReading, EndsReadingAs, IsAudited, IsAuditedAs, IsNoVerdict, stopped};
 
 use crate::chunks::{chunk_buffer, read_chunk, take_after};
 use crate::error::{AuditError, stopped};
@@ -24,6 +24,8 @@ pub(crate) fn read_line<R: BufRead>(
 ) -> Result<usize, AuditError>
     ensures ok { IfOk result
         (IsLineRead (R.remaining reader.old) (R.remaining reader.new) pending.old.items pending.new.items) }
+    ensures stops { OnOk result
+        (StopsAtLineEnd (R.remaining reader.old) (R.remaining reader.new) pending.new.items) }
     ensures err { IfErr result IsNoVerdict }
 {
     match reader.read_until(b'\n', pending) {

@@ -95,6 +95,14 @@ key_again key h = ap (λ (o : Option IdError). if_no_fault o key) (no_key_fault 
 key_field : IsField (List ℕ) key_if_legal (λ key. key) IsKey
 key_field = record { takes = key_takes; again = key_again; plain = λ key h. plain_key key h.each }
 
+step_joined : (words after_index after_pass after_call after_equals rest : List (List ℕ)) (s : LineStep) → words ≡ decimal s.index ∷ after_index → after_index ≡ decimal s.pass ∷ after_pass → after_pass ≡ call_words s.call ++ after_call → after_call ≡ codes "=" ∷ after_equals
+    → after_equals ≡ reply_words s.reply ++ rest → words ≡ step_words s ++ rest
+step_joined words after_index after_pass after_call after_equals rest s index pass call equals reply =
+    let last : after_call ≡ (codes "=" ∷ reply_words s.reply) ++ rest = equals ∙ ap (λ (ws : List (List ℕ)). codes "=" ∷ ws) reply in
+    let tail : after_pass ≡ (call_words s.call ++ codes "=" ∷ reply_words s.reply) ++ rest =
+    call ∙ (ap (λ (ws : List (List ℕ)). call_words s.call ++ ws) last ∙ sym (append_assoc (call_words s.call) (codes "=" ∷ reply_words s.reply) rest)) in
+    index ∙ (ap (λ (ws : List (List ℕ)). decimal s.index ∷ ws) pass ∙ ap (λ (ws : List (List ℕ)). decimal s.index ∷ decimal s.pass ∷ ws) tail)
+
 step_takes : (words : List (List ℕ)) (s : LineStep) (rest : List (List ℕ)) → step_at words ≡ Some (s, rest) → (words ≡ step_words s ++ rest) × IsReadStep s
 unfolding step_at
 step_takes words s rest e =
@@ -115,12 +123,9 @@ step_takes words s rest e =
     let v = call_takes b.0.1 c.0.0 c.0.1 c.1 in
     let w = field_takes equals_field c.0.1 d.0.0 d.0.1 d.1 in
     let x = reply_takes d.0.1 f.0.0 f.0.1 f.1 in
-    let tail : b.0.1 ≡ (call_words c.0.0 ++ codes "=" ∷ reply_words f.0.0) ++ f.0.1 =
-    v.0 ∙ (ap (λ (ws : List (List ℕ)). call_words c.0.0 ++ ws) (w.0 ∙ ap (λ (ws : List (List ℕ)). codes "=" ∷ ws) x.0) ∙ sym (append_assoc (call_words c.0.0) (codes "=" ∷ reply_words f.0.0) f.0.1)) in
-    let all : words ≡ step_words made ++ f.0.1 =
-    t.0 ∙ (ap (λ (ws : List (List ℕ)). decimal a.0.0 ∷ ws) u.0 ∙ ap (λ (ws : List (List ℕ)). decimal a.0.0 ∷ decimal b.0.0 ∷ ws) tail) in
+    let all : words ≡ step_words made ++ f.0.1 = step_joined words a.0.1 b.0.1 c.0.1 d.0.1 f.0.1 made t.0 u.0 v.0 w.0 x.0 in
     let is_step : IsReadStep made = record { index = t.1; pass = (u.1.0, omega (arith, u.1.1)); call = v.1; reply = x.1; fits = q.0 } in
-    subst (λ (y : LineStep × List (List ℕ)). (words ≡ step_words y.0 ++ y.1) × IsReadStep y.0) q.1 (all, is_step)
+    subst (λ (y : LineStep × List (List ℕ)). (words ≡ step_words y.0 ++ y.1) × IsReadStep y.0) {x = (made, f.0.1)} q.1 (all, is_step)
 
 regroup : (s : LineStep) (rest : List (List ℕ)) → (call_words s.call ++ codes "=" ∷ reply_words s.reply) ++ rest ≡ call_words s.call ++ (codes "=" ∷ (reply_words s.reply ++ rest))
 regroup s rest = append_assoc (call_words s.call) (codes "=" ∷ reply_words s.reply) rest
@@ -134,6 +139,10 @@ plain_more : (a b : List (List ℕ)) → ArePlain a → ArePlain b → ArePlain 
 plain_more [] b p q = q
 plain_more (w ∷ ws) b p q = (p.0, plain_more ws b p.1 q)
 
+parts_joined : (words after_key after_step : List (List ℕ)) (p : Parts) → words ≡ p.key ∷ after_key → after_key ≡ step_words p.step ++ after_step → after_step ≡ lets_words p.tickets → words ≡ line_words p
+parts_joined words after_key after_step p key step lets =
+    key ∙ (ap (λ (ws : List (List ℕ)). p.key ∷ ws) step ∙ ap (λ (ws : List (List ℕ)). p.key ∷ (step_words p.step ++ ws)) lets)
+
 pub parts_takes : (words : List (List ℕ)) (p : Parts) → parts_at words ≡ Some p → (words ≡ line_words p) × IsLine p
 unfolding parts_at
 parts_takes words p e =
@@ -145,9 +154,8 @@ parts_takes words p e =
     let u = step_takes a.0.1 b.0.0 b.0.1 b.1 in
     let v = lets_takes b.0.1 c.0 c.1 in
     let is_line : IsLine made = record { key = t.1; step = u.1; tickets = v.1 } in
-    let all : words ≡ line_words made =
-    t.0 ∙ (ap (λ (ws : List (List ℕ)). a.0.0 ∷ ws) u.0 ∙ ap (λ (ws : List (List ℕ)). a.0.0 ∷ (step_words b.0.0 ++ ws)) v.0) in
-    subst (λ (x : Parts). (words ≡ line_words x) × IsLine x) (same_Some made p c.2) (all, is_line)
+    let all : words ≡ line_words made = parts_joined words a.0.1 b.0.1 made t.0 u.0 v.0 in
+    subst (λ (x : Parts). (words ≡ line_words x) × IsLine x) {x = made} (same_Some made p c.2) (all, is_line)
 
 pub parts_again : (p : Parts) → IsLine p → parts_at (line_words p) ≡ Some p
 unfolding parts_at

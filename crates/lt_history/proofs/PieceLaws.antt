@@ -1,5 +1,6 @@
 -- A checker takes a text piece by piece, and two checkers are joined.
 use Rattle.std.proofs.Common.{◌≡◌, ◌≢◌, ℕ, ◌+◌, ◌<◌, ◌≤◌, ◌^◌, false, cond, eqb, ◌==◌, map, List, [], ◌∷◌, ◌++◌, length, Option, Some, None, Result, Ok, Err, refl, sym, ap, subst, ◌∙◌, inl, inr, append_assoc, arith}
+use Rattle.std.specs.Prelude.{IfErr}
 use Rattle.std.specs.List.{flat_map, AllByRecursion}
 use Rattle.std.specs.Str.{bytes_eq}
 use Rattle.std.proofs.lemmas.List.{append-nil, length-append, append_cancel_left}
@@ -17,13 +18,13 @@ use Rattle.lt_history.specs.declared.error.HistoryLineError.TheVariants as refus
 use Rattle.lt_history.specs.declared.pieces.Checker.{Checker}
 use Rattle.lt_history.specs.Cursor.{spot, latest_key}
 use Rattle.lt_history.specs.Histories.{precedes}
-use Rattle.lt_history.specs.Lines.{Parts, line_text}
-use Rattle.lt_history.specs.Text.{Spot, IsOf, start, text_by, spot_after, spot_from, outcome, index_after, Follows, AreLegal, AreLegalFrom, key_count, HasFault, HasFaultOr, FailsAt, Fails}
+use Rattle.lt_history.specs.Lines.{Parts, IsLine, line_text}
+use Rattle.lt_history.specs.Text.{Spot, IsOf, IsOrdered, HasItsIndex, IsShapelessIn, MayNotComeNext, start, text_by, spot_after, spot_from, outcome, index_after, Follows, AreLegal, AreLegalFrom, key_count, HasFault, HasFaultOr, FailsAt, Fails}
 use Rattle.lt_history.specs.Verdict.{IsReported, FailsOr, GoesOn, Judges, IsLegalText, IsOrMemory, located}
 use Rattle.lt_history.specs.Version.{IsVersion, header_of}
-use Rattle.lt_history.specs.Pieces.{IsCountable, first_key, HasTaken, ReportsLegal, HasBegun, LacksHeader, IsFaultyLine, key_or, TakesOneLine, MovesOver, RefusesFrom, JudgesAtEnd, SaysAtEnd, AcceptsAtEnd, RefusesAtEnd, RisesTo, MayJoin, TakesBoth, first_of_both, IsJoined}
+use Rattle.lt_history.specs.Pieces.{IsCountable, first_key, HasTaken, ReportsLegal, HasBegun, LacksHeader, IsFaultyLine, IsNoNextLine, key_or, TakesOneLine, MovesOver, RefusesFrom, JudgesAtEnd, SaysAtEnd, AcceptsAtEnd, RefusesAtEnd, RisesTo, MayJoin, TakesBoth, first_of_both, IsJoined}
 use Rattle.lt_history.proofs.Keys.{not_back, apart_back}
-use Rattle.lt_history.proofs.LineLaws.{shapeless, wrong, cut_more, uncut_is_shapeless}
+use Rattle.lt_history.proofs.LineLaws.{shapeless, wrong, cut_more, uncut_is_shapeless, one_line}
 use Rattle.lt_history.proofs.Loop.{legal_push, spot_push, text_push, one_more_of, keys_push, room_of}
 use Rattle.lt_history.proofs.Verdicts.{is_said, legal_is_said, fault_is_said, all_append}
 
@@ -324,3 +325,24 @@ begun_accepts text c lines r b fits accepts = λ report legal.
 
 pub headless : (text : List ℕ) → LacksHeader text → Judges text (Err (errors.Refused 1 Header))
 headless text h = subst (λ (t : List ℕ). Fails t 1 Header) (append-nil text) (h [] (inr refl))
+
+-- ---- a line that may not come next
+
+pub shapeless_comes_not : (version : ℕ) (s : Spot) (bytes : List ℕ) (e : HistoryLineError) → IsShapelessIn version e bytes → IsNoNextLine version s bytes e
+shapeless_comes_not version s bytes refusals.Memory h = tt
+shapeless_comes_not version s bytes (refusals.Fault Shape) h = λ p line old same ordered counted. h p line old same
+shapeless_comes_not version s bytes (refusals.Fault Header) h = absurd h
+shapeless_comes_not version s bytes (refusals.Fault KeyOrder) h = absurd h
+shapeless_comes_not version s bytes (refusals.Fault Index) h = absurd h
+shapeless_comes_not version s bytes (refusals.Fault WrongReply) h = absurd h
+shapeless_comes_not version s bytes (refusals.Fault WrongLets) h = absurd h
+
+line_comes_not : (version : ℕ) (s : Spot) (bytes : List ℕ) (p : Parts) (e : HistoryLineError) → IsLine p → line_text p ≡ bytes ++ 10 ∷ [] → MayNotComeNext s p e → IsNoNextLine version s bytes e
+line_comes_not version s bytes p refusals.Memory line same h = tt
+line_comes_not version s bytes p (refusals.Fault fault) line same h = λ q other old is ordered counted.
+    let e : p ≡ q = (one_line p q [] [] line other (ap (λ (t : List ℕ). t ++ []) (same ∙ sym is))).0 in
+    h (subst (IsOrdered s) (sym e) ordered) (subst (HasItsIndex s) (sym e) counted)
+
+pub refused_comes_not : {A : Type 0} (version : ℕ) (s : Spot) (bytes : List ℕ) (p : Parts) (r : Result A HistoryLineError) → IsLine p → line_text p ≡ bytes ++ 10 ∷ [] → IfErr r (MayNotComeNext s p) → IfErr r (IsNoNextLine version s bytes)
+refused_comes_not version s bytes p (Ok x) line same h = tt
+refused_comes_not version s bytes p (Err e) line same h = line_comes_not version s bytes p e line same h

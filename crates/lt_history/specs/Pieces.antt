@@ -7,11 +7,12 @@ use Rattle.lt_history.specs.declared.checker.CheckError.{CheckError}
 use Rattle.lt_history.specs.declared.cursor.Expected.{Expected}
 use Rattle.lt_history.specs.declared.error.Fault.TheVariants.{Header}
 use Rattle.lt_history.specs.declared.error.HistoryLineError.{HistoryLineError}
+use Rattle.lt_history.specs.declared.error.HistoryLineError.TheVariants as refusals
 use Rattle.lt_history.specs.declared.pieces.Checker.{Checker}
 use Rattle.lt_history.specs.Cursor.{spot, IsGiven}
 use Rattle.lt_history.specs.Histories.{precedes}
 use Rattle.lt_history.specs.Lines.{Parts, IsLine, line_text}
-use Rattle.lt_history.specs.Text.{Spot, start, spot_after, spot_from, IsOf, IsShapelessIn, IsWrongOr, Follows, AreLegal, text_by, key_count, Fails}
+use Rattle.lt_history.specs.Text.{Spot, start, spot_after, spot_from, IsOf, IsOrdered, HasItsIndex, IsShapelessIn, IsWrongOr, Follows, AreLegal, text_by, key_count, Fails}
 use Rattle.lt_history.specs.Verdict.{IsLegalText, Says, Judges, IsOrMemory, RefusesFaulty, FailsOr}
 use Rattle.lt_history.specs.Version.{IsVersion, header_of}
 
@@ -67,6 +68,15 @@ pub record IsNextLine (version : ℕ) (s : Spot) (bytes : List ℕ) (next : Spot
 -- The line, given without its line end, has this fault here. Out of memory says nothing about it.
 abbrev pub IsFaultyLine : ℕ → Spot → List ℕ → HistoryLineError → Type 0
 IsFaultyLine version s bytes e = IsShapelessIn version e bytes ⊎ (p : Parts) × IsLine p × IsOf version p × (line_text p ≡ bytes ++ 10 ∷ []) × IsWrongOr s p e
+
+-- No line that may come next here has this text, given without its line end.
+abbrev pub NoLineComesNext : ℕ → Spot → List ℕ → Type 0
+NoLineComesNext version s bytes = (p : Parts) → IsLine p → IsOf version p → line_text p ≡ bytes ++ 10 ∷ [] → IsOrdered s p → HasItsIndex s p → ⊥
+
+-- The same of a line that was refused. Out of memory says nothing about it.
+abbrev pub IsNoNextLine : ℕ → Spot → List ℕ → HistoryLineError → Type 0
+IsNoNextLine version s bytes refusals.Memory = Unit {0}
+IsNoNextLine version s bytes (refusals.Fault fault) = NoLineComesNext version s bytes
 
 -- This key, or the other one if there is none.
 abbrev pub key_or : Option (List ℕ) → List ℕ → Option (List ℕ)

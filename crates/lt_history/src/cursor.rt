@@ -6,7 +6,7 @@
 ghost use Rattle.std.specs.Prelude.{◌≡◌, ◌<◌, ◌≤◌, ◌↔◌, IfOk, IfErr, IsTrue, map, length};
 ghost use Rattle.lt_plain.specs.Table.{record_at};
 ghost use Rattle.lt_history.specs.Lines.{IsLine, parts_of};
-ghost use Rattle.lt_history.specs.Text.{Follows, IsWrongOr, start, spot_after};
+ghost use Rattle.lt_history.specs.Text.{Follows, IsWrongOr, MayNotComeNext, start, spot_after};
 ghost use Rattle.lt_history.specs.Cursor.{spot, IsAtNewKey, IsNoFirst, IsNext, IsNoNext, FollowsRulesAt, IsNotMade, IsGiven};
 
 use crate::error::{Fault, HistoryLineError};
@@ -153,7 +153,8 @@ pub(crate) fn follow(
     )
 }
 
-/// What the rules give for the line's call, if the line comes next. Its reply and its tickets are not looked at.
+/// What the rules give for the line's call, if the line may come next. Its reply and its tickets are not looked at.
+#[tactic(auto, using(crate::proofs::Places::no_next_line))]
 pub(crate) fn expect(
     alloc: Global,
     cursor: &mut Cursor,
@@ -162,6 +163,7 @@ pub(crate) fn expect(
     requires { IsLine (parts_of line.now) }
     ensures ok { IfOk result (λ x. IsGiven (spot cursor.old) (parts_of line.now) x) }
     ensures err { IfErr result (λ e. IsWrongOr (spot cursor.old) (parts_of line.now) e) }
+    ensures next { IfErr result (MayNotComeNext (spot cursor.old) (parts_of line.now)) }
 {
     go_to(alloc, cursor, &line.key, line.step.index)?;
     let mut lets = Vec::new(alloc);

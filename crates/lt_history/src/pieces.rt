@@ -12,12 +12,12 @@
 //! Two calls explain a fault: [`Checker::state_before`] copies the record of a key before the next line, and
 //! [`Checker::expected`] gives the reply and the lets that the rules give for that line. Read next:
 //! `specs/Pieces.antt`, then `cursor.rt`.
-ghost use Rattle.std.specs.Prelude.{◌≡◌, ◌==◌, ◌<◌, ◌+◌, ◌^◌, if◌then◌else◌, IfOk, IfErr, IfSome, OnErr, IsTrue, ◌↔◌, None};
+ghost use Rattle.std.specs.Prelude.{◌≡◌, ◌==◌, ◌<◌, ◌+◌, ◌^◌, if◌then◌else◌, [], IfOk, IfErr, IfSome, IfNone, OnErr, IsTrue, ◌↔◌, None};
 ghost use Rattle.lt_history.specs.Cursor.{spot};
 ghost use Rattle.lt_history.specs.Text.{record_before};
 ghost use Rattle.lt_history.specs.Version.{IsVersion, header_of};
 ghost use Rattle.lt_history.specs.Verdict.{located};
-ghost use Rattle.lt_history.specs.Pieces.{HasTaken, TakesOneLine, TakesLines, RefusesFrom, IsFaultyLine, JudgesAtEnd, SaysAtEnd, AcceptsAtEnd, RefusesAtEnd, HasBegun, LacksHeader, GivesByRules, MayJoin, TakesBoth, ReportsLegal, first_of_both, key_or};
+ghost use Rattle.lt_history.specs.Pieces.{HasTaken, TakesOneLine, TakesLines, RefusesFrom, IsFaultyLine, IsNoNextLine, JudgesAtEnd, SaysAtEnd, AcceptsAtEnd, RefusesAtEnd, HasBegun, LacksHeader, GivesByRules, MayJoin, TakesBoth, ReportsLegal, first_of_both, key_or};
 
 use crate::checker::{CheckError, Report};
 use crate::cursor::{Cursor, Expected, expect, follow, start};
@@ -140,6 +140,7 @@ impl Checker {
 
     /// The key and the index of the latest line. `None` before the first one.
     pub fn latest(&self) -> Option<(&Key, u64)>
+        ensures none { IfNone result ((spot self.now.cursor).key ≡ []) }
         ensures key { IfSome result (λ latest. (spot self.now.cursor).key ≡ latest.0.now) }
         ensures index { IfSome result (λ latest. (spot self.now.cursor).index ≡ latest.1) }
     {
@@ -265,10 +266,12 @@ impl Checker {
     }
 
     /// What the rules give for the call of this line, given without its line end, if it came next. The line is refused
-    /// if it has one of the faults `Shape`, `KeyOrder` and `Index`.
+    /// exactly if it has one of the faults `Shape`, `KeyOrder` and `Index`.
+    #[tactic(auto, using(crate::proofs::PieceLaws::shapeless_comes_not))]
     pub fn expected(self, alloc: Global, bytes: &[u8]) -> Result<Expected, HistoryLineError>
         ensures ok { IfOk result (GivesByRules self bytes.now) }
         ensures err { IfErr result (λ e. IsFaultyLine self.report.version (spot self.cursor) bytes.now e) }
+        ensures next { IfErr result (IsNoNextLine self.report.version (spot self.cursor) bytes.now) }
     {
         let line = line_of(alloc, self.report.version, bytes)?;
         let mut cursor = self.cursor;

@@ -1,7 +1,9 @@
-use Rattle.std.proofs.Common.{ℕ, List, sym, subst, rules}
-use Rattle.lt_history.specs.Pieces.{GivesByRules}
-use Rattle.std.specs.Prelude.{IfSome}
-use Rattle.lt_audit.specs.Audit.{IsSplit, IsCallWithRecord}
+use Rattle.std.proofs.Common.{◌≡◌, ℕ, List, sym, ap, subst, rules, arith}
+use Rattle.std.specs.Prelude.{IfSome, IfNone}
+use Rattle.lt_history.specs.declared.checker.Report.{Report}
+use Rattle.lt_history.specs.Cursor.{spot}
+use Rattle.lt_history.specs.Pieces.{GivesByRules, NoLineComesNext}
+use Rattle.lt_audit.specs.Audit.{IsSplit, IsCallWithRecord, IsNoLine}
 use Rattle.lt_audit.proofs.Streams.{takes_pending, reads_line, refused_pending, explained}
 use Rattle.lt_audit.proofs.explained.explain.Goals as goal
 
@@ -24,11 +26,18 @@ loop-preserved g c =
 pub returns-clause-ok : goal.returns-clause-ok
 returns-clause-ok g c =
     let source = g.R.Read.remaining c.args.reader.now in
+    let mid = g.R.Read.remaining c.loop.reader in
     let now = g.R.Read.remaining c.read_line-2.new.reader in
     let pending = c.read_line-2.new.pending.items in
-    explained source now c.loop.checker pending _
-    (reads_line source (g.R.Read.remaining c.loop.reader) now c.loop.checker c.loop.pending.items pending c.in_ok-read_line-2.field-0 c.loop.invariant c.in_ok-read_line-2.ensures.ok)
-    (subst (λ (t : List ℕ). IsSplit t c.in_ok-line-2.line.items) c.deref-2.ensures.value
-    (subst (λ (t : List ℕ). IsSplit c.deref-2.result.now t) (sym c.in_ok-line-2.ensures.items) c.without_end-2.ensures))
-    (subst (λ (t : List ℕ). IfSome c.in_ok-asked.asked (λ a. IsCallWithRecord c.loop.checker t a.0 a.1)) c.deref-3.ensures.value c.in_ok-asked.ensures.ok)
-    (subst (λ (t : List ℕ). IfSome c.in_ok-expected.expected (GivesByRules c.loop.checker t)) c.deref-4.ensures.value c.in_ok-expected.ensures.ok)
+    let checker = c.loop.checker in
+    let line : c.in_ok-line-2.line.items ≡ c.without_end-2.result.now = c.in_ok-line-2.ensures.items in
+    let split : IsSplit pending c.in_ok-line-2.line.items =
+    subst (λ (t : List ℕ). IsSplit t c.in_ok-line-2.line.items) c.deref-2.ensures.value (subst (λ (t : List ℕ). IsSplit c.deref-2.result.now t) (sym line) c.without_end-2.ensures) in
+    explained source mid now checker c.loop.pending.items pending c.in_ok-read_line-2.field-0 c.args.number _ c.loop.invariant c.in_ok-read_line-2.ensures.ok c.in_ok-read_line-2.ensures.stops split
+    record {
+      numbered = omega (arith, c.if-report-number.false, c.if-number-lt2.false, ap (λ (r : Report). r.steps) c.report.ensures.report);
+      asked = subst (λ (t : List ℕ). IfSome c.in_ok-asked.asked (λ a. IsCallWithRecord checker t a.0 a.1)) c.deref-3.ensures.value c.in_ok-asked.ensures.ok;
+      unasked = subst (λ (t : List ℕ). IfNone c.in_ok-asked.asked (IsNoLine t)) c.deref-3.ensures.value c.in_ok-asked.ensures.none;
+      given = subst (λ (t : List ℕ). IfSome c.in_ok-expected.expected (GivesByRules checker t)) c.deref-4.ensures.value c.in_ok-expected.ensures.ok;
+      ungiven = subst (λ (t : List ℕ). IfNone c.in_ok-expected.expected (NoLineComesNext checker.report.version (spot checker.cursor) t)) c.deref-4.ensures.value c.in_ok-expected.ensures.none;
+    }
