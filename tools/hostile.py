@@ -38,7 +38,7 @@ TESTS = [
     ('lt_rules_tests', 'linked::the_'),
     ('lt_words_tests', 'tests::a_refused_open'),
     ('lt_words_tests', 'tests::a_book_is_used_by_its_name'),
-    ('lt_table_tests', 'schedules::tests::schedules_come_out_alike'),
+    ('lt_table_tests', 'schedules::tests::schedules_have_the_same_outcome'),
     ('lt_table_tests', 'refusals::'),
     ('lt_tool_tests', 'texts::histories::'),
     ('lt_tool_tests', 'texts::scripts::'),
