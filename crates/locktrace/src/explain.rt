@@ -1,4 +1,4 @@
-//! How is a text explained? [`explain_file`] checks a file. It writes the summary of a legal text (`gather.rt`). For any
+//! How is a text explained? [`explain_file`] checks a file. Of a legal text it writes the summary (`gather.rt`). Of any
 //! other text it writes what the rules give for the first faulty line and by which row of docs/RULES.md, the record of
 //! the key before that line, and the key's latest lines.
 use crate::failure::{TraceFailure, of_audit};

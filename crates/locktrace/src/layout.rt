@@ -44,8 +44,8 @@ pub fn width_of(word: &str) -> Option<u16>
     }
 }
 
-/// The width of a table: what is asked for; otherwise 120 for a file, and for a terminal its width, or 80 if that is not
-/// known.
+/// The width of a table: the one asked for; or else 120 for a file, and for a terminal its width, or 80 if that is
+/// unknown.
 fn chosen_width(terminal: &Terminal, asked: Option<u16>) -> u16
     ensures asked { IfSome asked (λ width. result ≡ width) }
     ensures file { asked ≡ None → terminal.now.is_terminal ≡ false → result ≡ 120 }

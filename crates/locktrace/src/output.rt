@@ -1,5 +1,5 @@
-//! Is somebody still reading what the program writes? [`Output`] passes each write on to the writer behind it, and notes
-//! when a pipe's reader has closed it.
+//! Is somebody still reading what the program writes? [`Output`] passes each write on to the writer behind it, and
+//! notes when a pipe's reader has closed it.
 use crate::failure::TraceFailure;
 use std::io::{self, ErrorKind, Write};
 

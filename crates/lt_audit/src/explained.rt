@@ -101,8 +101,8 @@ fn expected(alloc: Global, checker: Checker, line: &[u8]) -> Result<Option<Expec
 }
 
 /// Reads the text up to the line with this number, counted from 1, and says what the rules give for it. The lines
-/// before it must be legal, as they are if a check refused this one; an error of the check is answered otherwise. `Read` also means that there is no such line of a
-/// step: the number is below 2, or the text has fewer lines.
+/// before it are checked: if one of them has a fault, the call answers `Refused` as a check does. `Read` also means
+/// that there is no such line of a step: the number is below 2, or the text has fewer lines.
 pub fn explain<R: BufRead>(
     alloc: Global,
     reader: &mut R,
@@ -132,7 +132,7 @@ pub fn explain<R: BufRead>(
     if read_line(reader, &mut pending)? == 0 {
         return Err(AuditError::Read);
     }
-    // The checker counts the lines too: the two counts agree.
+    // The checker has counted the lines too.
     if checker.report().steps != number - 2 {
         return Err(AuditError::Read);
     }

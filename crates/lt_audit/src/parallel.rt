@@ -293,7 +293,7 @@ pub(crate) fn check_by<T: TextAt + Sync, H: Threads + Sync, P: CheckProgress>(
 }
 
 /// Checks a text of any length on this many threads at a time, and stops at the first fault. The verdict is that of
-/// [`check`](lt_history::check) on the whole text. It holds a chunk, the longest line and the record of one key for each
+/// [`check`](lt_history::check) on the whole text. It holds a chunk, the longest line and the record of a key for each
 /// thread, and a megabyte in which it looks for cuts.
 ///
 /// [`AuditError`] says what each error means. `TooLong` counts reads, which take at most 65,536 bytes each.
