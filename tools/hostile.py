@@ -34,10 +34,10 @@ from injection import HERE, KINDS, TOP, Report, Shim, built
 
 # Tests that pass under any single allocation failure, by crate: those whose names begin so.
 TESTS = [
-    ('lt_links', 'links::tests::after_refused_memory'),
-    ('lt_rules_tests', 'linked::the_'),
+    ('lt_links', 'links::tests::refused_memory'),
     ('lt_words_tests', 'tests::a_refused_open'),
     ('lt_words_tests', 'tests::a_book_is_used_by_its_name'),
+    ('lt_table_tests', 'rules::linked::the_'),
     ('lt_table_tests', 'schedules::tests::schedules_have_the_same_outcome'),
     ('lt_table_tests', 'refusals::'),
     ('lt_tool_tests', 'texts::histories::'),

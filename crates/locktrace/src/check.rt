@@ -6,7 +6,7 @@ use crate::follow::write_text;
 use crate::output::{Output, ending_of};
 use crate::progress_line::ProgressLine;
 use lt_audit::{AuditError, check_pieces, check_stream_with};
-use lt_history::Report;
+use lt_checker::Report;
 use std::alloc::Global;
 use std::fs;
 use std::fs::File;

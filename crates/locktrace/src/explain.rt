@@ -6,7 +6,7 @@ use crate::follow::{follow_steps, write_text};
 use crate::gather::Gatherer;
 use crate::input::open_reader;
 use lt_audit::{Explained, Rule, explain, rule_of};
-use lt_history::Expected;
+use lt_checker::Expected;
 use lt_ids::Ticket;
 use lt_picture::put_state;
 use lt_text::put::{put_number_word, put_reply, put_ticket, put_word};

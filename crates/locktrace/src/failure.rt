@@ -3,7 +3,7 @@ ghost use Rattle.std.specs.Prelude.{◌≡◌};
 ghost use Rattle.locktrace.specs.declared.failure.TraceFailure.TheVariants.{Memory};
 
 use lt_audit::AuditError;
-use lt_history::{CheckError, HistoryLineError};
+use lt_checker::{CheckError, HistoryLineError};
 use lt_picture::PictureError;
 use lt_trace::{SortError, TraceFault};
 use std::alloc::{AllocError, AllocFailed};

@@ -1,7 +1,7 @@
 //! How does a command see the steps of a text, one after the other? [`follow_steps`] reads the text line by line and
 //! checks each line. It gives each step that was asked for to a taker, with the state of the key after the step.
 use crate::failure::{TraceFailure, of_check, of_line};
-use lt_history::{Checker, Fault, Line, Report, read_line, write_out};
+use lt_checker::{Checker, Fault, Line, Report, read_line};
 use lt_ids::Key;
 use lt_picture::ShownStep;
 use std::alloc::Global;
@@ -57,7 +57,7 @@ fn give_step<T: StepTaker>(
 
 /// Writes all of a text.
 pub fn write_text<W: Write>(output: &mut W, text: &[u8]) -> Result<(), TraceFailure> {
-    match write_out(output, text) {
+    match output.write_all(text) {
         Ok(()) => Ok(()),
         Err(_) => Err(TraceFailure::Write),
     }
@@ -81,7 +81,7 @@ pub fn follow_steps<R: BufRead, W: Write, T: StepTaker>(
 ) -> Result<Report, TraceFailure> {
     let mut line = Vec::new(alloc);
     append_line(reader, &mut line)?;
-    let Some((mut checker, _)) = Checker::begin(alloc, &line) else {
+    let Some((mut checker, _)) = Checker::begin(&line) else {
         return Err(TraceFailure::Refused {
             line: 1,
             name: Fault::Header.name(),

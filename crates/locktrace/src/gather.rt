@@ -2,7 +2,7 @@
 //! [`Gatherer::text`] is the summary. docs/FORMATS.md, "The summary of a legal text", describes its lines.
 use crate::failure::TraceFailure;
 use crate::follow::StepTaker;
-use lt_history::Report;
+use lt_checker::Report;
 use lt_ids::Key;
 use lt_picture::ShownStep;
 use lt_statistics::{HotKey, LongestQueue, LongestWait, Statistics, StepCounts, StepFacts};

@@ -7,7 +7,7 @@
 //! - `locktrace picture [FILE] --key KEY` draws the steps of a key.
 //!
 //! Every function here is proved to be safe. What the commands promise beyond that, the libraries promise: `lt_trace`
-//! sorts, `lt_audit` and `lt_history` check, `lt_statistics` counts, and `lt_picture` draws.
+//! sorts, `lt_audit` and `lt_checker` check, `lt_statistics` counts, and `lt_picture` draws.
 //!
 //! Read next: `src/task.rt` for what each command does, `src/words.rt` for the command line.
 #![tactic(auto)]

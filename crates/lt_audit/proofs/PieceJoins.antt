@@ -6,9 +6,9 @@ use Rattle.std.specs.Io.KnownBytes.{Consumes, prepend_known}
 use Rattle.std.specs.Io.Buffered.{reader_inner, reader_buffer, reader_capacity, reader_remaining}
 use Rattle.std.specs.declared.io.buffered.BufReader.{BufReader}
 use Rattle.std.proofs.lemmas.List.{append-nil, take-append-drop, drop-drop}
-use Rattle.lt_history.specs.declared.pieces.Checker.{Checker}
-use Rattle.lt_history.specs.Pieces.{IsCountable, HasTaken, HasBegun, MovesOver, TakesBoth}
-use Rattle.lt_history.specs.Version.{IsVersion, header_of}
+use Rattle.lt_checker.specs.declared.pieces.Checker.{Checker}
+use Rattle.lt_checker.specs.Pieces.{IsCountable, HasTaken, HasBegun, MovesOver, TakesBoth}
+use Rattle.lt_checker.specs.Version.{IsVersion, header_of}
 use Rattle.lt_audit.specs.declared.parallel.CheckedPiece.{CheckedPiece}
 use Rattle.lt_audit.specs.declared.parallel.CheckedPrefix.{CheckedPrefix}
 use Rattle.lt_audit.specs.Audit.{IsLineRead}

@@ -6,16 +6,16 @@ use Rattle.std.specs.Io.BufRead.{take_through, drop_through, DropsThrough}
 use Rattle.std.specs.Io.KnownBytes.{Consumes, IsAtEnd, Keeps}
 use Rattle.std.proofs.lemmas.Bool.{eqb-true}
 use Rattle.std.proofs.lemmas.List.{append-nil, take-append-drop}
-use Rattle.lt_history.specs.Cursor.{spot}
-use Rattle.lt_history.specs.declared.checker.Report.{Report}
-use Rattle.lt_history.specs.declared.checker.CheckError.{CheckError}
-use Rattle.lt_history.specs.declared.checker.CheckError.TheVariants as checks
-use Rattle.lt_history.specs.declared.error.Fault.TheVariants.{Header}
-use Rattle.lt_history.specs.declared.pieces.Checker.{Checker}
-use Rattle.lt_history.specs.Pieces.{IsCountable, HasTaken, HasBegun, LacksHeader, MovesOver, TakesLines, RefusesFrom, GivesByRules, NoLineComesNext}
-use Rattle.lt_history.specs.Verdict.{Judges}
-use Rattle.lt_history.specs.Version.{header_of}
-use Rattle.lt_history.proofs.Verdicts.{is_said, legal_is_said, fault_is_said}
+use Rattle.lt_checker.specs.Cursor.{spot}
+use Rattle.lt_checker.specs.declared.checker.Report.{Report}
+use Rattle.lt_checker.specs.declared.checker.CheckError.{CheckError}
+use Rattle.lt_checker.specs.declared.checker.CheckError.TheVariants as checks
+use Rattle.lt_checker.specs.declared.error.Fault.TheVariants.{Header}
+use Rattle.lt_checker.specs.declared.pieces.Checker.{Checker}
+use Rattle.lt_checker.specs.Pieces.{IsCountable, HasTaken, HasBegun, LacksHeader, MovesOver, TakesLines, RefusesFrom, GivesByRules, NoLineComesNext}
+use Rattle.lt_checker.specs.Verdict.{Judges}
+use Rattle.lt_checker.specs.Version.{header_of}
+use Rattle.lt_checker.proofs.Verdicts.{is_said, legal_is_said, fault_is_said}
 use Rattle.lt_audit.specs.Audit.{EndsLine, StopsAtLineEnd, IsNoLine, IsAfterLine, IsLineRead, IsBeginning, IsReading, RefusesPending, EndsWith, EndsAs, IsNoVerdict, EndsReading, EndsReadingAs, IsAudited, IsAuditedAs, stopped, IsSplit, IsCallWithRecord, IsExplained}
 use Rattle.lt_audit.specs.declared.explained.Explained.{Explained}
 use Rattle.lt_audit.specs.declared.error.AuditError.{AuditError}

@@ -1,17 +1,17 @@
 -- What the check of a stream says of the text that the stream gives.
 use Rattle.std.specs.Prelude.{ℕ, ◌≡◌, ◌⊎◌, ◌+◌, ◌≤◌, List, ◌++◌, length, take, Option, Result, Ok, Err, IfSome, IfNone, ◌∷◌, []}
 use Rattle.std.specs.Io.KnownBytes.{Consumes, IsAtEnd}
-use Rattle.lt_history.specs.declared.checker.Report.{Report}
-use Rattle.lt_history.specs.declared.checker.CheckError.{CheckError}
-use Rattle.lt_history.specs.declared.checker.CheckError.TheVariants as checks
-use Rattle.lt_history.specs.declared.pieces.Checker.{Checker}
-use Rattle.lt_history.specs.Pieces.{IsCountable, HasTaken, RefusesFrom, GivesByRules, NoLineComesNext, SaysAtEnd, AcceptsAtEnd, RefusesAtEnd}
+use Rattle.lt_checker.specs.declared.checker.Report.{Report}
+use Rattle.lt_checker.specs.declared.checker.CheckError.{CheckError}
+use Rattle.lt_checker.specs.declared.checker.CheckError.TheVariants as checks
+use Rattle.lt_checker.specs.declared.pieces.Checker.{Checker}
+use Rattle.lt_checker.specs.Pieces.{IsCountable, HasTaken, RefusesFrom, GivesByRules, NoLineComesNext, SaysAtEnd, AcceptsAtEnd, RefusesAtEnd}
 use Rattle.lt_plain.specs.declared.call.Call.{Call}
 use Rattle.lt_plain.specs.Rules.{Record}
-use Rattle.lt_history.specs.Cursor.{spot}
-use Rattle.lt_history.specs.Lines.{Parts, IsLine, line_text}
-use Rattle.lt_history.specs.Text.{record_before}
-use Rattle.lt_history.specs.Verdict.{IsLegalText, Says, IsOrMemory, RefusesFaulty}
+use Rattle.lt_checker.specs.Cursor.{spot}
+use Rattle.lt_checker.specs.Lines.{Parts, IsLine, line_text}
+use Rattle.lt_checker.specs.Text.{record_before}
+use Rattle.lt_checker.specs.Verdict.{IsLegalText, Says, IsOrMemory, RefusesFaulty}
 use Rattle.lt_audit.specs.declared.explained.Explained.{Explained}
 use Rattle.lt_audit.specs.declared.error.AuditError.{AuditError}
 use Rattle.lt_audit.specs.declared.error.AuditError.TheVariants as errors

@@ -1,9 +1,9 @@
 -- What the check of a piece says, and that of a prefix which grows by pieces.
 use Rattle.std.specs.Prelude.{ℕ, ◌≡◌, List, [], ◌++◌, Option, IfSome}
 use Rattle.std.specs.Io.KnownBytes.{Consumes}
-use Rattle.lt_history.specs.declared.pieces.Checker.{Checker}
-use Rattle.lt_history.specs.Pieces.{IsCountable, HasTaken}
-use Rattle.lt_history.specs.Version.{IsVersion, header_of}
+use Rattle.lt_checker.specs.declared.pieces.Checker.{Checker}
+use Rattle.lt_checker.specs.Pieces.{IsCountable, HasTaken}
+use Rattle.lt_checker.specs.Version.{IsVersion, header_of}
 use Rattle.lt_audit.specs.declared.parallel.CheckedPiece.{CheckedPiece}
 use Rattle.lt_audit.specs.declared.parallel.CheckedPrefix.{CheckedPrefix}
 use Rattle.lt_audit.specs.Audit.{IsReading}

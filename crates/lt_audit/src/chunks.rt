@@ -3,12 +3,12 @@
 //! It appends a chunk to the pending bytes and gives their whole lines to the checker. What comes after the last line
 //! end stays pending. So only the line at the end of a chunk is copied, and a long line is searched for its end once.
 ghost use Rattle.std.specs.Prelude.{◌≡◌, ◌≤◌, ◌<◌, IfOk, IfErr, vec_len, length};
-ghost use Rattle.lt_history.specs.Pieces.{MovesOver};
+ghost use Rattle.lt_checker.specs.Pieces.{MovesOver};
 ghost use Rattle.lt_audit.specs.Audit.{IsLineRead, IsChunkRead, RefusesPending, IsNoVerdict};
 
 use crate::error::AuditError;
 use crate::stream::take_pending;
-use lt_history::Checker;
+use lt_checker::Checker;
 use std::alloc::{AllocError, Global};
 use std::io::{ErrorKind, Read};
 

@@ -3,7 +3,7 @@ ghost use Rattle.std.specs.Prelude.{◌≡◌};
 ghost use Rattle.lt_audit.specs.declared.error.AuditError.TheVariants.{Memory};
 ghost use Rattle.lt_audit.specs.Audit.{stopped};
 
-use lt_history::{CheckError, Fault};
+use lt_checker::{CheckError, Fault};
 use std::alloc::{AllocError, AllocFailed};
 use thiserror::Error;
 

@@ -4,13 +4,13 @@
 //! reply and the lets that the rules give for its call, and the key's latest lines. Read next: `rule.rt`, which names
 //! the row of docs/RULES.md that applies.
 ghost use Rattle.std.specs.Prelude.{◌≡◌, IfOk, IfErr, IfSome, IfNone};
-ghost use Rattle.lt_history.specs.Cursor.{spot};
-ghost use Rattle.lt_history.specs.Pieces.{GivesByRules, NoLineComesNext};
+ghost use Rattle.lt_checker.specs.Cursor.{spot};
+ghost use Rattle.lt_checker.specs.Pieces.{GivesByRules, NoLineComesNext};
 ghost use Rattle.lt_audit.specs.Audit.{IsReading, IsAuditedAs, IsExplained, IsCallWithRecord, IsNoLine, IsSplit};
 
 use crate::error::AuditError;
 use crate::stream::{begin, read_line, take_pending};
-use lt_history::{Checker, Expected, HistoryLineError, Line};
+use lt_checker::{Checker, Expected, HistoryLineError, Line};
 use lt_plain::{Call, KeyState};
 use std::alloc::{AllocError, Global};
 use std::io::BufRead;
@@ -76,7 +76,7 @@ fn asked(
     ensures none { IfOk result (λ x. IfNone x (IsNoLine line.now)) }
     ensures err { IfErr result (λ e. e ≡ AuditError.Memory) }
 {
-    match lt_history::read_line(alloc, line) {
+    match lt_checker::read_line(alloc, line) {
         Ok(Line { key, step, .. }) => {
             let state = checker.state_before(alloc, &key)?;
             Ok(Some((step.call, state)))

@@ -1,7 +1,7 @@
 //! Audits of traces of any size: a text of histories is checked as it is read.
 //!
 //! - [`check_stream`] checks a text of any length that a reader gives. It holds a chunk, the longest line and one key's
-//!   record, and gives the verdict of [`lt_history::check`] on the whole text.
+//!   record, and gives the verdict of [`lt_checker::check`] on the whole text.
 //! - [`check_pieces`] gives the same verdict on a text that can be read at any offset, such as a file. It uses threads.
 //! - Both tell a [`CheckProgress`] how far they are.
 //! - [`explain`] reads a text up to a line and says what the rules give for it. [`rule_of`] names the row of

@@ -6,7 +6,7 @@
 //! [`check_stream`](crate::check_stream) finds. Read next: `specs/Parallel.antt`, `cuts.rt`, and `stream.rt` for the
 //! check in turn.
 ghost use Rattle.std.specs.Prelude.{◌≡◌, ◌+◌, ◌-◌, ◌<◌, ◌≤◌, All, Option, List, ℕ, IfOk, IfErr, IfSome, Ok};
-ghost use Rattle.lt_history.specs.Version.{IsVersion};
+ghost use Rattle.lt_checker.specs.Version.{IsVersion};
 ghost use Rattle.lt_audit.specs.Audit.{IsAudited, IsAuditedAs, IsNoVerdict};
 ghost use Rattle.lt_audit.specs.Parallel.{TakesAll, KeepsPrefix, IsCheckedPrefix, IsCheckedPiece};
 
@@ -16,7 +16,7 @@ use crate::error::AuditError;
 use crate::progress::CheckProgress;
 use crate::stream::{HEADER, check_rest, check_stream_with};
 use crate::text_at::{TextAt, TextReader};
-use lt_history::{Checker, Report};
+use lt_checker::{Checker, Report};
 use std::alloc::{AllocError, Global};
 use std::io::{BufReader, Read};
 use std::thread::{Threads, map_indices};
@@ -88,7 +88,7 @@ fn check_piece<T: TextAt>(
         return None;
     }
     let mut reader = TextReader { text, at: from }.take(to - from);
-    let checker = take_all(alloc, &mut reader, Checker::new(alloc, version))?;
+    let checker = take_all(alloc, &mut reader, Checker::new(version))?;
     Some(CheckedPiece { from, to, checker })
 }
 
@@ -189,7 +189,7 @@ pub(crate) fn extended<T: TextAt + Sync, H: Threads + Sync>(
 }
 
 /// Reads the first line of a text. `None` if that fails.
-pub(crate) fn begin_prefix<T: TextAt>(alloc: Global, text: &T) -> Option<CheckedPrefix>
+pub(crate) fn begin_prefix<T: TextAt>(text: &T) -> Option<CheckedPrefix>
     ensures { IfSome result (IsCheckedPrefix (T.contents text.now)) }
 {
     let mut first = [0u8; HEADER];
@@ -197,7 +197,7 @@ pub(crate) fn begin_prefix<T: TextAt>(alloc: Global, text: &T) -> Option<Checked
     let Ok(()) = reader.read_exact(&mut first) else {
         return None;
     };
-    let (checker, _) = Checker::begin(alloc, &first)?;
+    let (checker, _) = Checker::begin(&first)?;
     Some(CheckedPrefix {
         version: checker.report().version,
         to: HEADER as u64,
@@ -284,7 +284,7 @@ pub(crate) fn check_by<T: TextAt + Sync, H: Threads + Sync, P: CheckProgress>(
     ensures ok { IfOk result (λ report. IsAudited (T.contents text.now) (Ok report)) }
     ensures err { IfErr result (IsAuditedAs (T.contents text.now)) }
 {
-    let Some(prefix) = begin_prefix(alloc, text) else {
+    let Some(prefix) = begin_prefix(text) else {
         return check_in_turn(alloc, text, progress);
     };
     progress.advance(HEADER as u64, &prefix.checker.report());
@@ -293,7 +293,7 @@ pub(crate) fn check_by<T: TextAt + Sync, H: Threads + Sync, P: CheckProgress>(
 }
 
 /// Checks a text of any length on this many threads at a time, and stops at the first fault. The verdict is that of
-/// [`check`](lt_history::check) on the whole text. It holds a chunk, the longest line and the record of a key for each
+/// [`check`](lt_checker::check) on the whole text. It holds a chunk, the longest line and the record of a key for each
 /// thread, and a megabyte in which it looks for cuts.
 ///
 /// [`AuditError`] says what each error means. `TooLong` counts reads, which take at most 65,536 bytes each.

@@ -1,5 +1,5 @@
 //! How does a caller learn how far a check is?
-use lt_history::Report;
+use lt_checker::Report;
 
 /// Learns how far a check is. A check calls it on the thread that called the check, once for each chunk or for some
 /// pieces.

@@ -1,16 +1,16 @@
 //! Is the text that a reader gives the text of legal histories?
 //!
-//! [`check_stream`] reads in chunks and gives the whole lines of each to a checker of `lt_history`. It stops at the
+//! [`check_stream`] reads in chunks and gives the whole lines of each to a checker of `lt_checker`. It stops at the
 //! first fault. [`read_line`] and [`take_pending`] go line by line, as the explanation of a line does. Read next:
-//! `specs/Audit.antt`, `chunks.rt`, and `lt_history/src/pieces.rt` for the checker.
+//! `specs/Audit.antt`, `chunks.rt`, and `lt_checker/src/pieces.rt` for the checker.
 ghost use Rattle.std.specs.Prelude.{◌≡◌, ◌+◌, ◌≤◌, length, OnOk, IfOk, IfErr, Ok, Err};
-ghost use Rattle.lt_history.specs.Pieces.{TakesLines, HasBegun, LacksHeader};
+ghost use Rattle.lt_checker.specs.Pieces.{TakesLines, HasBegun, LacksHeader};
 ghost use Rattle.lt_audit.specs.Audit.{IsLineRead, StopsAtLineEnd, IsBeginning, IsReading, RefusesPending, EndsWith, EndsAs, EndsReading, EndsReadingAs, IsAudited, IsAuditedAs, IsNoVerdict, stopped};
 
 use crate::chunks::{chunk_buffer, read_chunk, take_after};
 use crate::error::{AuditError, stopped};
 use crate::progress::CheckProgress;
-use lt_history::{Checker, Fault, Report};
+use lt_checker::{Checker, Fault, Report};
 use std::alloc::Global;
 use std::io::{BufRead, ErrorKind, Read};
 
@@ -88,7 +88,7 @@ pub(crate) fn begin<R: BufRead>(
     ensures err { IfErr result (IsAuditedAs (R.remaining reader.old)) }
 {
     let beginning = read_beginning(alloc, reader)?;
-    let Some((checker, lines)) = Checker::begin(alloc, &beginning) else {
+    let Some((checker, lines)) = Checker::begin(&beginning) else {
         return Err(AuditError::Refused {
             line: 1,
             fault: Fault::Header,
@@ -146,7 +146,7 @@ pub fn check_stream_with<R: BufRead, P: CheckProgress>(
 }
 
 /// Checks the text that the reader gives, of any length, and stops at the first fault. The verdict is that of
-/// [`check`](lt_history::check) on the whole text. It holds a chunk, the longest line and the record of one key.
+/// [`check`](lt_checker::check) on the whole text. It holds a chunk, the longest line and the record of one key.
 ///
 /// [`AuditError`] says what each error means. `TooLong` counts reads, which take at most 65,536 bytes each.
 pub fn check_stream<R: BufRead>(alloc: Global, reader: &mut R) -> Result<Report, AuditError>

@@ -1,4 +1,4 @@
-//! Do the check of a stream and the check in pieces give the verdict of `lt_history::check`?
+//! Do the check of a stream and the check in pieces give the verdict of `lt_checker::check`?
 //!
 //! `TEXTS` has legal texts of several keys, and texts with one fault each. Every text is checked in pieces of every
 //! size, and with a cut at every offset. Then its reads stop short, and fail.
@@ -7,7 +7,7 @@ use crate::error::{AuditError, stopped};
 use crate::parallel::{begin_prefix, check_after, check_by, extended};
 use crate::stream::check_stream;
 use crate::text_at::TextAt;
-use lt_history::{Report, check};
+use lt_checker::{Report, check};
 use std::alloc::Global;
 use std::io;
 use std::io::ErrorKind;
@@ -29,7 +29,7 @@ const TEXTS: [&str; 8] = [
 
 type Verdict = Result<Report, AuditError>;
 
-/// The verdict of `lt_history::check`.
+/// The verdict of `lt_checker::check`.
 fn expected(alloc: Global, text: &[u8]) -> Verdict {
     match check(alloc, text) {
         Ok(report) => Ok(report),
@@ -44,7 +44,7 @@ fn verdict_with_cut<H: Threads + Sync>(
     text: &[u8],
     cut: usize,
 ) -> Verdict {
-    let Some(prefix) = begin_prefix(alloc, &text) else {
+    let Some(prefix) = begin_prefix(&text) else {
         return Err(AuditError::Read);
     };
     let cuts = [8, cut as u64, text.len() as u64];

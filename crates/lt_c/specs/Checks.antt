@@ -1,9 +1,9 @@
 -- What C is told of a text of histories.
 use Rattle.std.specs.Prelude.{ℕ, ◌≡◌, List, Result, Ok, Err}
-use Rattle.lt_history.specs.declared.checker.Report.{Report}
-use Rattle.lt_history.specs.declared.checker.CheckError.{CheckError}
-use Rattle.lt_history.specs.declared.checker.CheckError.TheVariants as errors
-use Rattle.lt_history.specs.Verdict.{Says, IsLegalText, IsOrMemory, RefusesFaulty}
+use Rattle.lt_checker.specs.declared.checker.Report.{Report}
+use Rattle.lt_checker.specs.declared.checker.CheckError.{CheckError}
+use Rattle.lt_checker.specs.declared.checker.CheckError.TheVariants as errors
+use Rattle.lt_checker.specs.Verdict.{Says, IsLegalText, IsOrMemory, RefusesFaulty}
 use Rattle.lt_c.specs.declared.shapes.LtReport.{LtReport}
 use Rattle.lt_c.specs.Codes.{fault_code}
 

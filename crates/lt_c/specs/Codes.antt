@@ -3,8 +3,8 @@ use Rattle.std.specs.Prelude.{ℕ, ◌≡◌, ◌≢◌, ◌<◌, true, false, O
 use Rattle.lt_ids.specs.declared.error.IdError.{IdError}
 use Rattle.lt_ids.specs.declared.error.IdError.TheVariants.{KeyEmpty, KeyTooLong, KeyByte}
 use Rattle.lt_ids.specs.declared.error.IdError.TheVariants as key_errors
-use Rattle.lt_history.specs.declared.error.Fault.{Fault}
-use Rattle.lt_history.specs.declared.error.Fault.TheVariants.{Header, Shape, KeyOrder, Index, WrongReply, WrongLets}
+use Rattle.lt_checker.specs.declared.error.Fault.{Fault}
+use Rattle.lt_checker.specs.declared.error.Fault.TheVariants.{Header, Shape, KeyOrder, Index, WrongReply, WrongLets}
 use Rattle.lt_plain.specs.declared.call.Reply.{Reply}
 use Rattle.lt_plain.specs.declared.call.Reply.TheVariants.{Passed, MustWait, TooLong, Taken, Kept, Raised, Other, Freed, Left, Absent, Nothing, Reserved, Idle, WaitFor, WaitFirst, WaitOwn}
 

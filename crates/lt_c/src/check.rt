@@ -1,12 +1,12 @@
 //! How does C check a text of histories? [`lt_check`] answers 0 for the text of legal histories, and otherwise the
 //! code of the first fault in the first faulty line.
 ghost use Rattle.std.specs.Prelude.{◌≡◌};
-ghost use Rattle.lt_history.specs.Verdict.{IsLegalText};
+ghost use Rattle.lt_checker.specs.Verdict.{IsLegalText};
 ghost use Rattle.lt_c.specs.Checks.{Checks, legal_report};
 
 use crate::codes::{DONE, MEMORY, fault_code};
 use crate::shapes::LtReport;
-use lt_history::{CheckError, check};
+use lt_checker::{CheckError, check};
 use std::alloc::Global;
 
 /// Whether the text is the text of legal histories.

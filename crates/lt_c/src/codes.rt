@@ -3,7 +3,7 @@
 ghost use Rattle.std.specs.Prelude.{◌≡◌, ◌≤◌};
 ghost use Rattle.lt_c.specs.Codes.{reply_code, reply_txn, key_code, fault_code, txn_number};
 
-use lt_history::Fault;
+use lt_checker::Fault;
 use lt_ids::{IdError, TxnId};
 use lt_plain::Reply;
 

@@ -28,9 +28,11 @@ use Rattle.lt_plain.specs.Table.{record_at, with_record, AreSound, IsKept, IsSte
 use Rattle.lt_plain.specs.Lawful.{IsLawful}
 use Rattle.lt_plain.proofs.Rising.{keys-from_entries}
 use Rattle.lt_plain.proofs.Maps.{order, same_records, same_or_apart, is_apart, kept_record, others_dropped, sound_filled}
-use Rattle.lt_lock.specs.declared.row.Row.{Row}
-use Rattle.lt_lock.specs.Linked.{Rows, row_at, request_of, writer_of, no_stand, stand_at, stands_at, line, queue_at, record_of, records_of, HasQueues, IsUsed, AreLinked}
-use Rattle.lt_lock.specs.RowStepped.{KeepsOthers, IsRow, RowStepped, IsTable, IsEmptied, emptied_id}
+use Rattle.lt_row.specs.declared.row.Row.{Row}
+use Rattle.lt_row.specs.Row.{request_of, writer_of, no_stand, stand_at, stands_at, line, queue_at, record_of, HasQueues}
+use Rattle.lt_row.specs.RowStepped.{KeepsOthers, IsRow, RowStepped}
+use Rattle.lt_row.proofs.Records.{new_linked, new_record}
+use Rattle.lt_lock.specs.Linked.{Rows, row_at, records_of, IsUsed, AreLinked, IsTable, IsEmptied, emptied_id}
 
 -- a lookup among mapped values finds the image of what it found before
 find_mapped : {V X : Type 0} (g : V → X) (k : List ℕ) (es : List (List ℕ × V)) → find order k (map (λ e. (e.0, g e.1)) es) ≡ option_map g (lookup (is_at (order k)) es)
@@ -384,20 +386,12 @@ module _ (old new : Maps) (rows rows' : Rows) (k : List ℕ) (a : Row) (linked :
     ];
   }
 
-  no_line : (kind : QueueKind) → line new (queue_at a.id kind) ≡ []
-  no_line kind = ap (stands_at new) (no_nodes kind)
-
-  new_linked : IsSound new → HasQueues new a.id
-  new_linked sound = record {
-    sound = sound;
-    there = adds.records_are a.id ∙ rw (is_itself a.id) refl;
-    one_reservation = rw (no_line Reservation) (omega arith);
-    named = λ kind. rw (no_line kind) tt;
-  }
+  new_there : has_record new a.id ≡ true
+  new_there = adds.records_are a.id ∙ rw (is_itself a.id) refl
 
   pub inserted_linked : row_at rows k ≡ None → IsSound new → AreLinked new rows'
   inserted_linked none sound = linked_written old new rows rows' k (Some a) u both_stay linked sound
-      (λ b e. subst (λ i. HasQueues new i) (same b e) (new_linked sound))
+      (λ b e. subst (λ i. HasQueues new i) (same b e) (new_linked new a no_nodes new_there sound))
       (λ b q o e apart f i. is_new q o f (same b e ∙ i))
       (λ id there. elim (rings.same_or_apart id a.id) [
         | inl s ↦ (k, a, u.1, sym s.0)
@@ -412,15 +406,12 @@ module _ (old new : Maps) (rows rows' : Rows) (k : List ℕ) (a : Row) (linked :
       same : (b : Row) → Some a ≡ Some b → a.id ≡ b.id
       same b e = cc
 
-  new_record : record_of new a ≡ record empty { holder = a.holder; distinguished = a.distinguished }
-  new_record = rw (no_line Reservation, no_line Writers, no_line Readers) refl
-
   -- The key's lock, which has no holder, is taken.
   pub inserted_step : record_at (records_of old rows) k ≡ empty → (h : Holder) → a.holder ≡ Some h → a.distinguished ≡ None → IsStep (records_of old rows) k (λ r. take_lock r h) Taken [] (records_of new rows')
   inserted_step none h holder first = record {
     replied = refl;
     let_through = rw none refl;
-    here = ap (λ o. unwrap_or o empty) (here_written old new rows rows' k (Some a) u both_stay) ∙ new_record ∙ rw (none, holder, first) refl;
+    here = ap (λ o. unwrap_or o empty) (here_written old new rows rows' k (Some a) u both_stay) ∙ new_record new a no_nodes ∙ rw (none, holder, first) refl;
     others = others_written old new rows rows' k (Some a) u both_stay;
   }
 

@@ -1,4 +1,2 @@
 pub mod Linked
 pub mod Lone
-pub mod Found
-pub mod RowStepped

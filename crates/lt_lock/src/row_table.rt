@@ -1,26 +1,24 @@
 //! How does the table keep many keys, and the requests that wait for them? [`RowTable`] has a row for each key that
 //! is held, reserved or waited for, over one set of links. A function `.._at` applies a call to the row of one key,
-//! if there is one. Read `row.rt` and `visit.rt` next, which have the calls on a row.
+//! if there is one. `lt_row` has the calls on a row.
 ghost use Rattle.std.specs.Prelude.{◌≡◌, [], true, IfOk, OnErr, OnOk, IsOk};
 ghost use Rattle.std.specs.FinMap as map;
 ghost use Rattle.std.specs.BTreeMap.{keys};
 ghost use Rattle.std.specs.Cmp.Lexicographic.{slice_cmp};
 ghost use Rattle.std.specs.List.Sorted.{IsStrictlySortedBy};
 ghost use Rattle.std.specs.Ordering.{nat_cmp};
-ghost use Rattle.lt_ids.specs.Ids.{IsWaitNumber};
 ghost use Rattle.lt_plain.specs.Rules.{empty, acquire, update, finish, leave, take_lock};
 ghost use Rattle.lt_plain.specs.Step.{look};
-ghost use Rattle.lt_plain.specs.Table.{queued_of, record_at, without_empty, UsesNoMemoryAt};
-ghost use Rattle.lt_lock.specs.Linked.{records_of, request_of, IsNamed, HasQueues, AreLinked};
-ghost use Rattle.lt_lock.specs.RowStepped.{IsTable, IsEmptied, KeepsRows, UpdatesRows, emptied_id, visit_by};
+ghost use Rattle.lt_plain.specs.Table.{record_at, without_empty, UsesNoMemoryAt};
+ghost use Rattle.lt_row.specs.Row.{IsNamed, HasQueues};
+ghost use Rattle.lt_row.specs.RowStepped.{visit_by};
+ghost use Rattle.lt_lock.specs.Linked.{records_of, AreLinked, IsTable, IsEmptied, KeepsRows, UpdatesRows, emptied_id};
 
-use crate::copy::state;
-use crate::row;
-use crate::row::Row;
-use crate::visit::visit;
 use lt_ids::{Access, Key, Request, Through, Timestamp, TxnId};
 use lt_links::{Links, RecordId, Stand};
 use lt_plain::{Holder, KeyState, KeyTable, Reply};
+use lt_row::visit::{stand_of, visit};
+use lt_row::{Row, row, state};
 use std::alloc::{AllocError, Global};
 use std::collections::BTreeMap;
 use std::marker::Model;
@@ -41,8 +39,8 @@ impl Model for RowTable {
 
     ghost coded = { records_code };
 
-    ghost use Rattle.lt_lock.specs.Linked.{records_of};
-    ghost use Rattle.lt_lock.specs.RowStepped.{IsTable, KeepsRows, UpdatesRows, visit_by};
+    ghost use Rattle.lt_row.specs.RowStepped.{visit_by};
+    ghost use Rattle.lt_lock.specs.Linked.{records_of, IsTable, KeepsRows, UpdatesRows};
 
     ghost view = { λ t. records_of t.links t.rows };
 
@@ -71,22 +69,6 @@ impl RowTable {
 }
 
 type Rows = BTreeMap<Key, Row>;
-
-fn stand_of(request: &Request, wait: u32) -> Stand
-    requires { IsWaitNumber wait }
-    ensures request { request_of result ≡ queued_of request.now wait }
-    ensures active { result.active ≡ true }
-    ensures named { IsNamed result }
-{
-    Stand {
-        number: request.number,
-        txn: request.txn,
-        ts: request.ts,
-        pass: request.pass,
-        wait,
-        active: true,
-    }
-}
 
 /// What a finish or a leave comes to: its reply, and the queues of the key's row if the row has become empty. Only
 /// a lock that comes free or a request that stops waiting can leave a row empty.

@@ -1,14 +1,18 @@
-//! Do the table's public calls keep their promises at the limits, when an allocation fails, when callers sleep and
-//! when threads work at once?
+//! Do both key tables follow the rules of one key? Do the table's public calls keep their promises at the limits,
+//! when an allocation fails, when callers sleep and when threads work at once?
 //!
-//! [`text`] reads calls from lines of text. [`playing`] plays them on a whole table, which stores all its steps,
-//! and [`keeping`] on a table that streams its steps or records none; [`worked`], [`kept`] and [`learning`] have
-//! the tests. [`closing`] closes a table without all its passes. [`refusals`] passes whichever single allocation
-//! fails. In [`streams`] four threads ([`work`]) work at once, on a whole table ([`race`]) and while a fifth
-//! thread takes the steps out ([`stream`]).
+//! - **One key.** [`rules`] makes calls of one key at a plain and at a linked table.
+//! - **Lines of text.** [`text`] reads calls from lines. [`playing`] plays them on a whole table, which stores all
+//!   its steps, and [`keeping`] on a table that streams its steps or records none. [`worked`], [`kept`] and
+//!   [`learning`] have the tests. [`closing`] tries to close a table without its last pass.
+//! - **Failed allocations.** The tests of [`refusals`] pass under any single allocation failure. [`refusing`] plays
+//!   their script.
+//! - **Random schedules.** [`schedules`] plays random calls of one thread and knows each answer. [`linked`] plays
+//!   commands on a table over linked queues, here and for [`playing`].
+//! - **Threads.** In [`streams`] four threads ([`work`]) work at once, on a whole table ([`race`]) and while a fifth
+//!   thread takes the steps out ([`stream`]). In [`waiting`] callers sleep until they are let through.
 //!
-//! Read next [`schedules`], which plays random calls of one thread and knows each answer, or [`waiting`], in which
-//! callers sleep until they are let through. Worked schedules are scripts of the tool (`lt_tool_tests`).
+//! Worked schedules are scripts of the tool (`lt_tool_tests`).
 #![tactic(auto)]
 
 #[cfg(test)]
@@ -29,6 +33,8 @@ mod race;
 mod refusals;
 #[cfg(test)]
 mod refusing;
+#[cfg(test)]
+mod rules;
 #[cfg(test)]
 mod schedules;
 #[cfg(test)]

@@ -3,7 +3,7 @@
 //!
 //! It shares no code and no definition with `lt_plain`; only the type of a reply is the same. It works on plain
 //! numbers, and simple lists instead of linked queues. A mistake in the definitions that the proofs use shows up
-//! when a test compares the two, as `lt_rules_tests` does. Read it alongside the tables of `docs/RULES.md`, and
+//! when a test compares the two, as `lt_table_tests` does. Read it alongside the tables of `docs/RULES.md`, and
 //! [`crate::cases`] next.
 use crate::cases::{Lock, Release};
 use lt_ids::TxnId;

@@ -6,6 +6,9 @@ use Rattle.std.specs.Fmt.{decimal}
 use Rattle.std.proofs.lemmas.Bool.{ne_eqb}
 use Rattle.std.proofs.lemmas.Option.{some_pair_parts}
 use Rattle.std.proofs.lemmas.Slice.Eq.{bytes_eq-Decides}
+use Rattle.lt_ids.specs.Ids.{Wait}
+use Rattle.lt_ids.specs.declared.timestamp.Timestamp.{Timestamp}
+use Rattle.lt_ids.specs.declared.request.Access.{Access}
 use Rattle.lt_plain.specs.declared.call.Call.{Call}
 use Rattle.lt_plain.specs.declared.call.Call.TheVariants.{Visit, Acquire, Update, Finish, Leave, Look}
 use Rattle.lt_text.specs.Maybe.{◌>>=◌}
@@ -76,6 +79,14 @@ bound_plain n lt =
       | inr some ↦ subst ArePlain (sym (some_bound n some)) (bound_field.plain n (some, lt), tt)
     ]
 
+visit_joined : (words after_ticket after_txn after_ts after_access after_bound rest : List (List ℕ)) (ticket : Wait) (txn : Option ℕ) (ts : Timestamp) (access : Access) (longest : ℕ) → words ≡ ticket_word ticket ∷ after_ticket → after_ticket ≡ owner_word txn ∷ after_txn → after_txn ≡ time_word ts ∷ after_ts
+    → after_ts ≡ access_word access ∷ after_access → after_access ≡ bound_words longest ++ after_bound → after_bound ≡ rest → words ≡ ticket_word ticket ∷ owner_word txn ∷ time_word ts ∷ access_word access ∷ (bound_words longest ++ rest)
+visit_joined words after_ticket after_txn after_ts after_access after_bound rest ticket txn ts access longest t u v w x y =
+    let from_access : after_ts ≡ access_word access ∷ (bound_words longest ++ rest) = w ∙ ap (λ (ws : List (List ℕ)). access_word access ∷ ws) (x ∙ ap (λ (ws : List (List ℕ)). bound_words longest ++ ws) y) in
+    let from_txn : after_ticket ≡ owner_word txn ∷ time_word ts ∷ access_word access ∷ (bound_words longest ++ rest) =
+    u ∙ ap (λ (ws : List (List ℕ)). owner_word txn ∷ ws) (v ∙ ap (λ (ws : List (List ℕ)). time_word ts ∷ ws) from_access) in
+    t ∙ ap (λ (ws : List (List ℕ)). ticket_word ticket ∷ ws) from_txn
+
 visit_takes : (words : List (List ℕ)) (c : Call) (rest : List (List ℕ)) → visit_at words ≡ Some (c, rest) → Takes (codes "visit") words c rest
 unfolding visit_at
 visit_takes words c rest e =
@@ -90,13 +101,12 @@ visit_takes words c rest e =
     let v = field_takes time_field b.0.1 d.0.0 d.0.1 d.1 in
     let w = field_takes access_field d.0.1 f.0.0 f.0.1 f.1 in
     let x = bound_takes f.0.1 g.0.0 g.0.1 g.1 in
-    let prefix : List (List ℕ) → List (List ℕ) = λ ws. ticket_word a.0.0 ∷ owner_word b.0.0 ∷ time_word d.0.0 ∷ access_word f.0.0 ∷ ws in
-    let all : words ≡ prefix (bound_words g.0.0 ++ rest) =
-    t.0 ∙ (ap (λ (ws : List (List ℕ)). ticket_word a.0.0 ∷ ws) u.0
-    ∙ (ap (λ (ws : List (List ℕ)). ticket_word a.0.0 ∷ owner_word b.0.0 ∷ ws) v.0
-    ∙ (ap (λ (ws : List (List ℕ)). ticket_word a.0.0 ∷ owner_word b.0.0 ∷ time_word d.0.0 ∷ ws) w.0
-    ∙ (ap prefix x.0 ∙ ap (λ (ws : List (List ℕ)). prefix (bound_words g.0.0 ++ ws)) p.1)))) in
-    subst (λ (y : Call). Takes (codes "visit") words y rest) p.0 (ap (λ (ws : List (List ℕ)). codes "visit" ∷ ws) all, (t.1, u.1, v.1, x.1))
+    let all : words ≡ ticket_word a.0.0 ∷ owner_word b.0.0 ∷ time_word d.0.0 ∷ access_word f.0.0 ∷ (bound_words g.0.0 ++ rest) =
+    visit_joined words a.0.1 b.0.1 d.0.1 f.0.1 g.0.1 rest a.0.0 b.0.0 d.0.0 f.0.0 g.0.0 t.0 u.0 v.0 w.0 x.0 p.1 in
+    subst (λ (y : Call). Takes (codes "visit") words y rest) {x = Visit a.0.0 b.0.0 d.0.0 f.0.0 g.0.0} p.0 (ap (λ (ws : List (List ℕ)). codes "visit" ∷ ws) all, (t.1, u.1, v.1, x.1))
+
+times_joined : (words after_txn after_ts rest : List (List ℕ)) (txn : ℕ) (ts : Timestamp) → words ≡ decimal txn ∷ after_txn → after_txn ≡ time_word ts ∷ after_ts → after_ts ≡ rest → words ≡ decimal txn ∷ time_word ts ∷ rest
+times_joined words after_txn after_ts rest txn ts t u y = t ∙ ap (λ (ws : List (List ℕ)). decimal txn ∷ ws) (u ∙ ap (λ (ws : List (List ℕ)). time_word ts ∷ ws) y)
 
 acquire_takes : (words : List (List ℕ)) (c : Call) (rest : List (List ℕ)) → acquire_at words ≡ Some (c, rest) → Takes (codes "acquire") words c rest
 unfolding acquire_at
@@ -106,9 +116,8 @@ acquire_takes words c rest e =
     let p = some_pair_parts (Acquire a.0.0 b.0.0) c b.0.1 rest b.2 in
     let t = field_takes txn_field words a.0.0 a.0.1 a.1 in
     let u = field_takes time_field a.0.1 b.0.0 b.0.1 b.1 in
-    let all : words ≡ decimal a.0.0 ∷ time_word b.0.0 ∷ rest =
-    t.0 ∙ (ap (λ (ws : List (List ℕ)). decimal a.0.0 ∷ ws) u.0 ∙ ap (λ (ws : List (List ℕ)). decimal a.0.0 ∷ time_word b.0.0 ∷ ws) p.1) in
-    subst (λ (x : Call). Takes (codes "acquire") words x rest) p.0 (ap (λ (ws : List (List ℕ)). codes "acquire" ∷ ws) all, (t.1, u.1))
+    let all : words ≡ decimal a.0.0 ∷ time_word b.0.0 ∷ rest = times_joined words a.0.1 b.0.1 rest a.0.0 b.0.0 t.0 u.0 p.1 in
+    subst (λ (x : Call). Takes (codes "acquire") words x rest) {x = Acquire a.0.0 b.0.0} p.0 (ap (λ (ws : List (List ℕ)). codes "acquire" ∷ ws) all, (t.1, u.1))
 
 update_takes : (words : List (List ℕ)) (c : Call) (rest : List (List ℕ)) → update_at words ≡ Some (c, rest) → Takes (codes "update") words c rest
 unfolding update_at
@@ -118,9 +127,8 @@ update_takes words c rest e =
     let p = some_pair_parts (Update a.0.0 b.0.0) c b.0.1 rest b.2 in
     let t = field_takes txn_field words a.0.0 a.0.1 a.1 in
     let u = field_takes time_field a.0.1 b.0.0 b.0.1 b.1 in
-    let all : words ≡ decimal a.0.0 ∷ time_word b.0.0 ∷ rest =
-    t.0 ∙ (ap (λ (ws : List (List ℕ)). decimal a.0.0 ∷ ws) u.0 ∙ ap (λ (ws : List (List ℕ)). decimal a.0.0 ∷ time_word b.0.0 ∷ ws) p.1) in
-    subst (λ (x : Call). Takes (codes "update") words x rest) p.0 (ap (λ (ws : List (List ℕ)). codes "update" ∷ ws) all, (t.1, u.1))
+    let all : words ≡ decimal a.0.0 ∷ time_word b.0.0 ∷ rest = times_joined words a.0.1 b.0.1 rest a.0.0 b.0.0 t.0 u.0 p.1 in
+    subst (λ (x : Call). Takes (codes "update") words x rest) {x = Update a.0.0 b.0.0} p.0 (ap (λ (ws : List (List ℕ)). codes "update" ∷ ws) all, (t.1, u.1))
 
 -- a call of one number
 abbrev one : (ℕ → Call) → ℕ × List (List ℕ) → Option (Call × List (List ℕ))

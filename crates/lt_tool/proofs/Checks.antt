@@ -1,9 +1,9 @@
 -- What the check of a text says of the reader that provided the text.
 use Rattle.std.proofs.Common.{◌≡◌, ℕ, List, Option, Some, None, Result, Ok, Err, inl, inr, sym, subst, ap, ◌∙◌}
 use Rattle.std.specs.Prelude.{IfSome}
-use Rattle.lt_history.specs.declared.checker.CheckError.{CheckError}
-use Rattle.lt_history.specs.declared.checker.Report.{Report}
-use Rattle.lt_history.specs.Verdict.{IsLegalText, IsOrMemory}
+use Rattle.lt_checker.specs.declared.checker.CheckError.{CheckError}
+use Rattle.lt_checker.specs.declared.checker.Report.{Report}
+use Rattle.lt_checker.specs.Verdict.{IsLegalText, IsOrMemory}
 use Rattle.lt_tool.specs.declared.check.CheckTextError.{CheckTextError}
 use Rattle.lt_tool.specs.declared.check.CheckTextError.TheVariants as errors
 use Rattle.lt_tool.specs.Check.{IsCheckStoppedOr, IsUnwrittenOr}

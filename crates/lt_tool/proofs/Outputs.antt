@@ -1,6 +1,6 @@
 -- The output of a script ends with a text that a check accepts.
 use Rattle.std.proofs.Common.{◌≡◌, ℕ, List, Bool, Option, length, refl, subst, inr}
-use Rattle.lt_history.proofs.Verdicts.{all_of_latest}
+use Rattle.lt_checker.proofs.Verdicts.{all_of_latest}
 use Rattle.lt_script.specs.declared.command.Command.{Command}
 use Rattle.lt_runner.specs.declared.outcome.Finish.{Finish}
 use Rattle.lt_runner.specs.declared.outcome.Ran.{Ran}

@@ -2,12 +2,12 @@
 use Rattle.std.specs.Prelude.{ℕ, ◌≡◌, ◌⊎◌, ◌<◌, ◌^◌, List, [], ◌∷◌, ◌++◌, length, Option, IfErr, IfSome, Result, Ok, Err, decimal, codes}
 use Rattle.std.specs.Io.KnownBytes.{Appends}
 use Rattle.lt_text.specs.Compose.{spaced}
-use Rattle.lt_history.specs.declared.checker.Report.{Report}
-use Rattle.lt_history.specs.declared.checker.CheckError.TheVariants as faults
-use Rattle.lt_history.specs.declared.error.Fault.{Fault}
-use Rattle.lt_history.specs.Print.{AppendsPrefix}
-use Rattle.lt_history.specs.Text.{Fails}
-use Rattle.lt_history.specs.Verdict.{IsLegalText, upgraded, of_latest}
+use Rattle.lt_checker.specs.declared.checker.Report.{Report}
+use Rattle.lt_checker.specs.declared.checker.CheckError.TheVariants as faults
+use Rattle.lt_checker.specs.declared.error.Fault.{Fault}
+use Rattle.lt_writer.specs.Puts.{AppendsPrefix}
+use Rattle.lt_checker.specs.Text.{Fails}
+use Rattle.lt_checker.specs.Verdict.{IsLegalText, upgraded, of_latest}
 use Rattle.lt_tool.specs.declared.check.CheckTextError.{CheckTextError}
 use Rattle.lt_tool.specs.declared.check.CheckTextError.TheVariants as errors
 use Rattle.lt_tool.specs.declared.input.Unread.{Unread}

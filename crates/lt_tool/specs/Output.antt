@@ -1,10 +1,10 @@
 -- What a run writes, and what the output means.
 use Rattle.std.specs.Prelude.{ℕ, ◌≡◌, ◌⊎◌, ◌<◌, ◌≤◌, ◌^◌, Bool, List, ◌++◌, length, Option, Some, None, IfSome, Result, Ok, Err, if◌then◌else◌}
 use Rattle.std.specs.Io.KnownBytes.{Appends}
-use Rattle.lt_history.specs.declared.checker.Report.{Report}
-use Rattle.lt_history.specs.Histories.{IsTextOf}
-use Rattle.lt_history.specs.Print.{AppendsPrefix}
-use Rattle.lt_history.specs.Verdict.{IsLegalText}
+use Rattle.lt_checker.specs.declared.checker.Report.{Report}
+use Rattle.lt_checker.specs.Histories.{IsTextOf}
+use Rattle.lt_writer.specs.Puts.{AppendsPrefix}
+use Rattle.lt_checker.specs.Verdict.{IsLegalText}
 use Rattle.lt_script.specs.declared.command.Command.{Command}
 use Rattle.lt_script.specs.declared.error.ScriptError.{ScriptError}
 use Rattle.lt_script.specs.declared.error.ScriptError.TheVariants.{Fault, Memory}

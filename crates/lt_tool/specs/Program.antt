@@ -1,8 +1,8 @@
 -- How the program ends, and what it says if it fails.
 use Rattle.std.specs.Prelude.{ℕ, List, [], ◌++◌, decimal, codes, Result, Ok, Err}
-use Rattle.lt_history.specs.declared.checker.CheckError.TheVariants as checks
-use Rattle.lt_history.specs.declared.error.Fault.{Fault}
-use Rattle.lt_history.specs.declared.error.Fault.TheVariants as histories
+use Rattle.lt_checker.specs.declared.checker.CheckError.TheVariants as checks
+use Rattle.lt_checker.specs.declared.error.Fault.{Fault}
+use Rattle.lt_checker.specs.declared.error.Fault.TheVariants as histories
 use Rattle.lt_script.specs.declared.error.ScriptFault.{ScriptFault}
 use Rattle.lt_script.specs.declared.error.ScriptFault.TheVariants.{BadPass, BadCall, BadWords, BadTxn, BadTime, BadMax, BadKey, BadAccess}
 use Rattle.lt_runner.specs.declared.outcome.Finish.{Finish}

@@ -6,7 +6,7 @@ use Rattle.lt_tool.specs.declared.check.CheckTextError.TheVariants as checks
 use Rattle.lt_tool.specs.declared.failure.Failure.{Failure}
 use Rattle.lt_tool.specs.declared.failure.Failure.TheVariants as failures
 use Rattle.lt_tool.specs.declared.script.RunError.TheVariants as runs
-use Rattle.lt_history.specs.declared.checker.Report.{Report}
+use Rattle.lt_checker.specs.declared.checker.Report.{Report}
 use Rattle.lt_runner.specs.declared.outcome.Finish.{Finish}
 use Rattle.lt_runner.specs.declared.outcome.Finish.TheVariants.{Done}
 use Rattle.lt_command_line.specs.declared.options.Options.{Options}
@@ -15,7 +15,7 @@ use Rattle.lt_command_line.specs.declared.words.Job.{Job}
 use Rattle.lt_command_line.specs.declared.words.Job.TheVariants as jobs
 use Rattle.lt_command_line.specs.declared.words.WordsError.{WordsError}
 use Rattle.lt_command_line.specs.declared.words.WordsError.TheVariants as errors
-use Rattle.lt_history.specs.Print.{AppendsPrefix}
+use Rattle.lt_writer.specs.Puts.{AppendsPrefix}
 use Rattle.lt_tool.specs.Output.{IsScriptRefused, WritesOutput, WritesInPart}
 use Rattle.lt_command_line.specs.Words.{IsReadOf}
 

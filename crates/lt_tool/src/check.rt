@@ -1,16 +1,17 @@
 //! What does the program answer to a text of histories?
 //!
 //! [`check_text`] writes the numbers of a legal text; [`upgrade_text`] writes the text itself with the first line
-//! of the latest version. Both read the whole text and check it with `lt_history` before they write. Read next:
+//! of the latest version. Both read the whole text and check it with `lt_checker` before they write. Read next:
 //! `specs/Check.antt`.
 ghost use Rattle.std.specs.Prelude.{◌≡◌, ◌≢◌, ◌++◌, IfOk, IfErr, OnOk};
 ghost use Rattle.std.specs.Io.KnownBytes.{Appends};
-ghost use Rattle.lt_history.specs.Print.{AppendsPrefix};
+ghost use Rattle.lt_writer.specs.Puts.{AppendsPrefix};
 ghost use Rattle.lt_tool.specs.Check.{IsLegalReport, IsChecked, IsUnchecked, IsCheckStoppedOr, IsUnwrittenOr, IsUpgraded, AnswersLegal, RefusesFaultyText, RefusesLongText, TellsPart, UpgradesPart, report_line, reported, unread};
 
 use crate::input::{Unread, read_text};
-use lt_history::{CheckError, Fault, Report, check, upgrade, write_out};
+use lt_checker::{CheckError, Fault, Report, check, upgrade};
 use lt_text::put::{put_number_word, put_word};
+use lt_writer::write_out;
 use std::alloc::{AllocError, Global};
 use std::io::{Read, Write};
 use thiserror::Error;

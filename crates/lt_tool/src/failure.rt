@@ -8,8 +8,9 @@ ghost use Rattle.lt_tool.specs.Program.{check_message, check_status, error_messa
 
 use crate::{CheckTextError, Finish, RunError};
 use itoa::Buffer;
-use lt_history::{CheckError, Fault, PrintError, write_out};
+use lt_checker::{CheckError, Fault};
 use lt_script::ScriptFault;
+use lt_writer::{PrintError, write_out};
 use std::io::Write;
 
 /// Why the program did not do its work.

@@ -4,7 +4,7 @@
 //! `check.rt`. Read next: `specs/Work.antt`, which defines when a job is done and why it fails.
 ghost use Rattle.std.specs.Prelude.{◌≡◌, None, true, IfOk, IfErr};
 ghost use Rattle.std.specs.Io.KnownBytes.{Appends};
-ghost use Rattle.lt_history.specs.Print.{AppendsPrefix};
+ghost use Rattle.lt_writer.specs.Puts.{AppendsPrefix};
 ghost use Rattle.lt_command_line.specs.Options.{AreInRange};
 ghost use Rattle.lt_tool.specs.Output.{WritesOutput};
 ghost use Rattle.lt_command_line.specs.Words.{HasOptionsInRange, texts};
@@ -12,7 +12,7 @@ ghost use Rattle.lt_tool.specs.Work.{IsFailedRun, IsFailedCheck, IsFailedUpgrade
 
 use crate::{CheckTextError, Failure, Finish, RunError, check_text, run_script, upgrade_text};
 use lt_command_line::{Job, Options, WordsError, read_words};
-use lt_history::write_out;
+use lt_writer::write_out;
 use std::alloc::Global;
 use std::fs::{File, Files};
 use std::io::{Read, Write};

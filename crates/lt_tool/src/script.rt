@@ -9,9 +9,9 @@ ghost use Rattle.lt_tool.specs.Output.{WritesOutput, WritesInPart, IsScriptRefus
 use crate::input::{Unread, read_text};
 use crate::table_run::run_commands;
 use lt_command_line::Options;
-use lt_history::write_out;
 use lt_runner::{Finish, Gate, OpenGate, RunFault};
 use lt_script::{Script, ScriptError, ScriptFault, read_script};
+use lt_writer::write_out;
 use std::alloc::Global;
 use std::io::{Read, Write};
 use std::sync::Wait;

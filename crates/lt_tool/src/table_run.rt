@@ -5,10 +5,10 @@ ghost use Rattle.lt_tool.specs.Output.{IsComposed, IsOutput, turns_of};
 
 use crate::answer::put_answers;
 use lt_command_line::Options;
-use lt_history::put_histories;
 use lt_runner::{Finish, Gate, Plan, Ran, RunFault, run};
 use lt_script::Script;
 use lt_table::linked_tables;
+use lt_writer::put_histories;
 use std::alloc::{AllocError, Global};
 use std::sync::Wait;
 use std::thread::Threads;

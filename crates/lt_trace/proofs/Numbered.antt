@@ -13,8 +13,8 @@ use Rattle.lt_text.specs.Fields.{number_within}
 use Rattle.lt_text.specs.Calls.{field_at, call_at}
 use Rattle.lt_text.specs.Replies.{reply_at, is_reply_of}
 use Rattle.lt_text.proofs.FieldLaws.{bind_some, txn_field, field_again}
-use Rattle.lt_history.specs.Lines.{Parts, line_words, line_text, if_no_fault, key_if_legal, equals_of, step_at, lets_in_words, parts_at}
-use Rattle.lt_history.proofs.PartsLaws.{parts_takes}
+use Rattle.lt_checker.specs.Lines.{Parts, line_words, line_text, if_no_fault, key_if_legal, equals_of, step_at, lets_in_words, parts_at}
+use Rattle.lt_checker.proofs.PartsLaws.{parts_takes}
 use Rattle.lt_trace.specs.Step.{unnumbered_step_at, are_step_words, is_step_text}
 use Rattle.lt_trace.specs.Trace.{parts_of_line, IsHistoryLine}
 use Rattle.lt_trace.specs.Laws.{NumberedIsLine}

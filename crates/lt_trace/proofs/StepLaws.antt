@@ -3,7 +3,7 @@ use Rattle.std.proofs.Common.{◌≡◌, ℕ, List, ◌∷◌, Option, Some, Non
 use Rattle.lt_ids.specs.Ids.{Wait}
 use Rattle.lt_text.specs.Maybe.{◌>>=◌}
 use Rattle.lt_text.specs.Fields.{ticket_of}
-use Rattle.lt_history.specs.Lines.{tickets_of, if_any}
+use Rattle.lt_checker.specs.Lines.{tickets_of, if_any}
 
 rest_decides : (t : Wait) (o : Option (List Wait)) → is_some (o >>= λ ts. Some (t ∷ ts)) ≡ is_some o
 rest_decides t None = refl

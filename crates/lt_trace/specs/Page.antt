@@ -1,6 +1,6 @@
 -- How lines are numbered.
 use Rattle.std.specs.Prelude.{ℕ, ◌≡◌, List, ◌++◌, Option, Some, None}
-use Rattle.lt_history.specs.Sorted.{next_index}
+use Rattle.lt_checker.specs.Sorted.{next_index}
 use Rattle.lt_trace.specs.declared.line.TraceLine.{TraceLine}
 use Rattle.lt_trace.specs.declared.page.KeyCounter.{KeyCounter}
 use Rattle.lt_trace.specs.declared.page.Page.{Page}

@@ -7,7 +7,7 @@ use Rattle.lt_text.specs.Words.{cut_of}
 use Rattle.lt_text.specs.Fields.{number_within}
 use Rattle.lt_text.specs.Calls.{field_at, call_at}
 use Rattle.lt_text.specs.Replies.{reply_at, is_reply_of}
-use Rattle.lt_history.specs.Lines.{key_if_legal, equals_of, lets_in_words}
+use Rattle.lt_checker.specs.Lines.{key_if_legal, equals_of, lets_in_words}
 
 -- The reply of the step that the words spell, and the words after it. The words are those of a line of histories
 -- after its index: the pass, the call, the sign `=`, the reply.

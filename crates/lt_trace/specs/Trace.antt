@@ -1,6 +1,6 @@
 -- A line of a trace, and the line of histories that it becomes.
 use Rattle.std.specs.Prelude.{ℕ, ◌≡◌, List, [], ◌∷◌, ◌++◌, decimal}
-use Rattle.lt_history.specs.Lines.{Parts, IsLine, line_text}
+use Rattle.lt_checker.specs.Lines.{Parts, IsLine, line_text}
 use Rattle.lt_trace.specs.declared.line.TraceLine.{TraceLine}
 
 -- The key, and the bytes after it and its space.

@@ -1,4 +1,4 @@
-//! Sorts the trace of a lock table into the text of histories that `lt_history` checks.
+//! Sorts the trace of a lock table into the text of histories that `lt_checker` checks.
 //!
 //! A lock table writes its steps in the order in which they happened. The text of histories has the keys in rising
 //! order, each with its steps in their order and numbered from 1. [`sort_trace`] reads a trace of any length, one

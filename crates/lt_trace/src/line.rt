@@ -7,8 +7,8 @@ ghost use Rattle.std.specs.Cmp.Lexicographic.{slice_cmp};
 ghost use Rattle.std.specs.Option.{option_map};
 ghost use Rattle.lt_text.specs.Fields.{number_within};
 ghost use Rattle.lt_text.specs.Calls.{Gives};
-ghost use Rattle.lt_history.specs.Lines.{tickets_of, lets_in_words};
-ghost use Rattle.lt_history.specs.Lines.{key_if_legal};
+ghost use Rattle.lt_checker.specs.Lines.{tickets_of, lets_in_words};
+ghost use Rattle.lt_checker.specs.Lines.{key_if_legal};
 ghost use Rattle.lt_trace.specs.Step.{unnumbered_step_at, is_step_text, line_of_parts, trace_line_of};
 
 use lt_ids::{IdError, Key};
@@ -41,7 +41,7 @@ fn pass(word: &[u8]) -> Option<u64>
 }
 
 /// Reads the pass, the call, the sign `=` and the reply.
-#[tactic(auto, unfolding(crate::specs::Step::unnumbered_step_at, lt_history::specs::Lines::equals_of))]
+#[tactic(auto, unfolding(crate::specs::Step::unnumbered_step_at, lt_checker::specs::Lines::equals_of))]
 fn read_step(words: &mut Words) -> Option<Reply>
     ensures { Gives result words.new (unnumbered_step_at words.old) }
 {
@@ -71,7 +71,7 @@ fn are_tickets(words: &mut Words) -> bool
 }
 
 /// Whether the remaining words are `let` and one ticket or more, or none.
-#[tactic(auto, unfolding(lt_history::specs::Lines::lets_in_words))]
+#[tactic(auto, unfolding(lt_checker::specs::Lines::lets_in_words))]
 fn are_lets(words: &mut Words) -> bool
     ensures { result ≡ is_some (lets_in_words words.old) }
 {

@@ -4,7 +4,7 @@
 ghost use Rattle.std.specs.Prelude.{◌≡◌, ◌+◌, ◌^◌, [], codes, None, IsSome, OnOk, IfOk, IfErr, IfSome, IfNone};
 ghost use Rattle.std.specs.Io.KnownBytes.{Appends};
 ghost use Rattle.lt_trace.specs.Errors.{IsOfOutput};
-ghost use Rattle.lt_history.specs.Sorted.{next_index};
+ghost use Rattle.lt_checker.specs.Sorted.{next_index};
 ghost use Rattle.lt_trace.specs.Page.{AppendsPlain, AppendsNumbered, CountsLine};
 
 use crate::error::{SortError, stream_error};

@@ -2,7 +2,7 @@
 //! or of limits. A sort that runs out of memory is made again, so the tests also pass if any one allocation fails.
 //! [`TestFiles`] stands in for a folder: it counts the names in it, and its files refuse bytes when they are full.
 use crate::{SortError, SortOptions, SortReport, TraceFault, TraceForm, sort_trace};
-use lt_history::check;
+use lt_checker::check;
 use std::alloc::Global;
 use std::cell::Cell;
 use std::fs::{Metadata, OpenFile, OpenOptions};

@@ -527,7 +527,7 @@ fn grow_fourteen_times(
 // Only the calls of the links allocate here. So whichever single allocation fails, this test sees one call fail,
 // repeats it, and gets the same answer from both links.
 #[test]
-fn after_refused_memory_the_same_call_answers_as_ever(rt: HostRuntime) -> Result<(), Fail> {
+fn refused_memory_changes_no_later_answer(rt: HostRuntime) -> Result<(), Fail> {
     let mut one = Links::new(rt.alloc());
     let mut other = Links::new(rt.alloc());
     grow_fourteen_times(&rt, &mut one, &mut other)?;

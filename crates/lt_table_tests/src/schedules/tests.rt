@@ -2,6 +2,7 @@
 //! Each seed gives one schedule. It is played on a linked and on a plain table, and every outcome, answer and
 //! history is compared with what the schedule expects. Read next `schedule`.
 use crate::linked::run;
+use crate::rules::lets_of;
 use crate::schedules::cases::ScheduleCaseCounts;
 use crate::schedules::plain::run_plain;
 use crate::schedules::schedule::{Schedule, random_schedule};
@@ -16,8 +17,8 @@ use lt_test_kit::command::{CallOutcome, TableCall};
 use lt_test_kit::key::key_length;
 use lt_test_kit::play::PlayedCommand;
 use lt_test_kit::run::TableRun;
-use lt_test_kit::second::{Let, Time};
-use std::alloc::{AllocError, Global};
+use lt_test_kit::second::Time;
+use std::alloc::Global;
 use std::io::Write;
 use std::process::Abort;
 use std::sync::Wait;
@@ -59,14 +60,6 @@ fn asked_of(call: &Call) -> AskedCall {
         Call::Leave { number } => AskedCall::Leave { number },
         Call::Look { number } => AskedCall::Look { number },
     }
-}
-
-fn lets_of(alloc: Global, entry: &Entry) -> Result<Vec<Let>, AllocError> {
-    let mut lets = Vec::new(alloc);
-    for through in entry.lets() {
-        lets.push((through.pass, through.ticket.number(), through.ticket.wait()))?;
-    }
-    Ok(lets)
 }
 
 /// Whether the line has these replies. After a scan that ran out of memory and was made again, the guard has only
@@ -134,9 +127,9 @@ fn compare_entry<R: Abort>(
         "the call, seed {seed}"
     );
     assert_eq!(rt; entry.reply(), step.reply, "the reply, seed {seed}");
-    let mut lets = lets_of(alloc, entry);
+    let mut lets = lets_of(alloc, entry.lets());
     if lets.is_err() {
-        lets = lets_of(alloc, entry);
+        lets = lets_of(alloc, entry.lets());
     }
     assert!(rt; lets? == step.lets, "the lets differ, seed {seed}");
     Ok(())

@@ -1,8 +1,8 @@
 use Rattle.std.proofs.Common.{◌≡◌, ℕ, List, sym, ap, subst, rules, arith}
 use Rattle.std.specs.Prelude.{IfSome, IfNone}
-use Rattle.lt_history.specs.declared.checker.Report.{Report}
-use Rattle.lt_history.specs.Cursor.{spot}
-use Rattle.lt_history.specs.Pieces.{GivesByRules, NoLineComesNext}
+use Rattle.lt_checker.specs.declared.checker.Report.{Report}
+use Rattle.lt_checker.specs.Cursor.{spot}
+use Rattle.lt_checker.specs.Pieces.{GivesByRules, NoLineComesNext}
 use Rattle.lt_audit.specs.Audit.{IsSplit, IsCallWithRecord, IsNoLine}
 use Rattle.lt_audit.proofs.Streams.{takes_pending, reads_line, refused_pending, explained}
 use Rattle.lt_audit.proofs.explained.explain.Goals as goal

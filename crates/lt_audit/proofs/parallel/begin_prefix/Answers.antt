@@ -1,5 +1,5 @@
 use Rattle.std.proofs.Common.{ℕ, sym, ap, subst}
-use Rattle.lt_history.specs.declared.checker.Report.{Report}
+use Rattle.lt_checker.specs.declared.checker.Report.{Report}
 use Rattle.lt_audit.specs.KnownText.{known_from}
 use Rattle.lt_audit.specs.Parallel.{IsCheckedPrefix}
 use Rattle.lt_audit.proofs.PieceJoins.{begins}

@@ -1,5 +1,5 @@
 use Rattle.std.proofs.Common.{ℕ, List, sym, subst, rules}
-use Rattle.lt_history.specs.Pieces.{HasBegun, LacksHeader}
+use Rattle.lt_checker.specs.Pieces.{HasBegun, LacksHeader}
 use Rattle.lt_audit.specs.Audit.{IsReading}
 use Rattle.lt_audit.proofs.Streams.{lacks_first_line, starts_reading}
 use Rattle.lt_audit.proofs.stream.begin.Goals as goal

@@ -1,5 +1,5 @@
 use Rattle.std.proofs.Common.{ℕ, List, sym, subst}
-use Rattle.lt_history.specs.Pieces.{RefusesFrom}
+use Rattle.lt_checker.specs.Pieces.{RefusesFrom}
 use Rattle.lt_audit.specs.Audit.{RefusesPending}
 use Rattle.lt_audit.proofs.Streams.{refused_by_check}
 use Rattle.lt_audit.proofs.stream.take_pending.Goals as goal

@@ -4,7 +4,7 @@ use Rattle.lt_plain.specs.Rules.{TakesNoMemory, acquire}
 use Rattle.lt_plain.specs.declared.call.Call.TheVariants.{Acquire}
 use Rattle.lt_plain.proofs.Lawfulness.{step_keeps_lawful}
 use Rattle.lt_plain.proofs.Filled.{acquire_filled}
-use Rattle.lt_lock.specs.Linked.{record_of}
+use Rattle.lt_row.specs.Row.{record_of}
 use Rattle.lt_lock.proofs.Tables.{found, missing, row_is, ok_step, either_table, err_records}
 use Rattle.lt_lock.proofs.row_table.acquire_at.Goals as goal
 

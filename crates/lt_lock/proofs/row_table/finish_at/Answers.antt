@@ -1,8 +1,8 @@
 use Rattle.std.proofs.Common.{refl, subst, sym}
 use mathlib.Core.Bool.{true≢false}
 use Rattle.lt_plain.specs.Rules.{TakesNoMemory, finish}
-use Rattle.lt_lock.specs.Linked.{HasQueues}
-use Rattle.lt_lock.specs.RowStepped.{IsEmptied}
+use Rattle.lt_row.specs.Row.{HasQueues}
+use Rattle.lt_lock.specs.Linked.{IsEmptied}
 use Rattle.lt_lock.proofs.Tables.{found, row_is, nothing_stepped, nothing_dropped, emptied_after, stepped, either_linked, on_err, err_records}
 use Rattle.lt_lock.proofs.row_table.finish_at.Goals as goal
 

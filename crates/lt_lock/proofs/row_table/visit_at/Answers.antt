@@ -5,7 +5,7 @@ use Rattle.lt_plain.specs.Visit.{visit}
 use Rattle.lt_plain.specs.declared.call.Call.TheVariants.{Visit}
 use Rattle.lt_plain.proofs.Lawfulness.{step_keeps_lawful}
 use Rattle.lt_plain.proofs.Filled.{visit_filled}
-use Rattle.lt_lock.specs.Linked.{record_of, request_of}
+use Rattle.lt_row.specs.Row.{record_of, request_of}
 use Rattle.lt_lock.proofs.Tables.{found, filled_at, row_is, nothing_stepped, ok_step, either_table, err_records}
 use Rattle.lt_lock.proofs.row_table.visit_at.Goals as goal
 

@@ -1,5 +1,5 @@
 use Rattle.std.proofs.Common.{◌≡◌, refl, [], length, rules}
-use Rattle.lt_lock.specs.RowStepped.{visit_by}
+use Rattle.lt_row.specs.RowStepped.{visit_by}
 use Rattle.lt_lock.proofs.Tables.{no_row, nothing_stepped}
 use Rattle.lt_lock.proofs.row_table.visit_key.Goals as goal
 

@@ -1,5 +1,5 @@
 use Rattle.std.proofs.Common.{◌≡◌, length, is_some}
-use Rattle.lt_history.specs.Lines.{tickets_of}
+use Rattle.lt_checker.specs.Lines.{tickets_of}
 use Rattle.lt_trace.proofs.line.are_tickets.Given as goal
 
 abbrev pub invariant-loop-word : goal.invariant-loop-word

@@ -3,7 +3,8 @@ use Rattle.std.proofs.lemmas.Result.{IfOk-weaker}
 use Rattle.lt_plain.specs.Visit.{visit}
 use Rattle.lt_plain.specs.Table.{queued_of, record_at}
 use Rattle.lt_plain.proofs.Maps.{act_alike}
-use Rattle.lt_lock.specs.Linked.{records_of, request_of}
+use Rattle.lt_row.specs.Row.{request_of}
+use Rattle.lt_lock.specs.Linked.{records_of}
 use Rattle.lt_lock.proofs.row_table.RowTableKeyTable.visit.Goals as goal
 
 -- the queue entry is that of the request

@@ -1,0 +1,15 @@
+pub mod First
+pub mod Keys
+pub mod Grouped
+pub mod Fits
+pub mod Legal
+pub mod Counts
+pub mod Steps
+pub mod Tickets
+pub mod Places
+pub mod LetsLaws
+pub mod PartsLaws
+pub mod LineLaws
+pub mod Loop
+pub mod Verdicts
+pub mod PieceLaws

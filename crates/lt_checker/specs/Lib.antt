@@ -1,0 +1,10 @@
+pub mod First
+pub mod Fault
+pub mod Version
+pub mod Lines
+pub mod Text
+pub mod Cursor
+pub mod Verdict
+pub mod Histories
+pub mod Pieces
+pub mod Sorted

@@ -1,5 +1,0 @@
-use Rattle.lt_history.proofs.First.{first_rules_hold}
-use Rattle.lt_history.proofs.laws.first_rules_hold.Goals as goal
-
-pub returns : goal.returns
-returns c = first_rules_hold

@@ -1,5 +1,0 @@
-use Rattle.lt_history.proofs.PieceLaws.{reports_legal}
-use Rattle.lt_history.proofs.pieces.Checker.report.Goals as goal
-
-pub returns-clause-legal : goal.returns-clause-legal
-returns-clause-legal c = reports_legal c.args.self.now

@@ -1,7 +1,0 @@
-use Rattle.lt_links.specs.declared.ids.QueueKind.TheVariants.{Reservation}
-use Rattle.lt_lock.specs.Linked.{line, queue_at, IsNamed}
-use Rattle.lt_lock.proofs.Copies.{first_of}
-use Rattle.lt_lock.proofs.copy.reservation.Goals as goal
-
-pub request_of-requires : goal.request_of-requires
-request_of-requires c = first_of IsNamed (line c.args.links.now (queue_at c.args.row.now.id Reservation)) c.in-Some.stand (c.requires.named Reservation) c.in-Some.ensures.stand

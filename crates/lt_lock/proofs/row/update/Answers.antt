@@ -1,7 +1,0 @@
-use Rattle.std.proofs.Common.{rules}
-use Rattle.lt_lock.specs.Linked.{record_of}
-use Rattle.lt_lock.proofs.Leaves.{lawful_raised}
-use Rattle.lt_lock.proofs.row.update.Goals as goal
-
-pub raise-requires-clause-lawful : goal.raise-requires-clause-lawful
-raise-requires-clause-lawful c = lawful_raised (record_of c.args.links.now c.args.row.now) c.requires.row.lawful c.in-Some.holder c.args.ts (search rules)

@@ -1,0 +1,13 @@
+pub mod Places
+pub mod Written
+pub mod Walks
+pub mod Searches
+pub mod Rows
+pub mod Fronts
+pub mod Acts
+pub mod Enqueued
+pub mod Leaves
+pub mod Waits
+pub mod Visits
+pub mod Copies
+pub mod Records

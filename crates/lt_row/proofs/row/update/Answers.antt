@@ -1,0 +1,7 @@
+use Rattle.std.proofs.Common.{rules}
+use Rattle.lt_row.specs.Row.{record_of}
+use Rattle.lt_row.proofs.Leaves.{lawful_raised}
+use Rattle.lt_row.proofs.row.update.Goals as goal
+
+pub raise-requires-clause-lawful : goal.raise-requires-clause-lawful
+raise-requires-clause-lawful c = lawful_raised (record_of c.args.links.now c.args.row.now) c.requires.row.lawful c.in-Some.holder c.args.ts (search rules)

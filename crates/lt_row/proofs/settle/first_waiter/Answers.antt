@@ -1,0 +1,23 @@
+use Rattle.std.proofs.Common.{◌∙◌, ap, Some, slice_get, sym}
+use Rattle.std.specs.Option.{option_map}
+use Rattle.std.specs.List.{find}
+use Rattle.lt_plain.specs.Rules.{is_eligible}
+use Rattle.lt_links.specs.Maps.{queue}
+use Rattle.lt_row.specs.Row.{request_of, writer_of, record_of, line}
+use Rattle.lt_row.proofs.Rows.{first_cut, first_reader, first_after_readers}
+use Rattle.lt_row.proofs.Written.{stand_is}
+use Rattle.lt_row.proofs.settle.first_waiter.Goals as goal
+
+pub returns-in-Some : goal.returns-in-Some
+returns-in-Some c =
+    let m = c.args.links.now in
+    let cut = first_cut m c.requires.sound _ c.in-Some.node c.in-Some.ensures.first in
+    ap (λ s. Some s.number) (sym (stand_is m c.in-Some.node c.stand.result c.stand.ensures.stand)) ∙ first_reader m c.args.row.now c.in-Some.node cut.0 (ap (queue m) (sym c.queue.ensures) ∙ cut.1)
+
+pub returns-in-None : goal.returns-in-None
+returns-in-None c =
+    let m = c.args.links.now in
+    c.first_eligible.ensures
+    ∙ ap (λ o. option_map (λ s. s.number) (find (λ s. is_eligible (option_map request_of o) (writer_of s)) (line m c.queue-in-None.result))) c.reserved.ensures.stand
+    ∙ ap (λ q. option_map (λ s. s.number) (find (λ s. is_eligible (record_of m c.args.row.now).reservation (writer_of s)) (line m q))) c.queue-in-None.ensures
+    ∙ first_after_readers m c.args.row.now (c.in-None.ensures.first ∙ ap (λ q. slice_get (queue m q) 0) c.queue.ensures)

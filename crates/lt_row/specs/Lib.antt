@@ -1,0 +1,3 @@
+pub mod Row
+pub mod Found
+pub mod RowStepped

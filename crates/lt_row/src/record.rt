@@ -1,0 +1,145 @@
+//! How does a caller keep the record of one key, without a table? [`LinkedRecord`] is a row with links of its own,
+//! and makes a call that is given as a value. Read `row.rt` and `visit.rt` next, which have the calls on a row.
+ghost use Rattle.std.specs.Prelude.{◌≡◌, ◌≤◌, [], false, IfOk, OnErr, IsOk, IsTrue};
+ghost use Rattle.lt_plain.specs.Rules.{empty, IsOutcome, TakesNoMemory};
+ghost use Rattle.lt_plain.specs.Step.{step};
+ghost use Rattle.lt_row.specs.Row.{record_of};
+ghost use Rattle.lt_row.specs.RowStepped.{IsRow, UpdatesRow, RowUsesNoMemory, has_nobody};
+
+use crate::copy::state;
+use crate::row::{self, Row, has_nobody};
+use crate::visit::{stand_of, visit};
+use lt_ids::{Request, Through};
+use lt_links::Links;
+use lt_plain::{Call, KeyState, Reply};
+use std::alloc::{AllocError, Global};
+use std::marker::Model;
+
+/// The record of one key, in a row with links of its own. In a contract, it is the key's record.
+#[derive(Drop)]
+pub struct LinkedRecord {
+    links: Links,
+    row: Row,
+}
+
+impl Model for LinkedRecord {
+    ghost use Rattle.lt_plain.specs.Codes.{record_code};
+    ghost use Rattle.lt_plain.specs.Rules.{Record};
+
+    ghost Value = { Record };
+
+    ghost coded = { record_code };
+
+    ghost use Rattle.lt_row.specs.Row.{record_of};
+    ghost use Rattle.lt_row.specs.RowStepped.{IsRow};
+
+    ghost view = { λ r. record_of r.links r.row };
+
+    ghost invariant = { λ r. IsRow r.links r.row };
+}
+
+/// Adds the row of a key that nobody has locked and nobody waits for.
+fn add_row(links: &mut Links) -> Result<Row, AllocError>
+    ensures row { IfOk result (IsRow links.new) }
+    ensures empty { IfOk result (λ row. record_of links.new row ≡ empty) }
+{
+    Ok(Row {
+        id: links.add_record()?,
+        holder: None,
+        distinguished: None,
+    })
+}
+
+/// Makes the call on a row, for the pass with this number.
+fn make_on_row(
+    links: &mut Links,
+    row: &mut Row,
+    pass: u32,
+    call: &Call,
+    lets: &mut Vec<Through>,
+) -> Result<Reply, AllocError>
+    requires row { IsRow links.old row.old }
+    requires lets { lets.old.items ≡ [] }
+    requires pass_low { 1 ≤ pass }
+    requires pass_high { pass ≤ 1024 }
+    ensures ok { IfOk result (UpdatesRow links.old links.new row.old row.new
+        (λ r. step r pass call.now) lets.new.items) }
+    ensures err { OnErr result ((links.new ≡ links.old) × (row.new ≡ row.old) × (lets.new.items ≡ [])) }
+    ensures no_memory { RowUsesNoMemory links.old row.old (λ r. step r pass call.now) → IsOk result }
+{
+    match *call {
+        Call::Visit {
+            ticket,
+            txn,
+            ts,
+            access,
+            longest,
+        } => {
+            let request = Request::new(ticket.number(), txn, ts, pass, longest).unwrap();
+            visit(
+                links,
+                row,
+                &stand_of(&request, ticket.wait()),
+                longest,
+                access,
+            )
+        }
+        Call::Acquire { txn, ts } => row::acquire(links, row, txn, ts, lets),
+        Call::Update { txn, ts } => row::update(links, row, txn, ts, lets),
+        Call::Finish { txn } => row::finish(links, row, txn, lets),
+        Call::Leave { number } => row::leave(links, row, number, lets),
+        Call::Look { number } => Ok(row::look(links, row, number)),
+    }
+}
+
+impl LinkedRecord {
+    /// The record of a key that nobody has locked and nobody waits for. This call and later ones allocate from this
+    /// allocator. The only error is that memory ran out.
+    pub fn new(alloc: Global) -> Result<Self, AllocError>
+        ensures { IfOk result (λ r. r ≡ empty) }
+    {
+        let mut links = Links::new(alloc);
+        let row = add_row(&mut links)?;
+        Ok(LinkedRecord { links, row })
+    }
+
+    /// Makes the record empty, if nobody is queued at the key or has its reservation. Says whether that is so. The
+    /// record is then ready for another key, without a new allocation.
+    pub fn clear(&mut self) -> bool
+        ensures nobody { result ≡ has_nobody self.old }
+        ensures cleared { IsTrue result → self.new ≡ empty }
+        ensures kept { result ≡ false → self.new ≡ self.old }
+    {
+        if !has_nobody(&self.links, &self.row) {
+            return false;
+        }
+        self.row.holder = None;
+        self.row.distinguished = None;
+        true
+    }
+
+    /// Makes the call at the key for the pass with this number, which is 1 to 1024. Puts the lets into `lets`, in
+    /// order. The only error is that memory ran out. After an `Err`, nothing has changed.
+    pub fn make(
+        &mut self,
+        pass: u32,
+        call: &Call,
+        lets: &mut Vec<Through>,
+    ) -> Result<Reply, AllocError>
+        requires lets { lets.old.items ≡ [] }
+        requires pass_low { 1 ≤ pass }
+        requires pass_high { pass ≤ 1024 }
+        ensures ok { IfOk result (λ reply. IsOutcome (step self.old pass call.now) self.new reply lets.new.items) }
+        ensures err { OnErr result ((self.new ≡ self.old) × (lets.new.items ≡ [])) }
+        ensures no_memory { TakesNoMemory self.old (step self.old pass call.now) → IsOk result }
+    {
+        make_on_row(&mut self.links, &mut self.row, pass, call, lets)
+    }
+
+    /// A copy of the record. It fails only when an allocation fails.
+    pub fn state(&self, alloc: Global) -> Result<KeyState, AllocError>
+        ensures { IfOk result (λ state. state ≡ self.now) }
+    {
+        state(&self.links, alloc, &self.row)
+    }
+}

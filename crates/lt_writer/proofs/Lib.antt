@@ -1,0 +1,5 @@
+pub mod Sorting
+pub mod Composed
+pub mod Unique
+pub mod Written
+pub mod Ranks
