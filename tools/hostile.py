@@ -46,8 +46,9 @@ TESTS = [
     ('lt_tool_tests', 'checks::'),
     ('lt_tool_tests', 'scripts::'),
     ('lt_tool_tests', 'words::'),
-    ('lt_trace', 'tests::'),
-    ('lt_picture', 'tests::'),
+    ('lt_trace_tests', 'sorting::'),
+    ('lt_trace_tests', 'pictures::'),
+    ('lt_trace_tests', 'summaries::'),
 ]
 
 # The calls of a table that take memory, each of which must have been refused in the schedules. The table over plain tables

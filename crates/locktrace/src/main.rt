@@ -27,10 +27,11 @@ mod words;
 
 use crate::check::{check_file, len_of_file};
 use crate::failure::{TraceFailure, status};
-use crate::layout::{Terminal, width_of};
+use crate::layout::width_of;
 use crate::progress_line::ProgressLine;
 use crate::task::perform;
 use crate::words::{Task, TaskError, read_task};
+use lt_picture::Terminal;
 use std::env::{self, VarError};
 use std::io::{ErrorKind, IsTerminal};
 use std::process::ExitCode;

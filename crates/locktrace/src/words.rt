@@ -3,10 +3,10 @@
 //! The first half of the file builds the command line for clap, a command at a time. The second half turns clap's
 //! matches into a [`Task`]. [`read_task`] combines the two. Read next: `task.rt`, which performs a task.
 use crate::help;
-use crate::layout::{Terminal, layout_of};
+use crate::layout::layout_of;
 use clap::error::ErrorKind;
 use clap::{Arg, ArgAction, ArgMatches, Command, Error};
-use lt_picture::Layout;
+use lt_picture::{Layout, Terminal};
 use std::alloc::{AllocError, Global};
 
 /// Which steps of a text are wanted.

@@ -1,22 +1,21 @@
 -- A stream is read line by line and given to a checker.
 use Rattle.std.proofs.Common.{◌≡◌, ℕ, ◌+◌, ◌≤◌, ◌⊎◌, Bool, true, false, cond, eqb, List, [], ◌∷◌, ◌++◌, length, drop, Option, Some, None, Result, Ok, Err, refl, sym, ap, subst, ◌∙◌, inl, inr, append_assoc, arith, length-append}
-use Rattle.std.specs.Prelude.{IfSome, IfNone, IfOk, IfErr}
+use Rattle.std.specs.Prelude.{IfSome, IfOk, IfErr}
 use Rattle.std.specs.Io.{StartsWith}
 use Rattle.std.specs.Io.BufRead.{take_through, drop_through, DropsThrough}
 use Rattle.std.specs.Io.KnownBytes.{Consumes, IsAtEnd, Keeps}
 use Rattle.std.proofs.lemmas.Bool.{eqb-true}
 use Rattle.std.proofs.lemmas.List.{append-nil, take-append-drop}
-use Rattle.lt_checker.specs.Cursor.{spot}
 use Rattle.lt_checker.specs.declared.checker.Report.{Report}
 use Rattle.lt_checker.specs.declared.checker.CheckError.{CheckError}
 use Rattle.lt_checker.specs.declared.checker.CheckError.TheVariants as checks
 use Rattle.lt_checker.specs.declared.error.Fault.TheVariants.{Header}
 use Rattle.lt_checker.specs.declared.pieces.Checker.{Checker}
-use Rattle.lt_checker.specs.Pieces.{IsCountable, HasTaken, HasBegun, LacksHeader, MovesOver, TakesLines, RefusesFrom, GivesByRules, NoLineComesNext}
+use Rattle.lt_checker.specs.Pieces.{IsCountable, HasTaken, HasBegun, LacksHeader, MovesOver, TakesLines, RefusesFrom}
 use Rattle.lt_checker.specs.Verdict.{Judges}
 use Rattle.lt_checker.specs.Version.{header_of}
 use Rattle.lt_checker.proofs.Verdicts.{is_said, legal_is_said, fault_is_said}
-use Rattle.lt_audit.specs.Audit.{EndsLine, StopsAtLineEnd, IsNoLine, IsAfterLine, IsLineRead, IsBeginning, IsReading, RefusesPending, EndsWith, EndsAs, IsNoVerdict, EndsReading, EndsReadingAs, IsAudited, IsAuditedAs, stopped, IsSplit, IsCallWithRecord, IsExplained}
+use Rattle.lt_audit.specs.Audit.{EndsLine, StopsAtLineEnd, IsAfterLine, IsLineRead, IsBeginning, IsReading, RefusesPending, EndsWith, EndsAs, IsNoVerdict, EndsReading, EndsReadingAs, IsAudited, IsAuditedAs, stopped, IsSplit, IsExplained, SaysOfLine}
 use Rattle.lt_audit.specs.declared.explained.Explained.{Explained}
 use Rattle.lt_audit.specs.declared.error.AuditError.{AuditError}
 use Rattle.lt_audit.specs.declared.error.AuditError.TheVariants as errors
@@ -253,45 +252,35 @@ rest_is_audited_as source now c pending (Err e) h k = k source h
 
 -- ---- one line
 
--- What a line is, beside where it stands in the text.
-pub record Findings (c : Checker) (number : ℕ) (x : Explained) : Type 0 where
-  pub numbered : c.report.steps + 2 ≡ number
-  pub asked : IfSome x.asked (λ a. IsCallWithRecord c x.line.items a.0 a.1)
-  pub unasked : IfNone x.asked (IsNoLine x.line.items)
-  pub given : IfSome x.expected (GivesByRules c x.line.items)
-  pub ungiven : IfNone x.expected (NoLineComesNext c.report.version (spot c.cursor) x.line.items)
-
-pub explained : (source mid now : Option (List ℕ)) (c : Checker) (old pending : List ℕ) (n number : ℕ) (x : Explained) → IsReading source mid c old → IsLineRead mid now old pending n → StopsAtLineEnd mid now pending → IsSplit pending x.line.items → Findings c number x
-    → IsExplained source number x
+pub explained : (source mid now : Option (List ℕ)) (c : Checker) (old pending : List ℕ) (n number : ℕ) (line : List ℕ) (x : Explained) → IsReading source mid c old → IsLineRead mid now old pending n → StopsAtLineEnd mid now pending → IsSplit pending line
+    → c.report.steps + 2 ≡ number → SaysOfLine c line x → IsExplained source number x
 unfolding reads_line
-explained source mid now c old pending n number x before r stops split found = by_source source mid now before.taken (reads_line source mid now c old pending n before r).taken stops split
+explained source mid now c old pending n number line x before r stops split numbered said = by_source source mid now before.taken (reads_line source mid now c old pending n before r).taken stops split
   where
-    with_rest : (s : Option (List ℕ)) (after : List ℕ) → IfSome s (λ all. (all ≡ before.before ++ (x.line.items ++ after)) × IsAfterLine after) → IsExplained s number x
+    with_rest : (s : Option (List ℕ)) (after : List ℕ) → IfSome s (λ all. (all ≡ before.before ++ (line ++ after)) × IsAfterLine after) → IsExplained s number x
     with_rest s after is_given = record {
       checker = c;
       before = before.before;
       has_taken = before.has_taken;
-      numbered = found.numbered;
+      numbered = numbered;
       after = after;
+      line = line;
       is_given = is_given;
-      asked = found.asked;
-      unasked = found.unasked;
-      given = found.given;
-      ungiven = found.ungiven;
+      said = said;
     }
 
     nothing_left : (ys : List ℕ) → EndsLine pending ⊎ (ys ≡ []) → (EndsLine pending → ⊥) → ys ≡ []
     nothing_left ys (inl e) open_end = absurd (open_end e)
     nothing_left ys (inr e) open_end = e
 
-    by_source : (s m l : Option (List ℕ)) → Consumes s m (before.before ++ old) → Consumes s l (before.before ++ pending) → StopsAtLineEnd m l pending → IsSplit pending x.line.items → IsExplained s number x
+    by_source : (s m l : Option (List ℕ)) → Consumes s m (before.before ++ old) → Consumes s l (before.before ++ pending) → StopsAtLineEnd m l pending → IsSplit pending line → IsExplained s number x
     by_source None m l j k stops split = with_rest None [] tt
     by_source (Some xs) None l j k stops split = absurd j
     by_source (Some xs) (Some zs) None j k stops split = absurd k
     by_source (Some xs) (Some zs) (Some ys) j k stops (inl whole) =
-        let text : xs ≡ before.before ++ (x.line.items ++ ys) = k ∙ (append_assoc before.before pending ys ∙ ap (λ (t : List ℕ). before.before ++ (t ++ ys)) whole.0) in
-        with_rest (Some xs) [] (subst (λ (t : List ℕ). xs ≡ before.before ++ (x.line.items ++ t)) (nothing_left ys stops whole.1) text, tt)
+        let text : xs ≡ before.before ++ (line ++ ys) = k ∙ (append_assoc before.before pending ys ∙ ap (λ (t : List ℕ). before.before ++ (t ++ ys)) whole.0) in
+        with_rest (Some xs) [] (subst (λ (t : List ℕ). xs ≡ before.before ++ (line ++ t)) (nothing_left ys stops whole.1) text, tt)
     by_source (Some xs) (Some zs) (Some ys) j k stops (inr cut) =
-        let text : xs ≡ before.before ++ (x.line.items ++ (10 ∷ ys)) =
-        k ∙ (append_assoc before.before pending ys ∙ ap (λ (t : List ℕ). before.before ++ t) (ap (λ (t : List ℕ). t ++ ys) cut ∙ append_assoc x.line.items (10 ∷ []) ys)) in
+        let text : xs ≡ before.before ++ (line ++ (10 ∷ ys)) =
+        k ∙ (append_assoc before.before pending ys ∙ ap (λ (t : List ℕ). before.before ++ t) (ap (λ (t : List ℕ). t ++ ys) cut ∙ append_assoc line (10 ∷ []) ys)) in
         with_rest (Some xs) (10 ∷ ys) (text, refl)

@@ -129,17 +129,23 @@ pub record IsCallWithRecord (c : Checker) (bytes : List ℕ) (call : Call) (stat
   pub call_is : call ≡ parts.step.call
   pub state_is : state ≡ record_before (spot c.cursor) parts.key
 
--- The source gives legal lines and then this line, which has this number, counted from 1. The record is what its call
--- finds, and the reply and the tickets are what the rules give for it. Without a call, the line is no line; without a
--- reply, no line with this text may come next.
+-- This is what the rules say of the line after the lines that the checker has taken. The record is what its call finds,
+-- and the reply and the tickets are what the rules give for it. Without a call, the line is no line; without a reply, no
+-- line with this text may come next.
+pub record SaysOfLine (checker : Checker) (line : List ℕ) (x : Explained) : Type 0 where
+  pub is_line : x.line.items ≡ line
+  pub asked : IfSome x.asked (λ a. IsCallWithRecord checker line a.0 a.1)
+  pub unasked : IfNone x.asked (IsNoLine line)
+  pub given : IfSome x.expected (GivesByRules checker line)
+  pub ungiven : IfNone x.expected (NoLineComesNext checker.report.version (spot checker.cursor) line)
+
+-- The source gives legal lines and then this line, which has this number, counted from 1.
 pub record IsExplained (source : Option (List ℕ)) (number : ℕ) (x : Explained) : Type 0 where
   pub checker : Checker
   pub before : List ℕ
   pub has_taken : IsCountable before → HasTaken checker before
   pub numbered : checker.report.steps + 2 ≡ number
   pub after : List ℕ
-  pub is_given : IfSome source (λ all. (all ≡ before ++ (x.line.items ++ after)) × IsAfterLine after)
-  pub asked : IfSome x.asked (λ a. IsCallWithRecord checker x.line.items a.0 a.1)
-  pub unasked : IfNone x.asked (IsNoLine x.line.items)
-  pub given : IfSome x.expected (GivesByRules checker x.line.items)
-  pub ungiven : IfNone x.expected (NoLineComesNext checker.report.version (spot checker.cursor) x.line.items)
+  pub line : List ℕ
+  pub is_given : IfSome source (λ all. (all ≡ before ++ (line ++ after)) × IsAfterLine after)
+  pub said : SaysOfLine checker line x

@@ -5,8 +5,8 @@
 //! the row of docs/RULES.md that applies.
 ghost use Rattle.std.specs.Prelude.{◌≡◌, IfOk, IfErr, IfSome, IfNone};
 ghost use Rattle.lt_checker.specs.Cursor.{spot};
-ghost use Rattle.lt_checker.specs.Pieces.{GivesByRules, NoLineComesNext};
-ghost use Rattle.lt_audit.specs.Audit.{IsReading, IsAuditedAs, IsExplained, IsCallWithRecord, IsNoLine, IsSplit};
+ghost use Rattle.lt_checker.specs.Pieces.{GivesByRules, NoLineComesNext, TakesLines};
+ghost use Rattle.lt_audit.specs.Audit.{IsReading, IsAuditedAs, IsExplained, IsCallWithRecord, IsNoLine, IsSplit, RefusesPending, SaysOfLine};
 
 use crate::error::AuditError;
 use crate::stream::{begin, read_line, take_pending};
@@ -32,19 +32,14 @@ pub struct Explained {
 }
 
 /// Keeps the latest lines of a key: this one is the key's line with this index.
-fn note_line(
-    alloc: Global,
-    recent: &mut Vec<Vec<u8>>,
-    line: &[u8],
-    index: u64,
-) -> Result<(), AllocError> {
+fn note_line(recent: &mut Vec<Vec<u8>>, line: Vec<u8>, index: u64) -> Result<(), AllocError> {
     if index == 1 {
         recent.clear();
     }
     if recent.len() >= MOST_LINES {
         let _oldest = recent.remove(0);
     }
-    recent.push(Vec::from_slice(alloc, line)?)?;
+    recent.push(line)?;
     Ok(())
 }
 
@@ -64,6 +59,24 @@ fn latest_index(checker: &Checker) -> u64 {
         Some((_, index)) => index,
         None => 1,
     }
+}
+
+/// Gives the line that was read to the checker, and keeps it among the latest ones.
+fn check_line(
+    alloc: Global,
+    checker: &mut Checker,
+    pending: &mut Vec<u8>,
+    recent: &mut Vec<Vec<u8>>,
+) -> Result<(), AuditError>
+    ensures ok { IfOk result (λ _. TakesLines checker.old pending.old.items checker.new pending.new.items) }
+    ensures err { IfErr result (RefusesPending checker.old pending.old.items) }
+{
+    let line = Vec::from_slice(alloc, without_end(pending))?;
+    if let Err(error) = take_pending(alloc, checker, pending) {
+        return Err(error);
+    }
+    note_line(recent, line, latest_index(checker))?;
+    Ok(())
 }
 
 /// The call of a line, and the record of its key before it, if the line has the form of a line.
@@ -100,6 +113,27 @@ fn expected(alloc: Global, checker: Checker, line: &[u8]) -> Result<Option<Expec
     }
 }
 
+/// What the rules say of this line, which comes after those that the checker has taken. `before` are the latest of them.
+fn explain_line(
+    alloc: Global,
+    checker: Checker,
+    line: &[u8],
+    before: Vec<Vec<u8>>,
+) -> Result<Explained, AuditError>
+    ensures ok { IfOk result (SaysOfLine checker line.now) }
+    ensures err { IfErr result (λ e. e ≡ AuditError.Memory) }
+{
+    let asked = asked(alloc, &checker, line)?;
+    let expected = expected(alloc, checker, line)?;
+    let line = Vec::from_slice(alloc, line)?;
+    Ok(Explained {
+        line,
+        asked,
+        expected,
+        before,
+    })
+}
+
 /// Reads the text up to the line with this number, counted from 1, and says what the rules give for it. The lines
 /// before it are checked: if one of them has a fault, the call answers `Refused` as a check does. `Read` also means
 /// that there is no such line of a step: the number is below 2, or the text has fewer lines.
@@ -123,11 +157,9 @@ pub fn explain<R: BufRead>(
         if read_line(reader, &mut pending)? == 0 {
             return Err(AuditError::Read);
         }
-        let line = Vec::from_slice(alloc, without_end(&pending))?;
-        if let Err(error) = take_pending(alloc, &mut checker, &mut pending) {
+        if let Err(error) = check_line(alloc, &mut checker, &mut pending, &mut recent) {
             return Err(error);
         }
-        note_line(alloc, &mut recent, &line, latest_index(&checker))?;
     }
     if read_line(reader, &mut pending)? == 0 {
         return Err(AuditError::Read);
@@ -136,13 +168,5 @@ pub fn explain<R: BufRead>(
     if checker.report().steps != number - 2 {
         return Err(AuditError::Read);
     }
-    let line = Vec::from_slice(alloc, without_end(&pending))?;
-    let asked = asked(alloc, &checker, &line)?;
-    let expected = expected(alloc, checker, &line)?;
-    Ok(Explained {
-        line,
-        asked,
-        expected,
-        before: recent,
-    })
+    explain_line(alloc, checker, without_end(&pending), recent)
 }

@@ -7,7 +7,8 @@
 //! or waited for. A single lock that nobody waits for needs neither: the table keeps it as a lone lock.
 //!
 //! A call at a key that has a row finds the row in the map, and makes the call of `lt_row` on it. A row that becomes
-//! empty is dropped in the same call. No call walks the map of keys, and `lt_row` says which calls walk a queue.
+//! empty is dropped in the same call. No call at a key walks the map of keys, and `lt_row` says which calls walk a
+//! queue.
 //!
 //! A call makes all its allocations, lets included, before it changes a record. So after an error, nothing has
 //! changed.

@@ -2,13 +2,13 @@
 //! and as a page of HTML.
 //!
 //! The input is a list of [`ShownStep`]: each step of the key with the key's state after it. [`put_heading`] and
-//! [`put_shown`] write the table, one line for each step. [`picture`] writes the SVG and [`html`] the page, for at most
-//! [`MOST_STEPS`] steps. [`lanes_of`] computes what the picture shows: who has a lane, which bar is in which lane, and
-//! who lets whom through.
+//! [`put_shown`] write the table, one line for each step; a [`Terminal`] decides how wide it is and whether it is
+//! coloured. [`picture`] writes the SVG and [`html`] the page, for at most [`MOST_STEPS`] steps. [`lanes_of`] computes
+//! what the picture shows: who has a lane, which bar is in which lane, and who lets whom through.
 //!
-//! Read next: `step.rt` has the input; `cell.rt`, `columns.rt` and `show.rt` make the table; `lanes.rt` computes the
-//! bars, and `svg.rt` draws them. `specs/` defines what is escaped and how, how a cell fits its width, and which bars a
-//! lane has. `docs/RULES.md` says what the steps of a key do.
+//! Read next: `step.rt` has the input; `cell.rt`, `columns.rt`, `terminal.rt` and `show.rt` make the table; `lanes.rt`
+//! computes the bars, and `svg.rt` draws them. `specs/` defines what is escaped and how, how a cell fits its width, and
+//! which bars a lane has. `docs/RULES.md` says what the steps of a key do.
 #![tactic(auto)]
 
 mod cell;
@@ -23,6 +23,7 @@ mod page;
 mod show;
 mod step;
 mod svg;
+mod terminal;
 mod timeline;
 mod words;
 
@@ -34,8 +35,6 @@ pub use page::html;
 pub use show::{put_heading, put_key, put_shown};
 pub use step::ShownStep;
 pub use svg::picture;
+pub use terminal::{ColourChoice, Terminal};
 pub use timeline::{Lane, Phase};
 pub use words::put_state;
-
-#[cfg(test)]
-mod tests;

@@ -20,6 +20,3 @@ pub use laws::{longest_waits, no_longer_queue, ranking_is_hottest_first};
 pub use statistics::Statistics;
 pub use step::StepFacts;
 pub use summary::{HotKey, LongestQueue, LongestWait, StepCounts, TextSummary};
-
-#[cfg(test)]
-mod tests;

@@ -32,8 +32,6 @@ mod object;
 mod page;
 mod runs;
 mod sort;
-#[cfg(test)]
-mod tests;
 
 pub use error::{SortError, TraceFault};
 pub use sort::{SortOptions, SortReport, TraceForm, sort_trace};

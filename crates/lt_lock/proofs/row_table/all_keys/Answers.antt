@@ -1,4 +1,5 @@
-use Rattle.std.proofs.Common.{◌++◌, ◌∙◌, ap, sym, append-nil}
+use Rattle.std.proofs.lemmas.Grind.{common_steps}
+use Rattle.std.proofs.Common.{◌++◌, ◌∙◌, ap, sym, append-nil, arith}
 use Rattle.lt_lock.proofs.row_table.all_keys.Goals as goal
 
 pub returns-clause-keys : goal.returns-clause-keys
@@ -6,3 +7,6 @@ returns-clause-keys c =
     sym (append-nil c.loop-key.all.items)
     ∙ ap (λ rest. c.loop-key.all.items ++ rest) (sym c.in-None.ensures.steps.0)
     ∙ c.loop-key.invariant
+
+pub loop-key-preserved : goal.loop-key-preserved
+loop-key-preserved c = grind (arith, common_steps)

@@ -13,3 +13,9 @@ returns-in-Visit-clause-ok c =
     let same : request_of c.stand_of.result ≡ q = search rules in
     let made = subst (λ (x : QueuedRequest). IfOk c.visit.result (UpdatesRow c.args.links.now c.visit.new.links c.args.row.now c.visit.new.row (λ r. visit r x asked.longest asked.access) [])) same c.visit.ensures.ok in
     rw (asked.is, c.requires.lets) made
+
+pub returns-in-Leave-clause-no_memory : goal.returns-in-Leave-clause-no_memory
+returns-in-Leave-clause-no_memory c = search rules
+
+pub returns-in-Leave-clause-ok : goal.returns-in-Leave-clause-ok
+returns-in-Leave-clause-ok c = search rules

@@ -1,4 +1,4 @@
-use Rattle.std.proofs.Common.{ℕ, [], ◌∷◌, Some, refl, ap, sym, subst}
+use Rattle.std.proofs.Common.{ℕ, [], ◌∷◌, Some, refl, ap, sym, subst, rules}
 use Rattle.lt_table_core.specs.Entered.{IsEntered}
 use Rattle.lt_table_core.specs.Machine.{WalkState}
 use Rattle.lt_runner.specs.Outcomes.{OutcomeTells}
@@ -24,3 +24,6 @@ returns-in-Ok-clause-does g c =
       );
       tells = subst (λ (n : ℕ). OutcomeTells c.args.pass c.in-Ok.guard.pass [] (n ∷ []) []) (sym c.number-number.ensures.number) (tells_entered c.args.pass c.args.accesses.now c.args.txn c.args.ts c.args.longest c.args.host.now.table.now.max_requests c.in-Ok.guard e);
     }
+
+pub returns-after-error-clause-numbers_out : goal.returns-after-error-clause-numbers_out
+returns-after-error-clause-numbers_out c = search rules

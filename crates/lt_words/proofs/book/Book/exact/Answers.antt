@@ -1,4 +1,4 @@
-use Rattle.std.proofs.Common.{ap, arith}
+use Rattle.std.proofs.Common.{ap, arith, rules}
 use Rattle.lt_words.specs.Row.{FrontGrows}
 use Rattle.lt_words.proofs.Passes.{grows_on, sight_on, sees_on}
 use Rattle.lt_words.proofs.book.Book.exact.Goals as goal
@@ -15,3 +15,6 @@ pub returns-clause-more : goal.returns-clause-more
 returns-clause-more g c =
     let grew : FrontGrows c.pass.inside.seen c.exact.new.self = grows_on c.pass.inside.seen c.learn.new.self c.exact.new.self (record { of = c.learn.ensures.of; seen = c.learn.ensures.this; shown = c.learn.ensures.shown_this }) c.exact.ensures.more in
     rw (← c.pass.view_is) (sees_on c.pass.inside.number c.pass.inside.seen c.exact.new.self c.pass.inside.counts.items grew)
+
+pub returns-clause-exact : goal.returns-clause-exact
+returns-clause-exact c = search rules

@@ -1,5 +1,12 @@
+use Rattle.std.proofs.Common.{rules}
 use Rattle.lt_words.proofs.Passes.{sight_on}
 use Rattle.lt_words.proofs.book.Book.read.Goals as goal
 
 pub invariant_of-pass : goal.invariant_of-pass
 invariant_of-pass c = sight_on c.pass.inside.number c.pass.inside.seen c.read.new.self c.pass.inside.counts.items c.pass.invariant c.read.ensures.more
+
+pub returns-clause-status : goal.returns-clause-status
+returns-clause-status c = search rules
+
+pub returns-clause-word : goal.returns-clause-word
+returns-clause-word c = search rules

@@ -1,5 +1,12 @@
+use Rattle.std.proofs.Common.{rules}
 use Rattle.lt_words.proofs.Passes.{sight_on}
 use Rattle.lt_words.proofs.book.Book.show.Goals as goal
 
 pub invariant_of-pass : goal.invariant_of-pass
 invariant_of-pass g c = sight_on c.pass.inside.number c.pass.inside.seen c.signal.new.self c.pass.inside.counts.items c.pass.invariant c.signal.ensures.more
+
+pub returns-clause-shown : goal.returns-clause-shown
+returns-clause-shown c = search rules
+
+pub signal-requires-clause-through : goal.signal-requires-clause-through
+signal-requires-clause-through c = search rules
