@@ -9,7 +9,7 @@ use Rattle.std.specs.declared.cmp.Ordering.{Ordering}
 use Rattle.std.specs.declared.cmp.Ordering.TheVariants.{Less, Equal, Greater}
 use Rattle.lt_ids.specs.declared.request.Access.{Access}
 use Rattle.lt_ids.specs.declared.request.Access.TheVariants.{Read, Write}
-use Rattle.lt_table_core.specs.Keys.{AreTheKeys, IsKeyList, either_access, is_first_of_two}
+use Rattle.lt_table_core.specs.Keys.{IsKeyList, either_access, is_first_of_two}
 use Rattle.lt_table_core.proofs.OneList.{none_in_nil, cons_cases, first_in, later_in}
 
 abbrev Pair : Type 0

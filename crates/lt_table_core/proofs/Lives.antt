@@ -1,22 +1,21 @@
 -- What passes did since they were handed out, and that each index of a final history is the index of one of their
 -- steps.
-use Rattle.std.proofs.Common.{◌≡◌, ◌≢◌, ℕ, zero, suc, ◌+◌, ◌<◌, ◌≤◌, Bool, true, false, if◌then◌else◌, ◌&&◌, ◌||◌, nat_eq, List, [], ◌∷◌, ◌++◌, length, slice_get, get_or, replicate, Some, refl, sym, ◌∙◌, ap, subst, arith, add-one, length-append}
+use Rattle.std.proofs.Common.{◌≡◌, ◌≢◌, ℕ, zero, suc, ◌+◌, ◌<◌, ◌≤◌, Bool, true, false, if◌then◌else◌, ◌&&◌, ◌||◌, nat_eq, List, [], ◌∷◌, ◌++◌, length, slice_get, get_or, replicate, Some, refl, sym, ◌∙◌, ap, subst, arith, length-append}
 use Rattle.std.proofs.lemmas.List.{get_or-replicate}
 use Rattle.std.proofs.lemmas.Map.Keys.{IsDistinct-cons}
 use Rattle.std.proofs.lemmas.Map.Steps.{length-le_from_distinct_below}
 use Rattle.std.proofs.lemmas.Bool.Decides.{nat_tests}
 use Rattle.std.specs.Prelude.{slice_index}
-use Rattle.std.specs.Global.{Vec}
 use Rattle.std.specs.List.{AllByRecursion, IsDistinct, list_any}
 use mathlib.Core.List.{IsPrefix}
 use Rattle.lt_plain.proofs.Cases.{all_append, distinct_append}
 use Rattle.lt_entry.specs.declared.entry.Entry.{Entry}
 use Rattle.lt_words.specs.History.{part, shard_of, OneHolderAtEachKey, ReadsPassAtEachKey}
 use Rattle.lt_words.specs.Row.{Opening, PassState, SeesMore, fresh}
-use Rattle.lt_words.proofs.Prefixes.{prefix_trans, prefix_get, prefix_length}
+use Rattle.lt_words.proofs.Prefixes.{prefix_trans, prefix_get}
 use Rattle.lt_words.proofs.Histories.{part_prefix, part_length}
 use Rattle.lt_table_core.specs.Machine as runs
-use Rattle.lt_table_core.specs.Closed.{IsClosed, counts_at}
+use Rattle.lt_table_core.specs.Closed.{counts_at}
 use Rattle.lt_table_core.specs.Reported.{shard_at, Reported, AreReported, steps_at}
 use Rattle.lt_table_core.specs.Laws.{Lived, AreLives, at_index, at_index_of, EachStepIsReportedOnce, OneHolderAtClose, ReadsPassAtClose, LivesGoOn}
 use Rattle.lt_table_core.proofs.Ends.{sees_on}

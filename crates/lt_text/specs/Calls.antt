@@ -1,7 +1,6 @@
 -- The words of a call, and the call that words spell.
-use Rattle.std.specs.Prelude.{ℕ, ◌≡◌, ◌^◌, ◌<◌, false, if◌then◌else◌, List, [], ◌∷◌, Option, Some, None, decimal, codes}
+use Rattle.std.specs.Prelude.{ℕ, ◌≡◌, ◌^◌, false, if◌then◌else◌, List, [], ◌∷◌, Option, Some, None, decimal, codes}
 use Rattle.std.specs.Str.{bytes_eq}
-use Rattle.lt_ids.specs.Ids.{IsNumber}
 use Rattle.lt_plain.specs.declared.call.Call.{Call}
 use Rattle.lt_plain.specs.declared.call.Call.TheVariants.{Visit, Acquire, Update, Finish, Leave, Look}
 use Rattle.lt_text.specs.Maybe.{◌>>=◌}

@@ -1,11 +1,10 @@
 -- What is appended to a vector of bytes, and what a failed write leaves in its writer.
 use Rattle.std.specs.Prelude.{ℕ, ◌≡◌, List, ◌++◌, Option}
-use Rattle.std.specs.Global.{Vec}
 use Rattle.std.specs.Io.KnownBytes.{Appends}
 use Rattle.lt_entry.specs.declared.entry.Entry.{Entry}
 use Rattle.lt_writer.specs.declared.output.PrintError.{PrintError}
 use Rattle.lt_writer.specs.declared.output.PrintError.TheVariants.{Write}
-use Rattle.lt_checker.specs.Histories.{IsTextOf, stored_entries}
+use Rattle.lt_checker.specs.Histories.{IsTextOf}
 
 -- The text of these entries, and nothing else, was appended to the bytes.
 pub record PutsText (old new : List ℕ) (es : List Entry) : Type 0 where

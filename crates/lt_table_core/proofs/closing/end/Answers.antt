@@ -1,4 +1,4 @@
-use Rattle.std.proofs.Common.{◌≡◌, ◌<◌, ℕ, zero, suc, List, ◌++◌, ◌∷◌, [], ◌∙◌, length, get_or, arith, refl, subst, sym, ap, rules}
+use Rattle.std.proofs.Common.{◌≡◌, ◌<◌, ℕ, zero, suc, List, ◌++◌, ◌∷◌, [], ◌∙◌, length, get_or, arith, refl, subst, sym, ap}
 use Rattle.std.specs.List.{AllByRecursion}
 use mathlib.Core.List.{IsPrefix}
 use Rattle.std.proofs.Common.{length-append}

@@ -1,4 +1,4 @@
-use Rattle.std.proofs.Common.{◌≡◌, ◌∙◌, ℕ, ap, subst}
+use Rattle.std.proofs.Common.{◌≡◌, ◌∙◌, ap, subst}
 use Rattle.lt_words.specs.Row.{Opening}
 use Rattle.lt_table_core.specs.Configs.{IsOpened}
 use Rattle.lt_table_core.proofs.Starts.{handed_are_of}
