@@ -227,6 +227,28 @@ fn skew_of<N: Name, H: Wait + Clock>(
     )
 }
 
+/// What came of the transfers, and then of the second workload. The table is still open.
+fn outcome_of<N: Name, H: Wait + Clock>(
+    rt: &H,
+    opened: &mut OpenStore<N>,
+    plan: &StorePlan,
+    total_before: u64,
+) -> anyhow::Result<StoreRun> {
+    let total_after = total(rt, &opened.store, &mut opened.first, plan.accounts)?;
+    let (transfers, deadlocks) = count_all(&opened.tellers)?;
+    let skew = skew_of(rt, opened, plan)?;
+    Ok(StoreRun {
+        total_before,
+        total_after,
+        transfers,
+        waits: opened.store.waits(),
+        deadlocks,
+        skew,
+        stays: BALANCE,
+        histories: None,
+    })
+}
+
 /// Opens the store over the prepared table, runs both workloads and closes the table.
 pub fn serve<N: Name + Send + Sync, H: Threads + Wait + Clock + Sync>(
     threads: &H,
@@ -242,19 +264,25 @@ pub fn serve<N: Name + Send + Sync, H: Threads + Wait + Clock + Sync>(
     let total_before = total(threads, &opened.store, &mut opened.first, plan.accounts)?;
     let end = end_of(threads, plan)?;
     let mut opened = work_traced(threads, alloc, opened, plan, end)?;
-    let total_after = total(threads, &opened.store, &mut opened.first, plan.accounts)?;
-    let (transfers, deadlocks) = count_all(&opened.tellers)?;
-    let skew = skew_of(threads, &mut opened, plan)?;
-    Ok(StoreRun {
-        total_before,
-        total_after,
-        transfers,
-        waits: opened.store.waits(),
-        deadlocks,
-        skew,
-        stays: BALANCE,
-        histories: close_store(threads, alloc, opened)?,
-    })
+    let mut run = outcome_of(threads, &mut opened, plan, total_before)?;
+    run.histories = close_store(threads, alloc, opened)?;
+    Ok(run)
+}
+
+/// The sessions of this thread and of the tellers.
+fn sessions_back<N: Name>(
+    alloc: Global,
+    first: StoreSession<N>,
+    second: StoreSession<N>,
+    tellers: Vec<Teller<N>>,
+) -> Result<Vec<StoreSession<N>>, AllocError> {
+    let mut sessions = Vec::new(alloc);
+    sessions.push(first)?;
+    sessions.push(second)?;
+    for teller in tellers {
+        sessions.push(teller.session)?;
+    }
+    Ok(sessions)
 }
 
 /// Closes the store's table. Returns the histories of its shards, if they were traced.
@@ -270,12 +298,7 @@ fn close_store<N: Name, H: Wait>(
         tellers,
         taker,
     } = opened;
-    let mut sessions = Vec::new(alloc);
-    sessions.push(first)?;
-    sessions.push(second)?;
-    for teller in tellers {
-        sessions.push(teller.session)?;
-    }
+    let mut sessions = sessions_back(alloc, first, second, tellers)?;
     let Some(taker) = taker else {
         close_table(rt, alloc, store, sessions)?;
         return Ok(None);
