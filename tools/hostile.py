@@ -58,11 +58,12 @@ CALLS_OF_BOTH = ['Prepare', 'Enter', 'Scan', 'Look', 'Leave', 'Acquire', 'Acquir
 TABLE_CALLS = [f'{table} {call}' for table in ('linked', 'plain') for call in CALLS_OF_BOTH]
 TABLE_CALLS += ['linked Open', 'plain OpenWith']
 
-# These need two threads, which cannot be made where memory for one is refused: the passes then run in turn. The two before the
+# These need two threads, which cannot be made where memory for one is refused: the passes then run in turn. The three before the
 # last one take no memory. The last one uses the system's folder, in which tests that run at the same time meet.
 OTHERS = ['scripts::passes_work_at_once', 'scripts::passes_take_turns_by_a_gate',
-          'scripts::passes_poll_until_they_are_let_through', 'words::failures_are_reported', 'tests::a_table_has_at_least_40_columns',
-          'tests::files_of_the_system_are_used']
+          'scripts::passes_poll_until_they_are_let_through', 'words::failures_are_reported',
+          'pictures::a_table_has_at_least_40_columns', 'pictures::the_options_decide_and_then_the_terminal',
+          'sorting::files_of_the_system_are_used']
 
 # The ways in which a table keeps its history.
 WAYS = ['whole', 'streamed', 'unrecorded']
