@@ -23,17 +23,6 @@ pub struct TableHandle {
 }
 
 impl TableHandle {
-    /// A closed handle, as C makes it by zeros.
-    #[cfg(test)]
-    pub fn closed(alloc: Global) -> TableHandle
-        ensures { result.slot.held ≡ None }
-    {
-        TableHandle {
-            is_open: false,
-            slot: TableSlot::empty(alloc),
-        }
-    }
-
     pub fn is_open(&self) -> bool
         ensures { result ≡ is_some self.now.slot.held }
     {

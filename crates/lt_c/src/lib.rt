@@ -34,5 +34,3 @@ mod shapes;
 mod shard;
 mod slot;
 mod steps;
-#[cfg(test)]
-mod tests;

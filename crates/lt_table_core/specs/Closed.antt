@@ -110,6 +110,14 @@ IsUnclosed (PassesOut missing) handed c = (0 < missing) × (handed + missing ≡
 IsUnclosed Memory handed c = c.passes ≤ handed
 IsUnclosed (Counts index) handed c = (c.passes ≤ handed) × (index < c.shards)
 
+-- A close of the table with configuration c, with passes ps and guards gs, was refused with this error, and what came
+-- back, a table with configuration d, passes qs and guards hs, is as it was.
+pub record IsGivenBack (c : Config) (ps : List PassState) (gs : List GuardState) (e : CloseError) (d : Config) (qs : List PassState) (hs : List GuardState) : Type 0 where
+  pub reason : IsUnclosed e (length ps + length gs) c
+  pub table : d ≡ c
+  pub passes : qs ≡ ps
+  pub guards : hs ≡ gs
+
 -- ---- while a table is being closed
 
 -- The shard has this index and has made as many steps as these passes made there. It may hold as many steps as is

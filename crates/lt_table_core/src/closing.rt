@@ -8,7 +8,7 @@ ghost use Rattle.std.specs.List.{All, AllByRecursion};
 ghost use mathlib.Core.List.{IsPrefix};
 ghost use Rattle.lt_shard.specs.Shards.{View};
 ghost use Rattle.lt_words.specs.Row.{SeesMore};
-ghost use Rattle.lt_table_core.specs.Closed.{counts_at, passes_of, IsCounted, AreCounted, IsMiscount, IsEnded, AreEnded, IsClosed, IsClosedRest, AreRestsOf, AreWhole, IsRoomFor, IsUnclosed};
+ghost use Rattle.lt_table_core.specs.Closed.{counts_at, passes_of, IsCounted, AreCounted, IsMiscount, IsEnded, AreEnded, IsClosed, IsClosedRest, AreRestsOf, AreWhole, IsRoomFor, IsUnclosed, IsGivenBack};
 
 use crate::guard::Guard;
 use crate::table::{Slot, Table};
@@ -296,10 +296,10 @@ fn take_room<N: Name, T: KeyTable + Drop>(
     passes: &mut Vec<Pass>,
     guards: usize,
 ) -> Result<CloseRoom<N, T>, CloseError>
-    ensures shards { IfOk result (λ room. (room.shards.items ≡ []) × (shards ≤ vec_capacity room.shards)) }
-    ensures slots { IfOk result (λ room. (room.slots.items ≡ []) × (shards ≤ vec_capacity room.slots)) }
-    ensures rests { IfOk result (λ room. (room.rests.items ≡ []) × (shards ≤ vec_capacity room.rests)) }
-    ensures histories { IfOk result (λ room. (room.histories.items ≡ []) × (shards ≤ vec_capacity room.histories)) }
+    ensures shards { IfOk result (λ room. IsRoomFor shards room.shards) }
+    ensures slots { IfOk result (λ room. IsRoomFor shards room.slots) }
+    ensures rests { IfOk result (λ room. IsRoomFor shards room.rests) }
+    ensures histories { IfOk result (λ room. IsRoomFor shards room.histories) }
     ensures passes { passes.new.items ≡ passes.old.items }
     ensures guards { OnOk result (length passes.old.items + guards ≤ vec_capacity passes.new) }
     ensures refused { IfErr result (λ e. e ≡ CloseError.Memory) }
@@ -370,7 +370,78 @@ fn into_histories(ended: ClosedTable) -> Histories
     }
 }
 
+/// The table with its passes and guards, which come back because of this error.
+fn refusal<N: Name, T: KeyTable, W: Waker>(
+    table: Table<N, T, W>,
+    passes: Vec<Pass>,
+    guards: Vec<Guard>,
+    error: CloseError,
+) -> CloseRefused<N, T, W>
+    requires { IsUnclosed error (length passes.items + length guards.items) table }
+    ensures { IsGivenBack table passes.items guards.items result.error result.table result.passes.items result.guards.items }
+{
+    CloseRefused {
+        table,
+        passes,
+        guards,
+        error,
+    }
+}
+
 impl<N: Name, T: KeyTable + Drop, W: Waker + Drop> Table<N, T, W> {
+    /// Closes a table whose passes are back, in this room. With `only_whole`, refuses it if steps are gone.
+    fn close_in<R: Wait>(
+        self,
+        rt: &R,
+        only_whole: bool,
+        passes: Vec<Pass>,
+        guards: Vec<Guard>,
+        room: CloseRoom<N, T>,
+    ) -> Result<ClosedTable, CloseRefused<N, T, W>>
+        requires passes { All (λ p. p.of ≡ N.of) passes.items }
+        requires guards { All (λ g. g.pass.of ≡ N.of) guards.items }
+        requires back { self.passes ≤ length passes.items + length guards.items }
+        requires shards { IsRoomFor self.shards room.shards }
+        requires slots { IsRoomFor self.shards room.slots }
+        requires rests { IsRoomFor self.shards room.rests }
+        requires histories { IsRoomFor self.shards room.histories }
+        requires all { length passes.items + length guards.items ≤ vec_capacity passes }
+        ensures closed { IfOk result (λ e. AreRestsOf N.of passes.items guards.items e.rests) }
+        ensures whole { IfOk result (λ e. only_whole ≡ true → AreWhole N.of e.rests.shards.items) }
+        ensures limit { IfOk result (λ e. All (λ t. length t.entries.items ≤ self.max_steps) e.rests.shards.items) }
+        ensures room { IfOk result (λ e. IsRoomFor (length e.rests.shards.items) e.histories) }
+        ensures enough { OnOk result (self.passes ≤ length passes.items + length guards.items) }
+        ensures back { IfErr result (λ e. IsGivenBack self passes.items guards.items e.error e.table e.passes.items e.guards.items) }
+    {
+        let Table {
+            config,
+            book,
+            shards,
+            waker,
+        } = self;
+        let shards = each_into(shards, room.shards, |slot| slot.into_shard());
+        let wanted = Wanted {
+            whole: only_whole,
+            max_steps: config.max_steps,
+        };
+        if let Some(error) = count_fault(&shards, wanted, &passes, &guards) {
+            let shards = each_into(shards, room.slots, |shard| Slot::new(shard));
+            let table = Table {
+                config,
+                book,
+                shards,
+                waker,
+            };
+            return Err(refusal(table, passes, guards, error));
+        }
+        let passes = all_passes(passes, guards);
+        let rests = end(rt, &book, shards, wanted, passes, room.rests);
+        Ok(ClosedTable {
+            rests,
+            histories: room.histories,
+        })
+    }
+
     /// Closes the table if all passes are back. With `only_whole`, refuses it if steps are gone.
     fn close_as<R: Wait>(
         self,
@@ -387,62 +458,17 @@ impl<N: Name, T: KeyTable + Drop, W: Waker + Drop> Table<N, T, W> {
         ensures limit { IfOk result (λ e. All (λ t. length t.entries.items ≤ self.max_steps) e.rests.shards.items) }
         ensures room { IfOk result (λ e. IsRoomFor (length e.rests.shards.items) e.histories) }
         ensures enough { OnOk result (self.passes ≤ length passes.items + length guards.items) }
-        ensures refused { IfErr result (λ e. IsUnclosed e.error (length passes.items + length guards.items) self) }
-        ensures table { IfErr result (λ e. e.table ≡ self) }
-        ensures passes { IfErr result (λ e. e.passes.items ≡ passes.items) }
-        ensures guards { IfErr result (λ e. e.guards.items ≡ guards.items) }
+        ensures back { IfErr result (λ e. IsGivenBack self passes.items guards.items e.error e.table e.passes.items e.guards.items) }
     {
         let handed = passes.len() + guards.len();
         if handed < self.config.passes {
             let error = CloseError::PassesOut(self.config.passes - handed);
-            return Err(CloseRefused {
-                table: self,
-                passes,
-                guards,
-                error,
-            });
+            return Err(refusal(self, passes, guards, error));
         }
-        let room = match take_room(alloc, self.shards.len(), &mut passes, guards.len()) {
-            Ok(room) => room,
-            Err(error) => {
-                return Err(CloseRefused {
-                    table: self,
-                    passes,
-                    guards,
-                    error,
-                });
-            }
-        };
-        let Table {
-            config,
-            book,
-            shards,
-            waker,
-        } = self;
-        let shards = each_into(shards, room.shards, |slot| slot.into_shard());
-        let wanted = Wanted {
-            whole: only_whole,
-            max_steps: config.max_steps,
-        };
-        if let Some(error) = count_fault(&shards, wanted, &passes, &guards) {
-            return Err(CloseRefused {
-                table: Table {
-                    config,
-                    book,
-                    shards: each_into(shards, room.slots, |shard| Slot::new(shard)),
-                    waker,
-                },
-                passes,
-                guards,
-                error,
-            });
+        match take_room(alloc, self.shards.len(), &mut passes, guards.len()) {
+            Ok(room) => self.close_in(rt, only_whole, passes, guards, room),
+            Err(error) => Err(refusal(self, passes, guards, error)),
         }
-        let passes = all_passes(passes, guards);
-        let rests = end(rt, &book, shards, wanted, passes, room.rests);
-        Ok(ClosedTable {
-            rests,
-            histories: room.histories,
-        })
     }
 
     /// Closes the table if all of its passes are back, alone or in a guard, and gives one history for each shard

@@ -37,7 +37,7 @@ fn linger(flag: &AtomicBool) {
 /// Notes each call of the gate, and answers false before the line `refused`. A note has three digits: the pass,
 /// the line, and 0 for the call before the line or 1 for the call after it.
 #[derive(Drop)]
-pub(crate) struct GateNotes {
+pub struct GateNotes {
     refused: usize,
     count: AtomicUsize,
     notes: [AtomicU64; 16],
@@ -95,7 +95,7 @@ impl Gate for GateNotes {
 /// Holds line 1 until line 4 is answered, and line 4 until the gate was asked for line 1. Answers false if it held
 /// a line too long.
 #[derive(Drop)]
-pub(crate) struct Crossed {
+pub struct Crossed {
     asked: AtomicBool,
     answered: AtomicBool,
 }
@@ -133,7 +133,7 @@ impl Gate for Crossed {
 /// Holds each line until the line before it is answered, so that passes on threads take turns as without threads.
 /// Answers false if it held a line too long.
 #[derive(Drop)]
-pub(crate) struct Between {
+pub struct Between {
     answered: AtomicUsize,
 }
 
@@ -167,7 +167,7 @@ impl Gate for Between {
 /// So line 2 takes effect first if the gate is told of a line only once it is answered, and last otherwise.
 /// Answers false if it held line 1 too long.
 #[derive(Drop)]
-pub(crate) struct GateTold {
+pub struct GateTold {
     told: AtomicBool,
     asked: AtomicBool,
 }
@@ -206,7 +206,7 @@ impl Gate for GateTold {
 /// Holds line 3 until line 1 is answered. Holds line 5 until the gate was asked for line 4, and then for many
 /// turns more unless line 4 is answered before. Answers false if it held a line too long.
 #[derive(Drop)]
-pub(crate) struct Late {
+pub struct Late {
     first: AtomicBool,
     asked: AtomicBool,
     answered: AtomicBool,

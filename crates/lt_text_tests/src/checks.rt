@@ -1,8 +1,8 @@
 //! What do the check and the upgrade of a history write, and how do they end if a stream fails or the text is cut?
 //! A row of `WORKS` is a job, the version of its text, the text, and what is written for it. The tests play each
-//! row with readers and writers that fail, and with prefixes of the text. Read next `streams`, and
-//! `texts::histories` for the verdicts on other texts.
-use crate::streams::{FAULTS_OF_READS, FAULTS_OF_WRITES, LineEnds, Paper, Torn, blank};
+//! row with readers and writers that fail, and with prefixes of the text. Read next `streams` of
+//! `lt_tool_test_kit`, and `histories` for the verdicts on other texts.
+use lt_tool_test_kit::streams::{FAULTS_OF_READS, FAULTS_OF_WRITES, LineEnds, Paper, Torn, blank};
 use lt_history::{CheckError, Fault, Report};
 use lt_tool::{CheckTextError, check_text, upgrade_text};
 use std::io::{ErrorKind, Read};

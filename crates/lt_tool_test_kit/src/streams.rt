@@ -1,16 +1,16 @@
 //! Which readers and writers do the tests run on?
 //! [`Torn`] and [`Paper`] read and write few bytes at a time and fail once. [`LineEnds`] and [`Expecting`] read
-//! and write long texts without storing them. Read next `scripts` and `checks`, which use them.
+//! and write long texts without storing them.
 ghost use Rattle.std.specs.Prelude.{◌≤◌};
 
 use std::io;
 use std::io::{ErrorKind, Read, Write};
 
 /// How a read can fail.
-pub(crate) const FAULTS_OF_READS: [ErrorKind; 2] = [ErrorKind::Other, ErrorKind::Interrupted];
+pub const FAULTS_OF_READS: [ErrorKind; 2] = [ErrorKind::Other, ErrorKind::Interrupted];
 
 /// How a write can fail. `None` is a write that takes no bytes and reports no error.
-pub(crate) const FAULTS_OF_WRITES: [Option<ErrorKind>; 3] = [
+pub const FAULTS_OF_WRITES: [Option<ErrorKind>; 3] = [
     Some(ErrorKind::Other),
     Some(ErrorKind::Interrupted),
     None,
@@ -19,7 +19,7 @@ pub(crate) const FAULTS_OF_WRITES: [Option<ErrorKind>; 3] = [
 /// A writer that takes up to `at_once` bytes at a time. It fails once, when it holds `stops_at` bytes, and then
 /// takes bytes again.
 #[derive(Drop)]
-pub(crate) struct Paper {
+pub struct Paper {
     bytes: [u8; 1024],
     len: usize,
     pub at_once: usize,
@@ -28,7 +28,8 @@ pub(crate) struct Paper {
     has_stopped: bool,
 }
 
-pub(crate) fn blank(at_once: usize, stops_at: usize) -> Paper {
+/// A writer that holds nothing yet.
+pub fn blank(at_once: usize, stops_at: usize) -> Paper {
     Paper {
         bytes: [0; 1024],
         len: 0,
@@ -40,6 +41,7 @@ pub(crate) fn blank(at_once: usize, stops_at: usize) -> Paper {
 }
 
 impl Paper {
+    /// The bytes that it holds.
     pub fn written(&self) -> &[u8] {
         match self.bytes.get(..self.len) {
             Some(written) => written,
@@ -83,12 +85,13 @@ impl Write for Paper {
 
 /// A writer that takes everything, and compares it with the expected bytes as they come.
 #[derive(Drop)]
-pub(crate) struct Expecting<'a> {
+pub struct Expecting<'a> {
     rest: &'a [u8],
     is_other: bool,
 }
 
 impl<'a> Expecting<'a> {
+    /// A writer that has received nothing yet.
     pub fn new(expected: &'a [u8]) -> Self {
         Expecting {
             rest: expected,
@@ -118,7 +121,7 @@ impl Write for Expecting<'_> {
 
 /// A reader that gives `left` line ends.
 #[derive(Drop)]
-pub(crate) struct LineEnds {
+pub struct LineEnds {
     pub left: usize,
 }
 
@@ -134,7 +137,7 @@ impl Read for LineEnds {
 /// A reader that gives a text, up to ten bytes at a time. It fails once, at the read with the index `fails_at`,
 /// and then continues.
 #[derive(Drop)]
-pub(crate) struct Torn<'a> {
+pub struct Torn<'a> {
     pub rest: &'a [u8],
     pub reads: usize,
     pub fails_at: usize,

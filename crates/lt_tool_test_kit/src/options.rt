@@ -4,7 +4,7 @@ ghost use Rattle.lt_command_line.specs.Options.{AreInRange};
 use lt_tool::Options;
 
 /// Options with these values, each number clamped to its range.
-pub(crate) fn options(shards: usize, steps: u64, threads: bool, turns: u64) -> Options
+pub fn options(shards: usize, steps: u64, threads: bool, turns: u64) -> Options
     ensures { AreInRange result }
 {
     Options {

@@ -1,7 +1,8 @@
 //! Are scripts of many lines run whole, and histories of many steps checked whole?
 //! A row is a key and a count. A script repeats one line that many times, and all its calls are of that key; the
-//! history of the key has as many steps. Read next `streams`, which compares such outputs without storing them.
-use crate::streams::Expecting;
+//! history of the key has as many steps. Read next `streams` of
+//! `lt_tool_test_kit`, which compares such outputs without storing them.
+use lt_tool_test_kit::streams::Expecting;
 use lt_history::Report;
 use lt_tool::{Finish, Options, check_text, run_script, upgrade_text};
 use std::alloc::Global;
