@@ -37,7 +37,7 @@ TESTS = [
     ('lt_links', 'links::tests::refused_memory'),
     ('lt_words_tests', 'tests::a_refused_open'),
     ('lt_words_tests', 'tests::a_book_is_used_by_its_name'),
-    ('lt_table_tests', 'rules::linked::the_'),
+    ('lt_table_tests', 'rules::worked::'),
     ('lt_table_tests', 'schedules::tests::schedules_have_the_same_outcome'),
     ('lt_table_tests', 'refusals::'),
     ('lt_tool_tests', 'texts::histories::'),

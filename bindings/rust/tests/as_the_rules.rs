@@ -11,21 +11,24 @@ macro_rules! worked {
     ($($name:literal,)*) => { &[$(($name, include_str!(concat!("../../worked/", $name))),)*] };
 }
 
-/// The worked examples of the documents, as texts of histories.
+/// Worked examples, most of them from the documents, as texts of histories.
 const WORKED: &[(&str, &str)] = worked![
     "a-bound-and-no-transaction",
     "a-bound-does-not-count-the-reservation",
+    "a-key-from-its-first-lock-to-its-last-waiter",
     "a-queued-writer-is-not-refused",
     "a-raise-lets-earlier-readers-through",
     "a-reader-at-the-lock-timestamp-waits",
     "a-scan-over-three-keys",
     "a-write-without-a-transaction-passes-over",
     "an-inactive-writer-gets-the-reservation",
+    "bounds-at-a-held-and-a-reserved-lock",
     "nobody-waits-for-himself",
     "the-distinguished-waiter-leaves",
     "two-wait-for-a-reservation",
     "writers-go-by-number",
     "writers-without-a-transaction-go-first",
+    "writers-without-a-transaction-to-the-end",
 ];
 
 fn text_of(name: &str) -> &'static str {

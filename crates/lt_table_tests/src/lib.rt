@@ -1,7 +1,7 @@
-//! Do both key tables follow the rules of one key? Do the table's public calls keep their promises at the limits,
-//! when an allocation fails, when callers sleep and when threads work at once?
+//! Does the plain key table follow the rules of one key? Do the table's public calls keep their promises at the
+//! limits, when an allocation fails, when callers sleep and when threads work at once?
 //!
-//! - **One key.** [`rules`] makes calls of one key at a plain and at a linked table.
+//! - **One key.** [`rules`] makes calls of one key at a plain table.
 //! - **Lines of text.** [`text`] reads calls from lines. [`playing`] plays them on a whole table, which stores all
 //!   its steps, and [`keeping`] on a table that streams its steps or records none. [`worked`], [`kept`] and
 //!   [`learning`] have the tests. [`closing`] tries to close a table without its last pass.

@@ -3,9 +3,8 @@
 //!
 //! It shares no code and no definition with `lt_plain`; only the type of a reply is the same. It works on plain
 //! numbers, and simple lists instead of linked queues. A mistake in the definitions that the proofs use shows up
-//! when a test compares the two, as `lt_table_tests` does. Read it alongside the tables of `docs/RULES.md`, and
-//! [`crate::cases`] next.
-use crate::cases::{Lock, Release};
+//! when a test compares the two, as the random schedules of `lt_table_tests` do. Read it alongside the tables of
+//! `docs/RULES.md`.
 use lt_ids::TxnId;
 use lt_plain::Reply;
 use std::alloc::{AllocError, Global};
@@ -14,12 +13,12 @@ use std::alloc::{AllocError, Global};
 pub type Time = (u64, u32);
 
 /// Whether `a` is earlier than `b`: the wall parts decide, and the logical parts if the wall parts are equal.
-pub fn is_below(a: Time, b: Time) -> bool {
+fn is_below(a: Time, b: Time) -> bool {
     a.0 < b.0 || a.0 == b.0 && a.1 < b.1
 }
 
 /// Whether a request belongs to this transaction. A request without a transaction belongs to none.
-pub fn is_one(own: Option<u64>, txn: u64) -> bool {
+fn is_one(own: Option<u64>, txn: u64) -> bool {
     own == Some(txn)
 }
 
@@ -37,6 +36,14 @@ pub struct PlainStand {
 /// A let: the pass, the request number and the wait number.
 pub type Let = (u32, u64, u32);
 
+/// The state of a lock: its holder and the lock's time, or the number of the request for which it is reserved, or
+/// neither.
+#[derive(Clone, Copy)]
+pub struct Lock {
+    pub holder: Option<(u64, Time)>,
+    pub reserved: Option<u64>,
+}
+
 /// The record of one key, in plain numbers, and the lets of its calls.
 #[derive(Drop)]
 pub struct Second {
@@ -46,8 +53,6 @@ pub struct Second {
     readers: Vec<PlainStand>,
     distinguished: Option<u64>,
     pub lets: Vec<Let>,
-    /// What happened when the lock last came free.
-    pub release: Option<Release>,
 }
 
 /// What a look of an active waiter finds. The `bool` is true if the lock is held, false if it is reserved.
@@ -79,7 +84,6 @@ impl Second {
             readers: Vec::new(alloc),
             distinguished: None,
             lets: Vec::new(alloc),
-            release: None,
         }
     }
 
@@ -160,7 +164,6 @@ impl Second {
         self.readers = Vec::new(alloc);
         let queue = self.writers.clone()?;
         self.writers = Vec::new(alloc);
-        let mut writers_let: u64 = 0;
         for writer in &queue {
             if self.reserved.is_some() {
                 self.writers.push(*writer)?;
@@ -171,15 +174,8 @@ impl Second {
             }
             if writer.txn.is_some() {
                 self.reserved = Some(*writer);
-            } else {
-                writers_let = writers_let.wrapping_add(1);
             }
         }
-        self.release = Some(Release {
-            writers_let,
-            is_next: self.reserved.is_some(),
-            next_is_let: self.reserved.is_some_and(|next| next.active),
-        });
         self.settle();
         Ok(())
     }

@@ -1,36 +1,35 @@
 //! How is a table of calls played at one key? [`expect`] makes them in order and compares each reply and its lets.
 //!
-//! A row ([`ExpectedStep`]) is a call, its reply, and the waits that it lets through, in plain numbers. [`make`]
-//! makes a single call, also for the random tests of `linked`: a call that runs out of memory must change nothing,
-//! and is made a second time. `worked` and `linked` have the rows.
+//! A row ([`ExpectedStep`]) is a call, its reply, and the waits that it lets through, in plain numbers. A call that
+//! runs out of memory must change nothing, and is made a second time. `worked` has the rows.
 ghost use Rattle.std.specs.Prelude.{◌<◌, ◌≤◌};
 
 use lt_ids::{Access, IdError, Key, Through, Ticket, Timestamp, TxnId};
-use lt_plain::{Call, KeyTable, Reply, step};
+use lt_plain::{Call, KeyTable, PlainTable, Reply, step};
 use std::alloc::Global;
 use std::process::Abort;
 use std::test::Fail;
 
 /// Request numbers run from 1 to this number, exclusive.
-pub const NUMBERS: u64 = 41;
+const NUMBERS: u64 = 10;
 
 /// The reply of a look by each request number. Number 0 belongs to no request.
-pub type FoundByLook = [Reply; 41];
+type FoundByLook = [Reply; 10];
 
-pub fn txn(number: u64) -> Result<TxnId, Fail> {
+fn txn(number: u64) -> Result<TxnId, Fail> {
     Ok(TxnId::new(number).ok_or("a transaction of this number")?)
 }
 
-pub fn at(wall: u64) -> Timestamp {
+fn at(wall: u64) -> Timestamp {
     Timestamp { wall, logical: 0 }
 }
 
-pub fn ticket(number: u64, wait: u32) -> Result<Ticket, Fail> {
+fn ticket(number: u64, wait: u32) -> Result<Ticket, Fail> {
     Ok(Ticket::new(number, wait).ok_or("a ticket")?)
 }
 
 /// The key of these bytes. An allocation that fails is tried a second time.
-pub fn key(alloc: Global, bytes: &[u8]) -> Result<Key, IdError> {
+fn key(alloc: Global, bytes: &[u8]) -> Result<Key, IdError> {
     match Key::from_bytes(alloc, bytes) {
         Err(IdError::Memory) => Key::from_bytes(alloc, bytes),
         made => made,
@@ -38,42 +37,37 @@ pub fn key(alloc: Global, bytes: &[u8]) -> Result<Key, IdError> {
 }
 
 /// The looks of all requests. They are in an array, so that looking allocates nothing.
-pub fn looks<T: KeyTable>(table: &T, key: &Key) -> FoundByLook {
-    let mut found = [Reply::Nothing; 41];
+fn looks(table: &PlainTable, key: &Key) -> FoundByLook {
+    let mut found = [Reply::Nothing; 10];
     for number in 0..NUMBERS {
         found[number as usize] = table.look(key, number);
     }
     found
 }
 
-/// Makes the call for a pass; `before` are the looks before it. If the call runs out of memory, the looks must be
-/// the same as before, and the call is made again. At most one call of a test may run out of memory: a single
-/// injected failure causes no more, and without an injected failure there is none.
-pub fn make<T: KeyTable>(
+/// Makes the call for pass 3. If the call runs out of memory, the looks must be the same as before, and the call is
+/// made again. At most one call of a test may run out of memory: a single injected failure causes no more, and
+/// without an injected failure there is none.
+fn make(
     rt: &impl Abort,
-    table: &mut T,
+    table: &mut PlainTable,
     key: &Key,
-    before: &FoundByLook,
-    pass: u32,
     call: &Call,
     lets: &mut Vec<Through>,
     refusals: &mut u64,
-) -> Result<Reply, Fail>
-    requires pass_low { 1 ≤ pass }
-    requires pass_high { pass ≤ 1024 }
-{
-    lets.clear();
-    match step::make(table, key, pass, call, lets) {
+) -> Result<Reply, Fail> {
+    let before = looks(table, key);
+    match step::make(table, key, 3, call, lets) {
         Ok(reply) => Ok(reply),
         Err(_) => {
             *refusals = refusals.wrapping_add(1);
             assert!(rt; *refusals <= 1, "a call was refused without cause");
             assert!(rt; lets.is_empty(), "a refused call let somebody through");
             assert!(rt;
-                looks(table, key) == *before,
+                looks(table, key) == before,
                 "a refused call changed what is found"
             );
-            match step::make(table, key, pass, call, lets)? {
+            match step::make(table, key, 3, call, lets)? {
                 // A call with one of these replies allocates nothing, so it cannot have run out of memory.
                 Reply::Other | Reply::Kept | Reply::Absent | Reply::TooLong => {
                     Err(Fail::from("a call that takes no memory was refused"))
@@ -209,10 +203,10 @@ fn lets_of(row: ExpectedLets) -> Result<[Option<Through>; 2], Fail> {
 }
 
 /// Makes the call of a row at the key, as pass 3, and fails unless it has the row's reply and lets.
-fn expect_step<T: KeyTable>(
+fn expect_step(
     rt: &impl Abort,
     alloc: Global,
-    table: &mut T,
+    table: &mut PlainTable,
     key: &Key,
     step: &ExpectedStep,
     refusals: &mut u64,
@@ -221,9 +215,8 @@ fn expect_step<T: KeyTable>(
     let call = call_of(call)?;
     // Each call gets a new list of lets, so that fault injection reaches the allocation of each list.
     let mut found = Vec::new(alloc);
-    let before = looks(table, key);
     assert_eq!(rt;
-        make(rt, table, key, &before, 3, &call, &mut found, refusals)?,
+        make(rt, table, key, &call, &mut found, refusals)?,
         reply_of(reply)?
     );
     assert_eq!(rt;
@@ -234,18 +227,14 @@ fn expect_step<T: KeyTable>(
     Ok(())
 }
 
-/// Makes the calls of the rows at the key `a`, as pass 3 and in order, and fails unless each has its reply and its
-/// lets.
-pub fn expect<T: KeyTable>(
-    rt: &impl Abort,
-    alloc: Global,
-    table: &mut T,
-    steps: &[ExpectedStep],
-) -> Result<(), Fail> {
+/// Makes the calls of the rows on a new table, at the key `a`, as pass 3 and in order. Fails unless each has its
+/// reply and its lets.
+pub fn expect(rt: &impl Abort, alloc: Global, steps: &[ExpectedStep]) -> Result<(), Fail> {
+    let mut table = PlainTable::new(alloc);
     let a = key(alloc, b"a")?;
     let mut refusals = 0;
     for step in steps {
-        expect_step(rt, alloc, table, &a, step, &mut refusals)?;
+        expect_step(rt, alloc, &mut table, &a, step, &mut refusals)?;
     }
     Ok(())
 }

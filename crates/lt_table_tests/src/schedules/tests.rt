@@ -2,14 +2,13 @@
 //! Each seed gives one schedule. It is played on a linked and on a plain table, and every outcome, answer and
 //! history is compared with what the schedule expects. Read next `schedule`.
 use crate::linked::run;
-use crate::rules::lets_of;
 use crate::schedules::cases::ScheduleCaseCounts;
 use crate::schedules::plain::run_plain;
 use crate::schedules::schedule::{Schedule, random_schedule};
 use crate::schedules::standing::{ExpectedAnswer, Standing, standing_of};
 use crate::schedules::steps::{AskedCall, PlainStep};
 use lt_entry::Entry;
-use lt_ids::{Access, Key, Timestamp, TxnId};
+use lt_ids::{Access, Key, Through, Timestamp, TxnId};
 use lt_plain::{Call, Reply};
 use lt_table::{KeyState, ScanError};
 use lt_test_kit::asking::TableAnswer;
@@ -17,8 +16,8 @@ use lt_test_kit::command::{CallOutcome, TableCall};
 use lt_test_kit::key::key_length;
 use lt_test_kit::play::PlayedCommand;
 use lt_test_kit::run::TableRun;
-use lt_test_kit::second::Time;
-use std::alloc::Global;
+use lt_test_kit::second::{Let, Time};
+use std::alloc::{AllocError, Global};
 use std::io::Write;
 use std::process::Abort;
 use std::sync::Wait;
@@ -109,6 +108,15 @@ fn compare_lines<R: Abort>(
 fn is_key(key: &Key, letter: u8) -> bool {
     let bytes = key.as_bytes();
     bytes.len() == key_length(letter) && bytes.iter().all(|byte| *byte == letter)
+}
+
+/// The lets in plain numbers.
+fn lets_of(alloc: Global, lets: &[Through]) -> Result<Vec<Let>, AllocError> {
+    let mut found = Vec::new(alloc);
+    for through in lets {
+        found.push((through.pass, through.ticket.number(), through.ticket.wait()))?;
+    }
+    Ok(found)
 }
 
 /// Asserts that the history entry is this step.
