@@ -146,7 +146,7 @@ pub struct ScheduleCaseCounts {
 }
 
 /// The state of a pass and its request before a command.
-#[derive(Clone, Copy, Debug, PartialEq, Eq)]
+#[derive(Clone, Copy)]
 pub struct Before {
     /// The pass had a request.
     pub is_open: bool,

@@ -10,7 +10,7 @@ use lt_test_kit::command::CallOutcome;
 use std::alloc::{AllocError, Global};
 
 /// What a request does between its calls.
-#[derive(Clone, Copy, Debug, PartialEq, Eq)]
+#[derive(Clone, Copy, PartialEq, Eq)]
 pub enum PlainMode {
     Free,
     Waiting,

@@ -17,7 +17,7 @@ pub struct Standing {
 }
 
 /// The expected answer to a question.
-#[derive(Debug, PartialEq, Eq, Drop)]
+#[derive(Drop)]
 pub enum ExpectedAnswer {
     State(Standing),
     /// The letters that name the keys.
