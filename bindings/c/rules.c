@@ -4,7 +4,7 @@
 
 #include <string.h>
 
-static bool is_before(uint64_t wall, uint32_t logical, uint64_t other_wall, uint32_t other_logical) {
+bool is_before(uint64_t wall, uint32_t logical, uint64_t other_wall, uint32_t other_logical) {
     return wall < other_wall || (wall == other_wall && logical < other_logical);
 }
 
@@ -12,15 +12,15 @@ static void let_through(struct answer *answer, const struct request *request) {
     answer->let[answer->lets++] = (struct through){request->number, request->wait, request->pass};
 }
 
-/* THE QUEUES. An index that is the queue's length says that the request is not there. */
+/* THE QUEUES. */
 
-static size_t writer_of(const struct record *record, uint64_t number) {
+size_t writer_of(const struct record *record, uint64_t number) {
     size_t i = 0;
     while (i < record->writers && record->writer[i].request.number != number) i++;
     return i;
 }
 
-static size_t reader_of(const struct record *record, uint64_t number) {
+size_t reader_of(const struct record *record, uint64_t number) {
     size_t i = 0;
     while (i < record->readers && record->reader[i].number != number) i++;
     return i;
@@ -201,14 +201,14 @@ static uint32_t leave(struct record *record, const struct call *call, struct ans
     return LT_LEFT;
 }
 
-static uint32_t look(const struct record *record, const struct call *call, struct answer *answer) {
-    uint64_t number = call->by.number;
+uint32_t look(const struct record *record, uint64_t number, uint64_t *txn) {
     bool held = record->holder != 0;
+    *txn = 0;
     size_t at = writer_of(record, number);
     if (record->is_reserved && record->reservation.number == number) return LT_RESERVED;
     if (at < record->writers && !record->writer[at].active) return LT_IDLE;
     if (at == record->writers && reader_of(record, number) == record->readers) return LT_NOTHING;
-    answer->txn = held ? record->holder : record->reservation.txn;
+    *txn = held ? record->holder : record->reservation.txn;
     if (at < record->writers && is_reserved_for_txn(record, record->writer[at].request.txn)) return LT_WAIT_OWN;
     if (record->distinguished == number) return held ? LT_WAIT_FIRST_HELD : LT_WAIT_FIRST_RESERVED;
     return held ? LT_WAIT_FOR_HELD : LT_WAIT_FOR_RESERVED;
@@ -228,7 +228,7 @@ struct answer apply(struct record *record, const struct call *call) {
     case UPDATE: answer.code = update(record, call, &answer); break;
     case FINISH: answer.code = finish(record, call, &answer); break;
     case LEAVE: answer.code = leave(record, call, &answer); break;
-    case LOOK: answer.code = look(record, call, &answer); break;
+    case LOOK: answer.code = look(record, call->by.number, &answer.txn); break;
     }
     return answer;
 }

@@ -55,7 +55,17 @@ struct answer {
     size_t lets;
 };
 
+bool is_before(uint64_t wall, uint32_t logical, uint64_t other_wall, uint32_t other_logical);
+
+/* The index of a request in a queue; the queue's length if it is not there. */
+size_t writer_of(const struct record *record, uint64_t number);
+size_t reader_of(const struct record *record, uint64_t number);
+
 bool is_empty(const struct record *record);
+
+/* The reply of a look. `txn` becomes the transaction that it names, or 0. */
+uint32_t look(const struct record *record, uint64_t number, uint64_t *txn);
+
 struct answer apply(struct record *record, const struct call *call);
 
 #endif

@@ -1,14 +1,16 @@
 /*
  * Does the library answer as docs/RULES.md says, called from C? The tests, in order:
  *
- *   worked      plays the texts of ../worked, which are worked examples of docs/RULES.md and docs/FORMATS.md, call by
+ *   worked      plays the texts of ../worked, most of them worked examples of docs/RULES.md and docs/FORMATS.md, call by
  *               call: with short and long keys, with arrays of 0 to 3 lets, and with each allocation refused in turn
  *   refusals    each code, in the order in which it is tested, and at both ends of each range
  *   checks      lt_check on the worked texts and on the faulty ones of docs/FORMATS.md
- *   random      CALLS random calls, 1,000,000 by default, beside the rules in plain C (rules.c)
+ *   random      CALLS random calls, 1,000,000 by default, beside the rules in plain C (rules.c), in which every case of
+ *               the rules must occur (cases.h)
  *
  *     test FOLDER_OF_WORKED_TEXTS
  */
+#include "cases.h"
 #include "locktable.h"
 #include "rules.h"
 
@@ -312,11 +314,13 @@ static void play(const char *text, const char *prefix, size_t room, bool refuses
 }
 
 static const char *const worked_texts[] = {
-    "a-bound-and-no-transaction", "a-bound-does-not-count-the-reservation", "a-queued-writer-is-not-refused",
+    "a-bound-and-no-transaction", "a-bound-does-not-count-the-reservation",
+    "a-key-from-its-first-lock-to-its-last-waiter", "a-queued-writer-is-not-refused",
     "a-raise-lets-earlier-readers-through", "a-reader-at-the-lock-timestamp-waits", "a-scan-over-three-keys",
-    "a-write-without-a-transaction-passes-over", "an-inactive-writer-gets-the-reservation", "nobody-waits-for-himself",
-    "the-distinguished-waiter-leaves", "two-wait-for-a-reservation", "writers-go-by-number",
-    "writers-without-a-transaction-go-first",
+    "a-write-without-a-transaction-passes-over", "an-inactive-writer-gets-the-reservation",
+    "bounds-at-a-held-and-a-reserved-lock", "nobody-waits-for-himself", "the-distinguished-waiter-leaves",
+    "two-wait-for-a-reservation", "writers-go-by-number", "writers-without-a-transaction-go-first",
+    "writers-without-a-transaction-to-the-end",
 };
 
 static char *text_of(const char *folder, const char *name) {
@@ -572,17 +576,40 @@ static uint64_t random_below(uint64_t bound) {
 static const char *const names[KEYS] = {"a", "a!", "b-has-22-bytes-exactly", "b-has-23-bytes-exactly-", "c",
                                         "d-has-64-bytes-which-is-the-most-that-a-key-may-have-----------"};
 
-static struct call random_call(void) {
+/* How calls are drawn. With few requests, a key is often free and the same request comes again soon. With many, a
+   queue grows for SPELL calls and drains for as many, and bounds reach as far as the queues. */
+struct mix {
+    uint64_t numbers, txns, longest;
+    bool grows;
+};
+
+#define FEW 12
+#define MANY 40
+#define SPELL 2500
+#define A_TABLE 10000 /* calls on each table */
+
+static struct mix mix_of(size_t turn) {
+    if (turn / A_TABLE % 2 == 0) return (struct mix){FEW, 5, 4, false};
+    return (struct mix){MANY, 8, 31, turn / SPELL % 2 == 0};
+}
+
+static enum kind random_kind(const struct mix *mix) {
     static const enum kind kinds[] = {VISIT, VISIT, VISIT, VISIT, VISIT, ACQUIRE, UPDATE, FINISH, LEAVE, LOOK};
+    static const enum kind others[] = {ACQUIRE, ACQUIRE, UPDATE, FINISH, FINISH, FINISH, LEAVE, LEAVE, LOOK};
+    if (mix->numbers == FEW) return kinds[random_below(10)];
+    return random_below(32) < (mix->grows ? 27 : 1) ? VISIT : others[random_below(9)];
+}
+
+static struct call random_call(const struct mix *mix) {
     const char *name = names[random_below(KEYS)];
-    struct call call = {.kind = kinds[random_below(10)], .key = name, .key_len = strlen(name)};
-    call.by.number = 1 + random_below(12);
-    call.by.txn = call.kind == VISIT ? random_below(6) : 1 + random_below(5);
+    struct call call = {.kind = random_kind(mix), .key = name, .key_len = strlen(name)};
+    call.by.number = 1 + random_below(mix->numbers);
+    call.by.txn = call.kind == VISIT ? random_below(mix->txns + 1) : 1 + random_below(mix->txns);
     call.by.wall = random_below(4);
     call.by.logical = (uint32_t)random_below(2);
     call.by.wait = 1 + (uint32_t)random_below(1000);
     call.by.pass = 1 + (uint32_t)random_below(1024);
-    call.longest = (uint32_t)random_below(3) * (uint32_t)random_below(4);
+    call.longest = random_below(3) == 0 ? (uint32_t)random_below(mix->longest) : 0;
     call.writes = random_below(2) == 0;
     return call;
 }
@@ -605,19 +632,37 @@ static void compare_states(struct lt_table *table) {
     free(ours);
 }
 
+/* The look of every request at the key of the call. */
+static void compare_looks(struct lt_table *table, const struct record *record, const struct call *call,
+                          const struct mix *mix) {
+    for (uint64_t number = 1; number <= mix->numbers; number++) {
+        uint64_t txn = 99, wanted;
+        uint32_t code = look(record, number, &wanted);
+        WANT(lt_table_look(table, (const uint8_t *)call->key, call->key_len, number, &txn) == code);
+        WANT(txn == wanted);
+        count_look(code);
+    }
+}
+
+/* Whether a call with this reply takes no memory: it queues nobody and lets nobody through. */
+static bool takes_no_memory(uint32_t code) {
+    return code == LT_TOO_LONG || code == LT_OTHER || code == LT_KEPT || code == LT_ABSENT;
+}
+
 static void random_calls(size_t calls) {
     struct lt_table table = {0};
-    size_t memory = 0, most_lets = 0, reopened = 0;
+    size_t memory = 0, most_lets = 0, longest = 0, emptied = 0;
     for (size_t i = 0; i < calls; i++) {
-        if (i % 20000 == 0) {
+        if (i % A_TABLE == 0) {
             if (i > 0) WANT(lt_table_close(&table) == LT_DONE);
             WANT(lt_table_open(&table) == LT_DONE);
             memset(records, 0, sizeof records);
-            reopened++;
         }
-        struct call call = random_call();
+        const struct mix mix = mix_of(i);
+        struct call call = random_call(&mix);
         struct record *record = records;
         while (strcmp(names[record - records], call.key) != 0) record++;
+        struct record before = *record;
         struct lt_through array[5] = {untouched, untouched, untouched, untouched, untouched};
         size_t room = random_below(5), count = 99, given = 0;
         uint64_t txn = 99;
@@ -625,6 +670,8 @@ static void random_calls(size_t calls) {
         uint32_t code = ask(&table, &call, array, room, &count, &txn);
         if (code == LT_MEMORY) {
             WANT(refuse_in == 0 && count == 99 && txn == 99 && same_let(array, &untouched));
+            /* A key of at most 22 bytes takes no memory either. */
+            WANT(call.key_len > 22 || !takes_no_memory(apply(&before, &call).code));
             memory++;
             compare_states(&table);
             continue;
@@ -632,6 +679,7 @@ static void random_calls(size_t calls) {
         refuse_in = 0;
         struct answer answer = apply(record, &call);
         WANT(code == answer.code);
+        count_cases(&before, &call, &answer, record);
         if (call.kind == LOOK) {
             WANT(txn == answer.txn && count == 99);
             continue;
@@ -646,19 +694,24 @@ static void random_calls(size_t calls) {
             }
             for (size_t j = 0; j < 5; j++) WANT(same_let(&array[j], &untouched));
             if (given == answer.lets) break;
-            struct call other = random_call();
+            struct call other = random_call(&mix);
             if (other.kind != LOOK) WANT(ask(&table, &other, array, room, &count, &txn) == LT_LETS_LEFT);
             room = random_below(5);
             WANT(lt_table_lets(&table, array, room, &count) == LT_DONE);
             WANT(count == (answer.lets - given < room ? answer.lets - given : room));
         }
+        size_t queued = record->writers + record->readers + record->is_reserved;
+        longest = queued > longest ? queued : longest;
+        emptied += is_empty(record) && !is_empty(&before);
+        if (i % 5 == 0) compare_looks(&table, record, &call, &mix);
         if (i % 101 == 0) compare_states(&table);
     }
     compare_states(&table);
     WANT(lt_table_close(&table) == LT_DONE);
-    WANT(memory > 0 && most_lets > 4);
-    printf("random: %zu calls on %zu tables, %zu of them without memory, at most %zu lets in one step\n", calls,
-           reopened, memory, most_lets);
+    WANT(memory > 0 && most_lets > 4 && longest >= 30 && emptied >= calls / 2000);
+    printf("random: %zu calls, %zu of them without memory, at most %zu requests at a key and %zu lets in one step\n",
+           calls, memory, longest, most_lets);
+    printf("cases: each of %zu occurred\n", want_all_cases());
 }
 
 int main(int words, char **word) {

@@ -1,7 +1,9 @@
 //! Does the library answer as `docs/RULES.md` and `docs/FORMATS.md` say, called from Rust?
 
+mod cases;
 mod rules;
 
+use cases::Cases;
 use locktable::{
     check, shard_of, Access, CheckError, Fault, Found, LockTable, Refused, Reply, Request, Through, Timestamp, TxnId,
 };
@@ -11,21 +13,24 @@ macro_rules! worked {
     ($($name:literal,)*) => { &[$(($name, include_str!(concat!("../../worked/", $name))),)*] };
 }
 
-/// The worked examples of the documents, as texts of histories.
+/// Worked examples, most of them from the documents, as texts of histories.
 const WORKED: &[(&str, &str)] = worked![
     "a-bound-and-no-transaction",
     "a-bound-does-not-count-the-reservation",
+    "a-key-from-its-first-lock-to-its-last-waiter",
     "a-queued-writer-is-not-refused",
     "a-raise-lets-earlier-readers-through",
     "a-reader-at-the-lock-timestamp-waits",
     "a-scan-over-three-keys",
     "a-write-without-a-transaction-passes-over",
     "an-inactive-writer-gets-the-reservation",
+    "bounds-at-a-held-and-a-reserved-lock",
     "nobody-waits-for-himself",
     "the-distinguished-waiter-leaves",
     "two-wait-for-a-reservation",
     "writers-go-by-number",
     "writers-without-a-transaction-go-first",
+    "writers-without-a-transaction-to-the-end",
 ];
 
 fn text_of(name: &str) -> &'static str {
@@ -255,18 +260,22 @@ fn a_million_random_calls_as_in_plain_rust() {
     let mut random = Random(0x2545_F491_4F6C_DD1D);
     let (mut table, mut plain) = (LockTable::open().unwrap(), PlainTable::default());
     let (mut lets, mut plain_lets, mut most_lets) = (Vec::new(), Vec::new(), 0);
+    let mut cases = Cases::default();
     for call in 0..1_000_000 {
         let key = KEYS[random.below(6) as usize];
         let number = 1 + random.below(12);
         let txn = TxnId::new(1 + random.below(5)).unwrap();
         let ts = Timestamp { wall: random.below(4), logical: random.below(2) as u32 };
+        let before = plain.key_state(key);
         let (reply, plain_reply) = match random.below(10) {
             0 => (table.acquire(key, txn, ts, &mut lets), plain.acquire(key, txn, ts, &mut plain_lets)),
             1 => (table.update(key, txn, ts, &mut lets), plain.update(key, txn, ts, &mut plain_lets)),
             2 => (table.finish(key, txn, &mut lets), plain.finish(key, txn, &mut plain_lets)),
             3 => (table.leave(key, number, &mut lets), plain.leave(key, number, &mut plain_lets)),
             4 => {
-                assert_eq!(table.look(key, number).ok(), plain.look(key, number), "call {call}");
+                let found = plain.look(key, number).unwrap();
+                assert_eq!(table.look(key, number), Ok(found), "call {call}");
+                cases.look(found);
                 continue;
             }
             _ => {
@@ -277,11 +286,13 @@ fn a_million_random_calls_as_in_plain_rust() {
                     longest: (random.below(3) * random.below(4)) as u32,
                     ..Request::new(number, ts, if random.below(2) == 0 { Access::Write } else { Access::Read })
                 };
+                cases.visit(&before, &request);
                 (table.visit(key, &request, &mut lets), plain.visit(key, &request, &mut plain_lets))
             }
         };
         assert_eq!(reply.ok(), plain_reply, "call {call}");
         assert_eq!(lets, plain_lets, "call {call}");
+        cases.lets(&before, plain_reply.unwrap(), &plain_lets, &plain.key_state(key));
         most_lets = most_lets.max(lets.len());
         if call % 101 == 0 {
             for key in KEYS {
@@ -294,4 +305,5 @@ fn a_million_random_calls_as_in_plain_rust() {
         }
     }
     assert!(most_lets > 4);
+    assert_eq!(cases.missing(), []);
 }

@@ -4,16 +4,11 @@
 //!   a pass or its guard. [`play`] plays one command on a seat and reports the outcome of the call. [`asking`]
 //!   asks a running table for the state of a key or the keys of a shard. [`key`] maps a byte to a key. [`run`]
 //!   plays a list of commands and then closes the table.
-//! - **A second evaluation of the rules.** [`second::Second`] evaluates the rules of one key. It is written from
-//!   the tables of `docs/RULES.md` and shares no code and no definition with `lt_plain`. A mistake in the
-//!   definitions themselves, which no proof can find, shows up when a test compares the two. [`cases`] counts
-//!   which cases of the rules occurred, so that a test can require all of them.
 //! - **Small parts.** [`replay`] repeats the steps of a history, [`plain`] makes the plain tables of a table's
 //!   shards, and [`random`] is a pseudorandom stream that is the same in each run.
 #![tactic(auto)]
 
 pub mod asking;
-pub mod cases;
 pub mod command;
 pub mod holds;
 pub mod key;
@@ -23,4 +18,3 @@ pub mod random;
 pub mod replay;
 pub mod run;
 pub mod seat;
-pub mod second;

@@ -2,7 +2,7 @@
 ghost use Rattle.std.specs.Prelude.{◌<◌};
 
 /// A pseudorandom stream of 64-bit numbers (xorshift). The seed determines it.
-#[derive(Clone, Copy, Debug)]
+#[derive(Clone, Copy)]
 pub struct Random {
     state: u64,
 }

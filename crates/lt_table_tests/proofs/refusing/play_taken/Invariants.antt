@@ -1,5 +1,0 @@
-use Rattle.lt_table_tests.proofs.refusing.play_taken.Given as goal
-
--- the name of the book that was just opened
-abbrev pub ghosts-taken_named : goal.ghosts-taken_named
-ghosts-taken_named g a = record { of = a.ready.of }
