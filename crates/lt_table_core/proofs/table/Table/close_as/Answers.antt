@@ -1,4 +1,3 @@
-use Rattle.std.proofs.Common.{◌≡◌, rules}
 use Rattle.lt_table_core.proofs.table.Table.close_as.Goals as goal
 
 pub close_in-requires-clause-passes : goal.close_in-requires-clause-passes

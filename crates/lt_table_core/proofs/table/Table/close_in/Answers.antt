@@ -1,4 +1,4 @@
-use Rattle.std.proofs.Common.{◌≡◌, map, rules}
+use Rattle.std.proofs.Common.{◌≡◌, map}
 use Rattle.lt_table_core.proofs.Ends.{all_of_both, all_mapped}
 use Rattle.lt_table_core.proofs.table.Table.close_in.Goals as goal
 
