@@ -2,9 +2,9 @@
 //! A row of `WORKS` is a job, the version of its text, the text, and what is written for it. The tests play each
 //! row with readers and writers that fail, and with prefixes of the text. Read next `streams` of
 //! `lt_tool_test_kit`, and `histories` for the verdicts on other texts.
-use lt_tool_test_kit::streams::{FAULTS_OF_READS, FAULTS_OF_WRITES, LineEnds, Paper, Torn, blank};
 use lt_history::{CheckError, Fault, Report};
 use lt_tool::{CheckTextError, check_text, upgrade_text};
+use lt_tool_test_kit::streams::{FAULTS_OF_READS, FAULTS_OF_WRITES, LineEnds, Paper, Torn, blank};
 use std::io::{ErrorKind, Read};
 use std::test::*;
 

@@ -2,9 +2,9 @@
 //! A row is a key and a count. A script repeats one line that many times, and all its calls are of that key; the
 //! history of the key has as many steps. Read next `streams` of
 //! `lt_tool_test_kit`, which compares such outputs without storing them.
-use lt_tool_test_kit::streams::Expecting;
 use lt_history::Report;
 use lt_tool::{Finish, Options, check_text, run_script, upgrade_text};
+use lt_tool_test_kit::streams::Expecting;
 use std::alloc::Global;
 use std::sync::Wait;
 use std::test::*;

@@ -4,11 +4,11 @@
 //! Read next `gates` and `streams`; `docs/FORMATS.md` explains the texts.
 ghost use Rattle.lt_command_line.specs.Options.{AreInRange};
 
+use lt_script::ScriptFault;
+use lt_tool::{Finish, Gate, Options, RunError, run_script, run_script_with};
 use lt_tool_test_kit::gates::{Between, Crossed, GateNotes, GateTold, Late};
 use lt_tool_test_kit::options::options;
 use lt_tool_test_kit::streams::{FAULTS_OF_READS, FAULTS_OF_WRITES, LineEnds, Paper, Torn, blank};
-use lt_script::ScriptFault;
-use lt_tool::{Finish, Gate, Options, RunError, run_script, run_script_with};
 use std::alloc::{AllocError, Global};
 use std::io::{ErrorKind, Read};
 use std::process::Abort;

@@ -2,13 +2,13 @@
 //! Each row of `TEXTS`, `WORDS` and `ENDS_WITH_OPTIONS` is a whole run of the program: what it shows, its words
 //! and standard input, and what must come out. Further tests have the help, the jobs that words name, faulty
 //! options and every failure. Read next `scripts`, which has more scripts.
-use lt_tool_test_kit::streams::{Paper, blank};
 use lt_history::CheckError;
 use lt_script::ScriptFault;
 use lt_tool::{
     CheckTextError, Failure, Finish, Job, Options, RunError, WordsError, complain, perform,
     read_words, status,
 };
+use lt_tool_test_kit::streams::{Paper, blank};
 use std::alloc::Global;
 use std::fs::Files;
 use std::process::Abort;
