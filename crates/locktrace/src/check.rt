@@ -5,7 +5,7 @@ use crate::failure::{TraceFailure, of_audit};
 use crate::follow::write_text;
 use crate::output::{Output, ending_of};
 use crate::progress_line::ProgressLine;
-use lt_audit::{AuditError, check_pieces, check_stream_with};
+use lt_audit::{AuditError, CutPlan, check_pieces, check_stream_with};
 use lt_checker::Report;
 use std::alloc::Global;
 use std::fs;
@@ -71,7 +71,8 @@ pub fn check_file<H: Threads + Sync>(
     let Ok(file) = File::open(rt, name) else {
         return Err(TraceFailure::Read);
     };
-    let verdict = check_pieces(threads, rt.alloc(), &file, at_once(threads), line);
+    let plan = CutPlan::of_pieces(at_once(threads));
+    let verdict = check_pieces(threads, rt.alloc(), &file, &plan, line);
     let mut output = Output::new(rt.stdout());
     let ending = answer(rt.alloc(), verdict, &mut output, line);
     ending_of(ending, &output)

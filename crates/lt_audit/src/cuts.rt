@@ -1,8 +1,8 @@
 //! Where is a text cut into pieces?
 //!
-//! A piece begins at the first line of a key: a line whose second word is `1`. A wrong cut changes no verdict: the
-//! piece after it is not joined, and is read again with what comes before it. So no contract speaks of a cut. Read
-//! next: `parallel.rt`, which checks the pieces.
+//! A [`CutPlan`] says it. A piece can be joined if it begins at the first line of a key: a line whose second word is
+//! `1`. A wrong cut changes no verdict: the piece after it is not joined, and is read again with what comes before it.
+//! So no contract speaks of a cut. Read next: `parallel.rt`, which checks the pieces.
 ghost use Rattle.std.specs.Prelude.{◌<◌, IfSome, length};
 
 use crate::text_at::TextAt;
@@ -11,15 +11,40 @@ use std::alloc::{AllocError, Global};
 /// How many offsets are tried for the cuts of one round.
 const TRIES: usize = 64;
 
-/// How a text is cut.
-#[derive(Clone, Copy, Debug)]
-pub(crate) struct CutPlan {
-    /// How many pieces are checked at once.
-    pub pieces: usize,
-    /// About how many bytes a piece has.
-    pub size: u64,
-    /// How many bytes are read to find one cut.
-    pub look: usize,
+/// About how many bytes a piece has if nobody says so.
+const PIECE: u64 = 1 << 23;
+
+/// How many bytes are read to find one cut if nobody says so.
+const LOOK: usize = 1 << 20;
+
+/// Where a text is cut into pieces. Every plan gives the same verdict. A bad cut costs time, because the text after it is
+/// read again.
+#[derive(Clone, Copy)]
+pub enum CutPlan<'a> {
+    /// At first lines of keys, which the check looks for.
+    AtKeys {
+        /// The most pieces that are checked at once. If it is 0, the text is checked on the caller's thread.
+        pieces: usize,
+        /// How many bytes a piece has at least, but for the last one.
+        size: u64,
+        /// How many bytes are read to find one cut. If no key begins among them, the piece becomes longer. They are
+        /// held in memory: if there is not enough, the check answers `Memory`.
+        look: usize,
+    },
+    /// At these offsets, counted in bytes from the beginning of the text. All pieces are checked at once, each on a
+    /// thread of its own. An offset at which no key begins, that is past the end, or that does not rise, is a bad cut.
+    At(&'a [u64]),
+}
+
+impl<'a> CutPlan<'a> {
+    /// At first lines of keys: at most this many pieces at once, of about eight megabytes each.
+    pub fn of_pieces(at_once: usize) -> CutPlan<'a> {
+        CutPlan::AtKeys {
+            pieces: at_once,
+            size: PIECE,
+            look: LOOK,
+        }
+    }
 }
 
 /// The index of the first byte that equals `at`.
@@ -67,24 +92,26 @@ fn cut_near<T: TextAt>(text: &T, offset: u64, buf: &mut [u8]) -> Option<u64> {
     offset.checked_add(index as u64)
 }
 
-/// The offsets between which the next pieces stand: this one, and then at most as many as the plan has pieces. The
-/// last one is the length of the text if no piece comes after it.
-pub(crate) fn cuts_from<T: TextAt>(
+/// This offset, and then first lines of keys: at most as many as `pieces`. The last one is the length of the text if no
+/// piece comes after it.
+fn cuts_at_keys<T: TextAt>(
     alloc: Global,
     text: &T,
     from: u64,
     len: u64,
-    plan: &CutPlan,
+    pieces: usize,
+    size: u64,
+    look: usize,
 ) -> Result<Vec<u64>, AllocError> {
     let mut cuts = Vec::new(alloc);
     cuts.push(from)?;
-    let mut buf = vec![in alloc; 0u8; plan.look]?;
+    let mut buf = vec![in alloc; 0u8; look]?;
     let mut near = from;
     for _ in 0..TRIES {
-        if cuts.len() > plan.pieces {
+        if cuts.len() > pieces {
             return Ok(cuts);
         }
-        near = near.saturating_add(plan.size);
+        near = near.saturating_add(size);
         if near >= len {
             cuts.push(len)?;
             return Ok(cuts);
@@ -95,4 +122,34 @@ pub(crate) fn cuts_from<T: TextAt>(
         }
     }
     Ok(cuts)
+}
+
+/// This offset, then the given ones, and the length of the text.
+fn cuts_as_given(
+    alloc: Global,
+    from: u64,
+    len: u64,
+    given: &[u64],
+) -> Result<Vec<u64>, AllocError> {
+    let mut cuts = Vec::new(alloc);
+    cuts.push(from)?;
+    cuts.extend_from_slice(given)?;
+    cuts.push(len)?;
+    Ok(cuts)
+}
+
+/// The offsets between which the next pieces stand, by the plan. This one is the first.
+pub(crate) fn cuts_from<T: TextAt>(
+    alloc: Global,
+    text: &T,
+    from: u64,
+    len: u64,
+    plan: &CutPlan<'_>,
+) -> Result<Vec<u64>, AllocError> {
+    match *plan {
+        CutPlan::AtKeys { pieces, size, look } => {
+            cuts_at_keys(alloc, text, from, len, pieces, size, look)
+        }
+        CutPlan::At(given) => cuts_as_given(alloc, from, len, given),
+    }
 }

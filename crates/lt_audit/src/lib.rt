@@ -2,7 +2,8 @@
 //!
 //! - [`check_stream`] checks a text of any length that a reader gives. It holds a chunk, the longest line and one key's
 //!   record, and gives the verdict of [`lt_checker::check`] on the whole text.
-//! - [`check_pieces`] gives the same verdict on a text that can be read at any offset, such as a file. It uses threads.
+//! - [`check_pieces`] gives the same verdict on a text that can be read at any offset, such as a file. It uses threads,
+//!   and a [`CutPlan`] says where it cuts the text.
 //! - Both tell a [`CheckProgress`] how far they are.
 //! - [`explain`] reads a text up to a line and says what the rules give for it. [`rule_of`] names the row of
 //!   docs/RULES.md that applies.
@@ -18,10 +19,9 @@ mod parallel;
 mod progress;
 mod rule;
 mod stream;
-#[cfg(test)]
-mod tests;
 mod text_at;
 
+pub use cuts::CutPlan;
 pub use error::AuditError;
 pub use explained::{Explained, MOST_LINES, explain};
 pub use parallel::check_pieces;

@@ -1,8 +1,8 @@
 //! Is a text that can be read at any offset the text of legal histories?
 //!
-//! [`check_pieces`] cuts the text at first lines of keys and checks some pieces at a time, each on a thread of its
-//! own. It joins their checks in the order of the text. If a piece is refused, cannot be read, or does not follow,
-//! then everything from its beginning on is checked again in turn. So the first fault is the one that
+//! [`check_pieces`] cuts the text by a plan and checks some pieces at a time, each on a thread of its own. It joins
+//! their checks in the order of the text. If a piece is refused, cannot be read, or does not follow, then everything
+//! from its beginning on is checked again in turn. So the first fault is the one that
 //! [`check_stream`](crate::check_stream) finds. Read next: `specs/Parallel.antt`, `cuts.rt`, and `stream.rt` for the
 //! check in turn.
 ghost use Rattle.std.specs.Prelude.{◌≡◌, ◌+◌, ◌-◌, ◌<◌, ◌≤◌, All, Option, List, ℕ, IfOk, IfErr, IfSome, Ok};
@@ -20,12 +20,6 @@ use lt_checker::{Checker, Report};
 use std::alloc::{AllocError, Global};
 use std::io::{BufReader, Read};
 use std::thread::{Threads, map_indices};
-
-/// About how many bytes a piece has.
-const PIECE: u64 = 1 << 23;
-
-/// How many bytes are read to find one cut.
-const LOOK: usize = 1 << 20;
 
 /// A piece of a text, checked by itself.
 #[derive(Drop)]
@@ -174,7 +168,7 @@ fn all_joined(prefix: CheckedPrefix, pieces: Vec<Option<CheckedPiece>>) -> Check
 }
 
 /// The prefix with the pieces between these cuts, up to the first piece that does not follow.
-pub(crate) fn extended<T: TextAt + Sync, H: Threads + Sync>(
+fn extended<T: TextAt + Sync, H: Threads + Sync>(
     threads: &H,
     alloc: Global,
     text: &T,
@@ -189,7 +183,7 @@ pub(crate) fn extended<T: TextAt + Sync, H: Threads + Sync>(
 }
 
 /// Reads the first line of a text. `None` if that fails.
-pub(crate) fn begin_prefix<T: TextAt>(text: &T) -> Option<CheckedPrefix>
+fn begin_prefix<T: TextAt>(text: &T) -> Option<CheckedPrefix>
     ensures { IfSome result (IsCheckedPrefix (T.contents text.now)) }
 {
     let mut first = [0u8; HEADER];
@@ -210,7 +204,7 @@ fn check_prefix<T: TextAt + Sync, H: Threads + Sync, P: CheckProgress>(
     threads: &H,
     alloc: Global,
     text: &T,
-    plan: &CutPlan,
+    plan: &CutPlan<'_>,
     prefix: CheckedPrefix,
     progress: &mut P,
 ) -> Result<CheckedPrefix, AuditError>
@@ -235,7 +229,7 @@ fn check_prefix<T: TextAt + Sync, H: Threads + Sync, P: CheckProgress>(
 }
 
 /// Checks the text after the prefix in turn.
-pub(crate) fn check_after<T: TextAt, P: CheckProgress>(
+fn check_after<T: TextAt, P: CheckProgress>(
     alloc: Global,
     text: &T,
     prefix: CheckedPrefix,
@@ -273,12 +267,16 @@ fn check_in_turn<T: TextAt, P: CheckProgress>(
     }
 }
 
-/// Checks a text that is cut by this plan.
-pub(crate) fn check_by<T: TextAt + Sync, H: Threads + Sync, P: CheckProgress>(
+/// Checks a text of any length in the pieces of this plan, each on a thread of its own, and stops at the first fault.
+/// The verdict is that of [`check`](lt_checker::check) on the whole text, whatever the plan. The check holds a chunk,
+/// the longest line and the record of a key for each thread, and the bytes in which it looks for cuts.
+///
+/// [`AuditError`] says what each error means. `TooLong` counts reads, which take at most 65,536 bytes each.
+pub fn check_pieces<T: TextAt + Sync, H: Threads + Sync, P: CheckProgress>(
     threads: &H,
     alloc: Global,
     text: &T,
-    plan: &CutPlan,
+    plan: &CutPlan<'_>,
     progress: &mut P,
 ) -> Result<Report, AuditError>
     ensures ok { IfOk result (λ report. IsAudited (T.contents text.now) (Ok report)) }
@@ -290,27 +288,4 @@ pub(crate) fn check_by<T: TextAt + Sync, H: Threads + Sync, P: CheckProgress>(
     progress.advance(HEADER as u64, &prefix.checker.report());
     let prefix = check_prefix(threads, alloc, text, plan, prefix, progress)?;
     check_after(alloc, text, prefix, progress)
-}
-
-/// Checks a text of any length on this many threads at a time, and stops at the first fault. The verdict is that of
-/// [`check`](lt_checker::check) on the whole text. It holds a chunk, the longest line and the record of a key for each
-/// thread, and a megabyte in which it looks for cuts.
-///
-/// [`AuditError`] says what each error means. `TooLong` counts reads, which take at most 65,536 bytes each.
-pub fn check_pieces<T: TextAt + Sync, H: Threads + Sync, P: CheckProgress>(
-    threads: &H,
-    alloc: Global,
-    text: &T,
-    at_once: usize,
-    progress: &mut P,
-) -> Result<Report, AuditError>
-    ensures ok { IfOk result (λ report. IsAudited (T.contents text.now) (Ok report)) }
-    ensures err { IfErr result (IsAuditedAs (T.contents text.now)) }
-{
-    let plan = CutPlan {
-        pieces: at_once,
-        size: PIECE,
-        look: LOOK,
-    };
-    check_by(threads, alloc, text, &plan, progress)
 }

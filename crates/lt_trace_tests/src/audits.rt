@@ -2,16 +2,11 @@
 //!
 //! `TEXTS` has legal texts of several keys, and texts with one fault each. Every text is checked in pieces of every
 //! size, and with a cut at every offset. Then its reads stop short, and fail.
-use crate::cuts::CutPlan;
-use crate::error::{AuditError, stopped};
-use crate::parallel::{begin_prefix, check_after, check_by, extended};
-use crate::stream::check_stream;
-use crate::text_at::TextAt;
-use lt_checker::{Report, check};
+use lt_audit::{AuditError, CutPlan, TextAt, check_pieces, check_stream};
+use lt_checker::{CheckError, Report, check};
 use std::alloc::Global;
 use std::io;
 use std::io::ErrorKind;
-use std::test::*;
 use std::thread::Threads;
 
 /// Two legal texts; then a wrong reply, a wrong index, a key that comes too late, a key that comes twice, a last line
@@ -33,7 +28,8 @@ type Verdict = Result<Report, AuditError>;
 fn expected(alloc: Global, text: &[u8]) -> Verdict {
     match check(alloc, text) {
         Ok(report) => Ok(report),
-        Err(refusal) => Err(stopped(refusal)),
+        Err(CheckError::Refused { line, fault }) => Err(AuditError::Refused { line, fault }),
+        Err(CheckError::Memory) => Err(AuditError::Memory),
     }
 }
 
@@ -44,12 +40,8 @@ fn verdict_with_cut<H: Threads + Sync>(
     text: &[u8],
     cut: usize,
 ) -> Verdict {
-    let Some(prefix) = begin_prefix(&text) else {
-        return Err(AuditError::Read);
-    };
-    let cuts = [8, cut as u64, text.len() as u64];
-    let prefix = extended(threads, alloc, &text, prefix, &cuts)?;
-    check_after(alloc, &text, prefix, &mut ())
+    let cuts = [cut as u64];
+    check_pieces(threads, alloc, &text, &CutPlan::At(&cuts), &mut ())
 }
 
 /// The verdict of the check in pieces of this size.
@@ -59,12 +51,12 @@ fn verdict_by_size<H: Threads + Sync>(
     text: &[u8],
     size: usize,
 ) -> Verdict {
-    let plan = CutPlan {
+    let plan = CutPlan::AtKeys {
         pieces: 1 + size % 3,
         size: size as u64,
         look: 100,
     };
-    check_by(threads, alloc, &text, &plan, &mut ())
+    check_pieces(threads, alloc, &text, &plan, &mut ())
 }
 
 /// A text whose reads give at most three bytes, and fail from an offset on.
@@ -99,12 +91,12 @@ fn verdict_on_torn<H: Threads + Sync>(
         text,
         fails_at: fails_at as u64,
     };
-    let plan = CutPlan {
+    let plan = CutPlan::AtKeys {
         pieces: 2,
         size: 4,
         look: 100,
     };
-    check_by(threads, alloc, &torn, &plan, &mut ())
+    check_pieces(threads, alloc, &torn, &plan, &mut ())
 }
 
 #[test]
