@@ -56,6 +56,7 @@ fn make(
     lets: &mut Vec<Through>,
     refusals: &mut u64,
 ) -> Result<Reply, Fail> {
+    lets.clear();
     let before = looks(table, key);
     match step::make(table, key, 3, call, lets) {
         Ok(reply) => Ok(reply),
