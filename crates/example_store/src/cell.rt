@@ -16,16 +16,20 @@ use std::marker::PhantomData;
 /// A provisional value of a transaction that holds the key's lock.
 #[derive(Clone, Copy, Debug, PartialEq, Eq)]
 pub struct Intent {
+    /// The transaction.
     pub txn: TxnId,
+    /// What the key's value becomes if the transaction commits.
     pub value: u64,
 }
 
-/// Who installed a committed value: the transaction, and the index of its finish in the history of the key's shard.
-/// `seen` is what the transaction's pass had then seen.
+/// Who installed a committed value.
 #[derive(Drop)]
 pub struct Install {
+    /// The transaction.
     pub txn: TxnId,
+    /// The index of the transaction's finish in the history of the key's shard.
     pub at: u64,
+    /// What the transaction's pass had seen after the finish.
     pub seen: Front,
 }
 
@@ -44,10 +48,13 @@ impl Install {
 /// The value of a key. `N` names the table that has the key's lock.
 #[derive(Drop)]
 pub struct ValueCell<N: Name> {
+    /// The key.
     pub key: Key,
+    /// What a transaction reads that has written no value of its own.
     pub committed: u64,
     /// Who installed the committed value. `None` if it is the initial value.
     pub installed: Option<Install>,
+    /// The provisional value of the transaction that holds the key's lock, if it has written one.
     pub intent: Option<Intent>,
     name: PhantomData<N>,
     pub ghost of: { ForSome installed (λ i. i.seen.of ≡ N.of) },
@@ -57,6 +64,7 @@ pub struct ValueCell<N: Name> {
 /// A committed value, or the reader's own provisional one.
 #[derive(Drop)]
 pub struct Reading {
+    /// The value.
     pub value: u64,
     /// Who installed the committed value. `None` for an initial value and for a provisional one.
     pub installed: Option<Install>,

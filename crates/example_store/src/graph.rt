@@ -14,7 +14,9 @@ use std::alloc::{AllocError, Global};
 /// The transaction `waiter` waits until the transaction `holder` ends.
 #[derive(Clone, Copy, Debug, PartialEq, Eq)]
 pub struct WaitEdge {
+    /// The number of the transaction that waits.
     pub waiter: u64,
+    /// The number of the transaction for which it waits.
     pub holder: u64,
 }
 
@@ -120,7 +122,7 @@ fn greatest(txns: &[u64]) -> Option<u64>
 }
 
 /// The transaction that has to give way: the one with the greatest number in some cycle. `None` exactly if there is
-/// no cycle.
+/// no cycle. An error if an allocation fails.
 pub fn victim_of(alloc: Global, edges: Vec<WaitEdge>) -> Result<Option<u64>, AllocError>
     ensures victim { IfOk result (λ found. IfSome found (IsVictim edges.items)) }
     ensures none { result ≡ Ok None → HasNoCycle edges.items }

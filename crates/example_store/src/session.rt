@@ -20,6 +20,7 @@ use std::mem;
 /// A slot for a pass of the table that `N` names. It may be dropped: the pass in it is then given up, and the table
 /// can never be closed.
 pub struct PassSlot<N: Name> {
+    /// The pass. `None` while a request has it, and after it was given up.
     pub pass: Option<Pass>,
     name: PhantomData<N>,
     pub ghost of: { ForSome pass (λ p. p.of ≡ N.of) },
@@ -39,6 +40,7 @@ fn give_up(pass: Option<Pass>) {
 }
 
 impl<N: Name> PassSlot<N> {
+    /// A slot with this pass.
     pub fn new(pass: Pass) -> PassSlot<N>
         requires { pass.of ≡ N.of }
     {
@@ -90,24 +92,30 @@ fn learn_install(pass: &mut Pass, installed: &Option<Install>)
     }
 }
 
-/// The name of a transaction, and the timestamp at which it reads and writes.
+/// The name of a transaction. It keeps its name if it begins again after a deadlock.
 #[derive(Clone, Copy, Debug, PartialEq, Eq)]
 pub struct TxnName {
+    /// Its number in the table.
     pub id: TxnId,
+    /// The timestamp at which it reads and writes.
     pub ts: Timestamp,
 }
 
-/// A transaction that has begun: its name, and the indices of the keys whose locks it holds.
+/// A transaction that has begun.
 #[derive(Drop)]
 pub struct OpenTxn {
+    /// Its name.
     pub name: TxnName,
+    /// The indices of the keys whose locks it holds.
     pub locked: Vec<usize>,
 }
 
 /// A caller of the store. It has at most one transaction at a time.
 #[derive(Drop)]
 pub struct StoreSession<N: Name> {
+    /// The pass that makes the session's calls.
     pub slot: PassSlot<N>,
+    /// The transaction, from its begin to its commit or abort.
     pub txn: Option<OpenTxn>,
 }
 
@@ -171,7 +179,7 @@ pub fn passes_back<N: Name>(
 }
 
 impl<N: Name> StoreSession<N> {
-    /// The name of the session's transaction.
+    /// The name of the session's transaction. `NoTxn` if it has none.
     pub fn name(&self) -> Result<TxnName, StoreError> {
         match &self.txn {
             Some(txn) => Ok(txn.name),
@@ -180,7 +188,7 @@ impl<N: Name> StoreSession<N> {
     }
 
     /// Whether the transaction holds the lock of the key with this index.
-    pub fn has_locked(&self, index: usize) -> bool {
+    pub(crate) fn has_locked(&self, index: usize) -> bool {
         match &self.txn {
             Some(txn) => txn.locked.contains(&index),
             None => false,
@@ -188,7 +196,7 @@ impl<N: Name> StoreSession<N> {
     }
 
     /// Notes that the transaction holds the lock of the key with this index.
-    pub fn note_lock(&mut self, index: usize) -> Result<(), AllocError> {
+    pub(crate) fn note_lock(&mut self, index: usize) -> Result<(), AllocError> {
         if let Some(txn) = &mut self.txn {
             txn.locked.push(index)?;
         }
@@ -196,7 +204,7 @@ impl<N: Name> StoreSession<N> {
     }
 
     /// Takes the latest note of a lock back.
-    pub fn drop_note(&mut self) {
+    pub(crate) fn drop_note(&mut self) {
         if let Some(txn) = &mut self.txn {
             txn.locked.pop();
         }

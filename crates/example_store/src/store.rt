@@ -10,7 +10,7 @@
 //! **Isolation.** A write holds the key's lock until the transaction ends, so no update is lost if it was read by
 //! `get_for_update`. A read takes no lock: it reads the committed value. It waits if another transaction holds the
 //! lock at the read's timestamp or below, and passes otherwise. So two transactions that each read what the other
-//! writes may both commit. `src/skew.rt` shows this write skew.
+//! writes may both commit. `src/skew.rt` of `example_bank` shows this write skew.
 //!
 //! Read next `src/request.rt`, the way of one request through the table, and `src/cell.rt`.
 ghost use Rattle.std.specs.Prelude.{◌≡◌, Some, IfOk, OnErr, IsSomeAnd, slice_get};
@@ -33,12 +33,14 @@ use std::time::Clock;
 
 /// How often a call that was refused is made again before the store gives up. A shard of a streamed table is full
 /// until its steps are taken out.
-pub const TRIES: u64 = 1 << 40;
+pub(crate) const TRIES: u64 = 1 << 40;
 
 /// A key, and its cell behind its latch.
 #[derive(Drop)]
 pub struct KeySlot<N: Name> {
+    /// The key.
     pub key: Key,
+    /// The latch, with the key's cell.
     pub latch: Mutex<ValueCell<N>>,
 }
 
@@ -46,8 +48,10 @@ pub struct KeySlot<N: Name> {
 #[derive(Drop)]
 pub struct Store<N: Name> {
     pub(crate) alloc: Global,
-    pub(crate) table: Table<N, LinkedTable>,
-    pub(crate) slots: Vec<KeySlot<N>>,
+    /// The locks. A trace takes its steps from here.
+    pub table: Table<N, LinkedTable>,
+    /// The keys, by index.
+    pub slots: Vec<KeySlot<N>>,
     /// The number of the latest transaction, which is also the latest timestamp.
     clock: AtomicU64,
     /// The transaction that has to give way, if not 0 (`src/deadlock.rt`).
@@ -75,7 +79,8 @@ fn slots_of<N: Name>(
 }
 
 impl<N: Name> Store<N> {
-    /// A store over this table, with `count` keys that have this value.
+    /// A store over this table, with `count` keys that have this value. `Memory` if an allocation fails; the table is
+    /// then gone.
     pub fn new(
         alloc: Global,
         table: Table<N, LinkedTable>,
@@ -98,12 +103,13 @@ impl<N: Name> Store<N> {
         table
     }
 
-    /// How many waits began.
+    /// How many waits began since the store was made.
     pub fn waits(&self) -> u64 {
         self.waits.load(Ordering::SeqCst)
     }
 
-    /// Begins a transaction. Its number is also the timestamp at which it reads and writes.
+    /// Begins a transaction. Its number is also the timestamp at which it reads and writes. `TxnOpen` if the session
+    /// has a transaction, and `RequestsOut` if the numbers of transactions are used up.
     pub fn begin(&self, session: &mut StoreSession<N>) -> Result<TxnName, StoreError> {
         let number = self.clock.fetch_add(1, Ordering::SeqCst).wrapping_add(1);
         let Some(id) = TxnId::new(number) else {
@@ -118,7 +124,7 @@ impl<N: Name> Store<N> {
     }
 
     /// Begins a transaction again that was aborted. It keeps its name. So it grows older than all others, and no
-    /// deadlock is then resolved at its cost.
+    /// deadlock is then resolved at its cost. `TxnOpen` if the session has a transaction.
     pub fn begin_again(
         &self,
         session: &mut StoreSession<N>,
@@ -136,6 +142,9 @@ impl<N: Name> Store<N> {
 
     /// Reads the key with this index: the transaction's own provisional value, or the committed one. Waits while
     /// another transaction holds the key's lock at the reader's timestamp or below.
+    ///
+    /// `NoKey` if the index is not below the number of keys, `NoTxn` if no transaction has begun, and `Deadlock` if
+    /// the transaction has to give way. Any other error is one of the table, of the clock or of memory.
     pub fn get<R: Wait + Clock>(
         &self,
         rt: &R,
@@ -148,7 +157,8 @@ impl<N: Name> Store<N> {
         self.access(rt, session, index, Access::Read)
     }
 
-    /// Takes the key's lock and reads the key. Waits until no other transaction holds the lock.
+    /// Takes the key's lock and reads the key. Waits until no other transaction holds the lock. The errors are those
+    /// of [`Store::get`], and `NotLocked` if another transaction got the lock.
     pub fn get_for_update<R: Wait + Clock>(
         &self,
         rt: &R,
@@ -162,7 +172,7 @@ impl<N: Name> Store<N> {
     }
 
     /// Takes the key's lock and leaves a provisional value in the key's cell. It becomes the committed value if the
-    /// transaction commits.
+    /// transaction commits. The errors are those of [`Store::get_for_update`].
     pub fn put<R: Wait + Clock>(
         &self,
         rt: &R,
@@ -183,11 +193,15 @@ impl<N: Name> Store<N> {
     }
 
     /// Ends the transaction: its provisional values become the committed ones, and its locks come free.
+    ///
+    /// `NoTxn` if no transaction has begun, and `NoPass` if the session has lost its pass. `NotLocked` or `Memory` if
+    /// the table did not free a lock: the call then goes on with the other locks, and the transaction is over.
     pub fn commit<R: Wait>(&self, rt: &R, session: &mut StoreSession<N>) -> Result<(), StoreError> {
         self.end(rt, session, true)
     }
 
-    /// Ends the transaction: its provisional values are dropped, and its locks come free.
+    /// Ends the transaction: its provisional values are dropped, and its locks come free. The errors are those of
+    /// [`Store::commit`].
     pub fn abort<R: Wait>(&self, rt: &R, session: &mut StoreSession<N>) -> Result<(), StoreError> {
         self.end(rt, session, false)
     }

@@ -1,47 +1,28 @@
-//! `example_store`: how does a program build a store over the lock table?
+//! `example_bank`: how does a program use a store over the lock table?
 //!
-//! The store is small and in memory: a fixed number of keys with numbers as values, and transactions of many threads
-//! that the lock table puts in order. This program runs two workloads on it. The first one transfers money between
+//! The store is `example_store`. This program runs two workloads on it. The first one transfers money between
 //! accounts on all processors, and the total must not change. The second one shows what the store's isolation does
 //! not give.
 //!
 //! Read in this order:
 //!
-//! 1. `src/store.rt`: the calls, the latches, the isolation.
-//! 2. `src/request.rt`: the way of one request through the table.
-//! 3. `src/deadlock.rt` and `src/graph.rt`: who waits for whom, and who gives way.
-//! 4. `src/cell.rt`: what is behind a latch. `src/session.rt`: how a pass goes to a thread, and how it learns.
-//! 5. `src/run.rt`: how the table is opened and closed, with `src/transfer.rt` and `src/skew.rt`, the workloads, and
-//!    `src/trace.rt`, which takes the table's steps out while it runs.
+//! 1. `src/run.rt`: how the table and the store over it are opened, used by threads and closed.
+//! 2. `src/transfer.rt` and `src/skew.rt`: the workloads.
+//! 3. `src/trace.rt`: how the table's steps are taken out while it runs.
 //!
 //! # What is proved
 //!
-//! - Every function is safe, and every call of the table meets the table's premises: it gets a pass of this table.
-//! - [`graph::victim_of`] chooses the greatest number of some cycle, and chooses nobody only if there is no cycle.
-//! - A provisional value becomes the committed one only after the table answered `Freed` to a finish of the key by
-//!   the value's transaction (`freed` in `src/cell.rt`). By the rules of a key, only the lock's holder gets that
-//!   answer.
-//! - Whoever reads a value has then seen the finish of the transaction that installed it (`shown` of
-//!   [`store::Store::get`] and [`store::Store::get_for_update`]): it is in the prefix of the table's one history that
-//!   the session's pass has seen.
+//! Every function is safe, and every call of the store and of its table meets the premises of that call.
 //!
 //! # What is not proved
 //!
-//! No contract says that the total stays the same, that every lock is freed, that every deadlock is found and
-//! resolved, that a reader gets the latest of the installed values, or that the figures are right. The program
-//! compares the totals of each run. `lockrun check FILE` checks the trace of a run with `--trace FILE`.
+//! No contract says that the total stays the same or that the figures are right. The program compares the totals of
+//! each run. `lockrun check FILE` checks the trace of a run with `--trace FILE`.
 #![tactic(auto)]
 
-mod cell;
-mod deadlock;
-mod error;
-mod graph;
 mod plan;
-mod request;
 mod run;
-mod session;
 mod skew;
-mod store;
 mod trace;
 mod transfer;
 
@@ -121,16 +102,24 @@ fn run_plan<H: Threads + Wait + Clock + Sync, R: Runtime + Files>(
     write_trace(rt, alloc, plan, &run)
 }
 
-fn main(rt: HostRuntime) -> anyhow::Result<()> {
-    let alloc = rt.alloc();
-    let words: Vec<String> = env::args(&rt)?.skip(1).collect(alloc)?;
-    let texts: Vec<&str> = words.iter().map(|word| word.as_str()).collect(alloc)?;
-    let processors = available_parallelism(&rt)?.get() as u64;
-    match read_plan(alloc, texts.as_slice(), processors)? {
-        Some(plan) => run_plan(&rt, &rt, alloc, &plan),
+/// Does what the words of the command line ask for.
+fn run_words<H: Threads + Wait + Clock + Sync>(
+    threads: &H,
+    rt: &HostRuntime,
+    words: &[&str],
+) -> anyhow::Result<()> {
+    let processors = available_parallelism(threads)?.get() as u64;
+    match read_plan(rt.alloc(), words, processors)? {
+        Some(plan) => run_plan(threads, rt, rt.alloc(), &plan),
         None => {
             print!(rt; "{HELP}")?;
             Ok(())
         }
     }
+}
+
+fn main(rt: HostRuntime) -> anyhow::Result<()> {
+    let words: Vec<String> = env::args(&rt)?.skip(1).collect(rt.alloc())?;
+    let texts: Vec<&str> = words.iter().map(|word| word.as_str()).collect(rt.alloc())?;
+    run_words(&rt, &rt, texts.as_slice())
 }

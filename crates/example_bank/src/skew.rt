@@ -2,15 +2,13 @@
 //! Each decides by what it read, and neither sees what the other writes. Both commit, though no order of the two
 //! explains the outcome: *write skew*. A store that must exclude it takes locks for its reads as well, as
 //! `get_for_update` does, or validates its reads when it commits.
-use crate::error::StoreError;
-use crate::session::StoreSession;
-use crate::store::Store;
+use example_store::{Store, StoreError, StoreSession};
 use lt_words::Name;
 use std::sync::Wait;
 use std::time::Clock;
 
 /// Two accounts that should together keep some amount.
-#[derive(Clone, Copy, Debug)]
+#[derive(Clone, Copy)]
 pub struct PairRule {
     pub one: usize,
     pub other: usize,

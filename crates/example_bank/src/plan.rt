@@ -8,7 +8,7 @@ use std::alloc::Global;
 /// What the program prints for `--help`.
 pub const HELP: &str = "Transfers money between accounts of a small transactional store, on threads
 
-Usage: example_store [OPTIONS]
+Usage: example_bank [OPTIONS]
 
 Options:
       --threads N    Threads, 1 to 1000; as many as processors if left out

@@ -1,18 +1,18 @@
 //! How is the store opened, used by threads and closed? [`serve`] does all of it for the table that `N` names.
 ghost use Rattle.std.specs.Prelude.{◌≡◌, ◌≢◌};
+ghost use Rattle.std.specs.List.{All};
 
-use crate::error::StoreError;
 use crate::plan::StorePlan;
-use crate::session::{StoreSession, passes_back, sessions_of};
 use crate::skew::{PairRule, run_skew};
-use crate::store::Store;
-use crate::trace::{TraceTaker, histories_of, take_until, taker_of};
+use crate::trace::{ShardTrace, TraceTaker, histories_of, take_until, taker_of};
 use crate::transfer::{Teller, teller_of, total, work};
 use anyhow::bail;
+use example_store::{Store, StoreError, StoreSession, passes_back, sessions_of};
 use lt_entry::Entry;
 use lt_table::{Config, Keeping, Ready, Rest, Rests, open};
-use lt_words::Name;
+use lt_words::{Name, Pass};
 use std::alloc::{AllocError, Global};
+use std::mem;
 use std::sync::Wait;
 use std::sync::atomic::{AtomicBool, Ordering};
 use std::thread::{Threads, join, map_vec};
@@ -43,14 +43,26 @@ pub struct StoreRun {
     pub histories: Option<Vec<Vec<Entry>>>,
 }
 
-/// An open store, and those who work at it: two sessions of this thread, the tellers, and for a trace the taker.
+/// The two sessions of this thread.
+#[derive(Drop)]
+struct SessionPair<N: Name> {
+    first: StoreSession<N>,
+    second: StoreSession<N>,
+}
+
+/// Those who work on threads of their own: the tellers, and for a trace the taker.
+#[derive(Drop)]
+struct BankCrew<N: Name> {
+    tellers: Vec<Teller<N>>,
+    taker: Option<TraceTaker<N>>,
+}
+
+/// An open store, and those who work at it.
 #[derive(Drop)]
 struct OpenStore<N: Name> {
     store: Store<N>,
-    first: StoreSession<N>,
-    second: StoreSession<N>,
-    tellers: Vec<Teller<N>>,
-    taker: Option<TraceTaker<N>>,
+    pair: SessionPair<N>,
+    crew: BankCrew<N>,
 }
 
 /// How the table of a plan keeps its steps.
@@ -78,10 +90,28 @@ pub fn config_of(plan: &StorePlan) -> Config
     }
 }
 
-/// One of the sessions.
-fn next_session<N: Name>(sessions: &mut Vec<StoreSession<N>>) -> anyhow::Result<StoreSession<N>> {
+/// Two of the sessions.
+fn pair_of<N: Name>(sessions: &mut Vec<StoreSession<N>>) -> anyhow::Result<SessionPair<N>> {
+    match (sessions.pop(), sessions.pop()) {
+        (Some(first), Some(second)) => Ok(SessionPair { first, second }),
+        _ => bail!("there is no session left"),
+    }
+}
+
+/// A taker with one of the sessions, if the plan asks for a trace.
+fn next_taker<N: Name>(
+    alloc: Global,
+    sessions: &mut Vec<StoreSession<N>>,
+    plan: &StorePlan,
+) -> anyhow::Result<Option<TraceTaker<N>>>
+    requires shards { N.of.shards ≡ SHARDS }
+    requires keeping { N.of.keeping ≢ Keeping.Whole }
+{
+    if plan.trace.is_none() {
+        return Ok(None);
+    }
     match sessions.pop() {
-        Some(session) => Ok(session),
+        Some(session) => Ok(Some(taker_of(alloc, session, SHARDS)?)),
         None => bail!("there is no session left"),
     }
 }
@@ -99,6 +129,36 @@ fn tellers_of<N: Name>(
     Ok(tellers)
 }
 
+/// The taker of a trace, if the plan asks for one, and a teller for each other session.
+fn crew_of<N: Name>(
+    alloc: Global,
+    mut sessions: Vec<StoreSession<N>>,
+    plan: &StorePlan,
+) -> anyhow::Result<BankCrew<N>>
+    requires shards { N.of.shards ≡ SHARDS }
+    requires keeping { N.of.keeping ≢ Keeping.Whole }
+{
+    let taker = next_taker(alloc, &mut sessions, plan)?;
+    let tellers = tellers_of(alloc, sessions)?;
+    Ok(BankCrew { tellers, taker })
+}
+
+/// Shares the passes out: to this thread, to the taker of a trace, and to the tellers.
+fn shared_out<N: Name>(
+    alloc: Global,
+    passes: Vec<Pass>,
+    plan: &StorePlan,
+) -> anyhow::Result<(SessionPair<N>, BankCrew<N>)>
+    requires passes { All (λ p. p.of ≡ N.of) passes.items }
+    requires shards { N.of.shards ≡ SHARDS }
+    requires keeping { N.of.keeping ≢ Keeping.Whole }
+{
+    let mut sessions = sessions_of::<N>(alloc, passes)?;
+    let pair = pair_of(&mut sessions)?;
+    let crew = crew_of(alloc, sessions, plan)?;
+    Ok((pair, crew))
+}
+
 /// Opens the table and the store over it, with two accounts more than the plan says.
 fn open_store<N: Name>(
     alloc: Global,
@@ -110,25 +170,10 @@ fn open_store<N: Name>(
     requires keeping { ready.of.keeping ≢ Keeping.Whole }
 {
     let (table, passes) = open::<N>(alloc, ready)?;
-    let mut sessions = sessions_of::<N>(alloc, passes)?;
-    let first = next_session(&mut sessions)?;
-    let second = next_session(&mut sessions)?;
-    let taker = if plan.trace.is_some() {
-        let session = next_session(&mut sessions)?;
-        Some(taker_of(alloc, session, SHARDS)?)
-    } else {
-        None
-    };
-    let tellers = tellers_of(alloc, sessions)?;
+    let (pair, crew) = shared_out(alloc, passes, plan)?;
     let count = (plan.accounts as usize).saturating_add(2);
     let store = Store::new(alloc, table, count, BALANCE)?;
-    Ok(OpenStore {
-        store,
-        first,
-        second,
-        tellers,
-        taker,
-    })
+    Ok(OpenStore { store, pair, crew })
 }
 
 /// The time at which the tellers stop.
@@ -158,38 +203,30 @@ fn work_all<N: Name + Send + Sync, H: Threads + Wait + Clock + Sync>(
 fn work_traced<N: Name + Send + Sync, H: Threads + Wait + Clock + Sync>(
     threads: &H,
     alloc: Global,
-    opened: OpenStore<N>,
+    store: &Store<N>,
+    crew: &mut BankCrew<N>,
     plan: &StorePlan,
     end: Instant,
-) -> Result<OpenStore<N>, AllocError> {
-    let OpenStore {
-        store,
-        first,
-        second,
-        tellers,
-        taker,
-    } = opened;
+) -> Result<(), AllocError> {
+    let tellers = mem::replace(&mut crew.tellers, Vec::new(alloc));
+    let taker = crew.taker.take();
     let flag = AtomicBool::new(false);
-    let (done, shared) = (&flag, &store);
+    let done = &flag;
     let (worked, taker) = join(
         threads,
         move || {
-            let worked = work_all(threads, shared, tellers, plan, end);
+            let worked = work_all(threads, store, tellers, plan, end);
             done.store(true, Ordering::SeqCst);
             worked
         },
         move || match taker {
-            Some(taker) => Some(take_until(threads, alloc, shared, taker, done)),
+            Some(taker) => Some(take_until(threads, alloc, store, taker, done)),
             None => None,
         },
     );
-    Ok(OpenStore {
-        store,
-        first,
-        second,
-        tellers: worked?,
-        taker,
-    })
+    crew.taker = taker;
+    crew.tellers = worked?;
+    Ok(())
 }
 
 /// The transfers and the deadlocks of all tellers. An error if a teller stopped before its time.
@@ -213,7 +250,7 @@ fn skew_of<N: Name, H: Wait + Clock>(
     plan: &StorePlan,
 ) -> Result<(u64, u64), StoreError> {
     let one = plan.accounts as usize;
-    let pair = PairRule {
+    let rule = PairRule {
         one,
         other: one.saturating_add(1),
         stays: BALANCE,
@@ -221,9 +258,9 @@ fn skew_of<N: Name, H: Wait + Clock>(
     run_skew(
         rt,
         &opened.store,
-        &mut opened.first,
-        &mut opened.second,
-        &pair,
+        &mut opened.pair.first,
+        &mut opened.pair.second,
+        &rule,
     )
 }
 
@@ -234,8 +271,8 @@ fn outcome_of<N: Name, H: Wait + Clock>(
     plan: &StorePlan,
     total_before: u64,
 ) -> anyhow::Result<StoreRun> {
-    let total_after = total(rt, &opened.store, &mut opened.first, plan.accounts)?;
-    let (transfers, deadlocks) = count_all(&opened.tellers)?;
+    let total_after = total(rt, &opened.store, &mut opened.pair.first, plan.accounts)?;
+    let (transfers, deadlocks) = count_all(&opened.crew.tellers)?;
     let skew = skew_of(rt, opened, plan)?;
     Ok(StoreRun {
         total_before,
@@ -247,6 +284,24 @@ fn outcome_of<N: Name, H: Wait + Clock>(
         stays: BALANCE,
         histories: None,
     })
+}
+
+/// Runs both workloads on an open store.
+fn run_both<N: Name + Send + Sync, H: Threads + Wait + Clock + Sync>(
+    threads: &H,
+    alloc: Global,
+    opened: &mut OpenStore<N>,
+    plan: &StorePlan,
+) -> anyhow::Result<StoreRun> {
+    let total_before = total(
+        threads,
+        &opened.store,
+        &mut opened.pair.first,
+        plan.accounts,
+    )?;
+    let end = end_of(threads, plan)?;
+    work_traced(threads, alloc, &opened.store, &mut opened.crew, plan, end)?;
+    outcome_of(threads, opened, plan, total_before)
 }
 
 /// Opens the store over the prepared table, runs both workloads and closes the table.
@@ -261,10 +316,7 @@ pub fn serve<N: Name + Send + Sync, H: Threads + Wait + Clock + Sync>(
     requires keeping { ready.of.keeping ≢ Keeping.Whole }
 {
     let mut opened = open_store::<N>(alloc, ready, plan)?;
-    let total_before = total(threads, &opened.store, &mut opened.first, plan.accounts)?;
-    let end = end_of(threads, plan)?;
-    let mut opened = work_traced(threads, alloc, opened, plan, end)?;
-    let mut run = outcome_of(threads, &mut opened, plan, total_before)?;
+    let mut run = run_both(threads, alloc, &mut opened, plan)?;
     run.histories = close_store(threads, alloc, opened)?;
     Ok(run)
 }
@@ -272,17 +324,48 @@ pub fn serve<N: Name + Send + Sync, H: Threads + Wait + Clock + Sync>(
 /// The sessions of this thread and of the tellers.
 fn sessions_back<N: Name>(
     alloc: Global,
-    first: StoreSession<N>,
-    second: StoreSession<N>,
+    pair: SessionPair<N>,
     tellers: Vec<Teller<N>>,
 ) -> Result<Vec<StoreSession<N>>, AllocError> {
     let mut sessions = Vec::new(alloc);
-    sessions.push(first)?;
-    sessions.push(second)?;
+    sessions.push(pair.first)?;
+    sessions.push(pair.second)?;
     for teller in tellers {
         sessions.push(teller.session)?;
     }
     Ok(sessions)
+}
+
+/// All sessions, and what the taker took, if there is one. An error if it has lost steps.
+fn dismissed<N: Name>(
+    alloc: Global,
+    pair: SessionPair<N>,
+    crew: BankCrew<N>,
+) -> anyhow::Result<(Vec<StoreSession<N>>, Option<Vec<ShardTrace<N>>>)> {
+    let mut sessions = sessions_back(alloc, pair, crew.tellers)?;
+    let Some(taker) = crew.taker else {
+        return Ok((sessions, None));
+    };
+    sessions.push(taker.session)?;
+    if !taker.is_whole {
+        bail!("steps of the trace were lost");
+    }
+    Ok((sessions, Some(taker.shards)))
+}
+
+/// The histories of the shards: what was taken, and what the close has left. `None` if there was no taker.
+fn joined<N: Name>(
+    alloc: Global,
+    traces: Option<Vec<ShardTrace<N>>>,
+    rests: Vec<Rest>,
+) -> anyhow::Result<Option<Vec<Vec<Entry>>>> {
+    let Some(traces) = traces else {
+        return Ok(None);
+    };
+    match histories_of(alloc, traces, rests) {
+        Some(histories) => Ok(Some(histories)),
+        None => bail!("the trace does not join what the close has left"),
+    }
 }
 
 /// Closes the store's table. Returns the histories of its shards, if they were traced.
@@ -291,27 +374,10 @@ fn close_store<N: Name, H: Wait>(
     alloc: Global,
     opened: OpenStore<N>,
 ) -> anyhow::Result<Option<Vec<Vec<Entry>>>> {
-    let OpenStore {
-        store,
-        first,
-        second,
-        tellers,
-        taker,
-    } = opened;
-    let mut sessions = sessions_back(alloc, first, second, tellers)?;
-    let Some(taker) = taker else {
-        close_table(rt, alloc, store, sessions)?;
-        return Ok(None);
-    };
-    sessions.push(taker.session)?;
-    if !taker.is_whole {
-        bail!("steps of the trace were lost");
-    }
+    let OpenStore { store, pair, crew } = opened;
+    let (sessions, traces) = dismissed(alloc, pair, crew)?;
     let rests = close_table(rt, alloc, store, sessions)?;
-    match histories_of(alloc, taker.shards, rests) {
-        Some(histories) => Ok(Some(histories)),
-        None => bail!("the trace does not join what the close has left"),
-    }
+    joined(alloc, traces, rests)
 }
 
 /// Closes the store's table with the passes of all sessions. Returns what is left of each shard.

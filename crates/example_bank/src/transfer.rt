@@ -5,10 +5,8 @@
 //! Two transfers in opposite directions can each hold the lock that the other needs: a deadlock.
 ghost use Rattle.std.specs.Prelude.{◌<◌};
 
-use crate::error::StoreError;
 use crate::plan::StorePlan;
-use crate::session::StoreSession;
-use crate::store::Store;
+use example_store::{Store, StoreError, StoreSession};
 use lt_words::Name;
 use std::sync::Wait;
 use std::thread::sleep;
@@ -18,7 +16,7 @@ use std::time::{Clock, Duration, Instant};
 const MOST: u64 = 100;
 
 /// A linear congruential generator. The upper bits of its state are the random ones.
-#[derive(Clone, Copy, Debug)]
+#[derive(Clone, Copy)]
 pub struct TransferRandom {
     state: u64,
 }
@@ -68,7 +66,7 @@ pub fn teller_of<N: Name>(session: StoreSession<N>, seed: u64) -> Teller<N> {
 }
 
 /// What a transfer moves, between which accounts, and how many milliseconds pass from its first lock to its second.
-#[derive(Clone, Copy, Debug)]
+#[derive(Clone, Copy)]
 struct Order {
     from: usize,
     to: usize,

@@ -4,8 +4,7 @@
 ghost use Rattle.std.specs.Prelude.{◌≡◌, ◌≢◌, ◌<◌};
 ghost use Rattle.lt_words.specs.declared.keeping.Keeping.TheVariants.{Whole};
 
-use crate::session::StoreSession;
-use crate::store::Store;
+use example_store::{Store, StoreSession};
 use lt_entry::Entry;
 use lt_table::{Keeping, Reader, Rest};
 use lt_words::{Name, Pass};
@@ -131,6 +130,24 @@ pub fn take_until<N: Name, R: Wait + Clock>(
     taker
 }
 
+/// The history of one shard. `None` if what is left does not continue what was taken, or an allocation fails.
+fn history_of<N: Name>(trace: ShardTrace<N>, rest: Rest) -> Option<Vec<Entry>> {
+    let ShardTrace {
+        reader,
+        mut entries,
+        ..
+    } = trace;
+    let Rest {
+        from,
+        entries: mut left,
+    } = rest;
+    if from != reader.next {
+        return None;
+    }
+    entries.append(&mut left).ok()?;
+    Some(entries)
+}
+
 /// The history of each shard: the steps that were taken, and those that the close has left. `None` if what is left
 /// does not continue what was taken, or an allocation fails.
 pub fn histories_of<N: Name>(
@@ -141,17 +158,8 @@ pub fn histories_of<N: Name>(
     let mut rests = rests.into_iter();
     let mut histories = Vec::new(alloc);
     for trace in traces {
-        let mut rest = rests.next()?;
-        let ShardTrace {
-            reader,
-            mut entries,
-            ..
-        } = trace;
-        if rest.from != reader.next {
-            return None;
-        }
-        entries.append(&mut rest.entries).ok()?;
-        histories.push(entries).ok()?;
+        let rest = rests.next()?;
+        histories.push(history_of(trace, rest)?).ok()?;
     }
     Some(histories)
 }
