@@ -58,29 +58,57 @@ fn put_before(out: &mut Vec<u8>, before: &[Vec<u8>]) -> Result<(), AllocError> {
     Ok(())
 }
 
-/// The explanation of a line with this number and this fault.
-fn explanation(
-    alloc: Global,
-    explained: &Explained,
-    line: u64,
-    fault: &str,
-) -> Result<Vec<u8>, AllocError> {
-    let mut out = Vec::new(alloc);
+/// Appends a line with the number of the faulty line and its fault.
+fn put_fault(out: &mut Vec<u8>, line: u64, fault: &str) -> Result<(), AllocError> {
     out.extend_from_slice(b"line")?;
-    put_number_word(&mut out, line)?;
+    put_number_word(out, line)?;
     out.extend_from_slice(b": ")?;
     out.extend_from_slice(fault.as_bytes())?;
     out.push(b'\n')?;
-    put_line(&mut out, &explained.line)?;
-    if let Some((call, state)) = &explained.asked {
-        if let Some(expected) = &explained.expected {
-            put_expected(&mut out, expected, &rule_of(state, call))?;
-        }
-        out.extend_from_slice(b"the record of the key before it:\n   ")?;
-        put_state(&mut out, state)?;
-        out.push(b'\n')?;
+    Ok(())
+}
+
+/// Appends what the rules say of the line, if it has the form of a line.
+fn put_rules(out: &mut Vec<u8>, explained: &Explained) -> Result<(), AllocError> {
+    let Some((call, state)) = &explained.asked else {
+        return Ok(());
+    };
+    if let Some(expected) = &explained.expected {
+        put_expected(out, expected, &rule_of(state, call))?;
     }
-    put_before(&mut out, &explained.before)?;
+    out.extend_from_slice(b"the record of the key before it:\n   ")?;
+    put_state(out, state)?;
+    out.push(b'\n')?;
+    Ok(())
+}
+
+/// Appends the explanation of a line with this number and this fault.
+fn put_explanation(
+    out: &mut Vec<u8>,
+    explained: &Explained,
+    line: u64,
+    fault: &str,
+) -> Result<(), AllocError> {
+    put_fault(out, line, fault)?;
+    put_line(out, &explained.line)?;
+    put_rules(out, explained)?;
+    put_before(out, &explained.before)
+}
+
+/// The explanation of the line of the file with this number and this fault.
+fn explanation<F: Files>(
+    files: &F,
+    alloc: Global,
+    name: &str,
+    line: u64,
+    fault: &str,
+) -> Result<Vec<u8>, TraceFailure> {
+    let mut reader = open_reader(files, alloc, name)?;
+    let mut out = Vec::new(alloc);
+    match explain(alloc, &mut reader, line as usize) {
+        Ok(explained) => put_explanation(&mut out, &explained, line, fault)?,
+        Err(error) => return Err(of_audit(error)),
+    }
     Ok(out)
 }
 
@@ -97,12 +125,8 @@ fn explain_line<F: Files, W: Write>(
     if line < 2 {
         return Err(failure);
     }
-    let mut reader = open_reader(files, alloc, name)?;
-    let explained = match explain(alloc, &mut reader, line as usize) {
-        Ok(explained) => explained,
-        Err(error) => return Err(of_audit(error)),
-    };
-    write_text(output, &explanation(alloc, &explained, line, fault)?)?;
+    let text = explanation(files, alloc, name, line, fault)?;
+    write_text(output, &text)?;
     Err(failure)
 }
 

@@ -10,7 +10,7 @@ use std::alloc::{AllocError, AllocFailed};
 use thiserror::Error;
 
 /// Why the program did not do its work. Displayed, it is what stands after `locktrace: ` on standard error.
-#[derive(Clone, Copy, Debug, PartialEq, Eq, Error)]
+#[derive(Clone, Copy, Debug, Error)]
 pub enum TraceFailure {
     /// The words after the program's name are not a command line of the program.
     #[error("command line refused; see locktrace --help")]

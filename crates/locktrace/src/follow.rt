@@ -63,6 +63,25 @@ pub fn write_text<W: Write>(output: &mut W, text: &[u8]) -> Result<(), TraceFail
     }
 }
 
+/// Gives a line with its line end to the checker, and its step to the taker if it is wanted. Writes what the taker
+/// returns.
+fn follow_line<W: Write, T: StepTaker>(
+    alloc: Global,
+    checker: &mut Checker,
+    line: &[u8],
+    output: &mut W,
+    taker: &mut T,
+) -> Result<(), TraceFailure> {
+    if let Err(error) = checker.take_lines(alloc, line) {
+        return Err(of_check(error));
+    }
+    let Some((_, step)) = line.split_last() else {
+        return Ok(());
+    };
+    let text = give_step(alloc, checker, step, taker)?;
+    write_text(output, &text)
+}
+
 /// The verdict at the end of the text.
 fn end(alloc: Global, checker: Checker, rest: &[u8]) -> Result<Report, TraceFailure> {
     match checker.end(alloc, rest) {
@@ -90,14 +109,10 @@ pub fn follow_steps<R: BufRead, W: Write, T: StepTaker>(
     for _ in 0..u64::MAX {
         line.clear();
         append_line(reader, &mut line)?;
-        let Some((b'\n', step)) = line.split_last() else {
+        if line.last() != Some(&b'\n') {
             return end(alloc, checker, &line);
-        };
-        if let Err(error) = checker.take_lines(alloc, &line) {
-            return Err(of_check(error));
         }
-        let text = give_step(alloc, &checker, step, taker)?;
-        write_text(output, &text)?;
+        follow_line(alloc, &mut checker, &line, output, taker)?;
     }
     Err(TraceFailure::Read)
 }

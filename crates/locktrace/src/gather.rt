@@ -5,7 +5,9 @@ use crate::follow::StepTaker;
 use lt_checker::Report;
 use lt_ids::Key;
 use lt_picture::ShownStep;
-use lt_statistics::{HotKey, LongestQueue, LongestWait, Statistics, StepCounts, StepFacts};
+use lt_statistics::{
+    HotKey, LongestQueue, LongestWait, Statistics, StepCounts, StepFacts, TextSummary,
+};
 use std::alloc::{AllocError, Global};
 
 /// Gives the steps of a text to the statistics.
@@ -53,6 +55,13 @@ fn put_waits(out: &mut Vec<u8>, counts: &StepCounts) -> Result<(), AllocError> {
     out.extend_from_slice(line.as_bytes())
 }
 
+/// Appends a key, and what stands before and after it.
+fn put_around(out: &mut Vec<u8>, begin: &str, key: &Key, end: &str) -> Result<(), AllocError> {
+    out.extend_from_slice(begin.as_bytes())?;
+    out.extend_from_slice(key.as_bytes())?;
+    out.extend_from_slice(end.as_bytes())
+}
+
 /// Appends the line of the longest queue.
 fn put_queue(out: &mut Vec<u8>, longest: &Option<LongestQueue>) -> Result<(), AllocError> {
     let Some(longest) = longest else {
@@ -61,9 +70,7 @@ fn put_queue(out: &mut Vec<u8>, longest: &Option<LongestQueue>) -> Result<(), Al
     let alloc = *out.allocator();
     let begin = format!(in alloc; "longest queue {}, at ", longest.requests)?;
     let end = format!(in alloc; " after step {}\n", longest.index)?;
-    out.extend_from_slice(begin.as_bytes())?;
-    out.extend_from_slice(longest.key.as_bytes())?;
-    out.extend_from_slice(end.as_bytes())
+    put_around(out, begin.as_str(), &longest.key, end.as_str())
 }
 
 /// Appends the line of the longest wait.
@@ -78,9 +85,7 @@ fn put_wait(out: &mut Vec<u8>, longest: &Option<LongestWait>) -> Result<(), Allo
         longest.ticket
     )?;
     let end = format!(in alloc; " from step {} to {}\n", longest.from, longest.to)?;
-    out.extend_from_slice(begin.as_bytes())?;
-    out.extend_from_slice(longest.key.as_bytes())?;
-    out.extend_from_slice(end.as_bytes())
+    put_around(out, begin.as_str(), &longest.key, end.as_str())
 }
 
 /// Appends the line of a hot key. Its name takes this many columns.
@@ -111,6 +116,14 @@ fn put_hottest(out: &mut Vec<u8>, hottest: &[HotKey]) -> Result<(), AllocError> 
     Ok(())
 }
 
+/// Appends the lines of a summary.
+fn put_summary(out: &mut Vec<u8>, summary: &TextSummary) -> Result<(), AllocError> {
+    put_waits(out, &summary.counts)?;
+    put_queue(out, &summary.longest_queue)?;
+    put_wait(out, &summary.longest_wait)?;
+    put_hottest(out, &summary.hottest)
+}
+
 impl Gatherer {
     pub fn new(alloc: Global) -> Gatherer {
         Gatherer {
@@ -125,10 +138,7 @@ impl Gatherer {
         let summary = statistics.finish()?;
         let line = format!(in alloc; "ok {} keys {} steps\n", report.keys, report.steps)?;
         let mut out = Vec::from_slice(alloc, line.as_bytes())?;
-        put_waits(&mut out, &summary.counts)?;
-        put_queue(&mut out, &summary.longest_queue)?;
-        put_wait(&mut out, &summary.longest_wait)?;
-        put_hottest(&mut out, &summary.hottest)?;
+        put_summary(&mut out, &summary)?;
         Ok(out)
     }
 }

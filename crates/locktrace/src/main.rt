@@ -88,17 +88,21 @@ fn do_task<H: Threads + Sync>(
     perform(rt.alloc(), rt, task, rt.stdin(), rt.stdout(), &mut line)
 }
 
+fn print_help(rt: &HostRuntime, text: &str) -> Result<(), TraceFailure> {
+    match print!(rt; "{text}") {
+        Ok(()) => Ok(()),
+        Err(e) if e.kind() == ErrorKind::BrokenPipe => Err(TraceFailure::Closed),
+        Err(_) => Err(TraceFailure::Write),
+    }
+}
+
 /// Reads the words, and does what they ask for.
 fn run<H: Threads + Sync>(threads: &H, rt: &HostRuntime) -> Result<(), TraceFailure> {
     let words = words_of(rt)?;
     let texts: Vec<&str> = words.iter().map(|word| word.as_str()).collect(rt.alloc())?;
     match read_task(rt.alloc(), &terminal_of(rt)?, texts.as_slice()) {
         Ok(task) => do_task(threads, rt, &task),
-        Err(TaskError::Help(text)) => match print!(rt; "{text}") {
-            Ok(()) => Ok(()),
-            Err(e) if e.kind() == ErrorKind::BrokenPipe => Err(TraceFailure::Closed),
-            Err(_) => Err(TraceFailure::Write),
-        },
+        Err(TaskError::Help(text)) => print_help(rt, text.as_str()),
         Err(TaskError::Refused) => Err(TraceFailure::Words),
         Err(TaskError::Memory) => Err(TraceFailure::Memory),
     }

@@ -119,6 +119,22 @@ fn drawn(alloc: Global, collected: &Collector, is_html: bool) -> Result<Vec<u8>,
     }
 }
 
+/// Writes a picture to the file with this name, or to the output if there is none.
+fn write_picture<F: Files, W: Write>(
+    files: &F,
+    output: &mut W,
+    name: Option<&str>,
+    text: &[u8],
+) -> Result<(), TraceFailure> {
+    let Some(name) = name else {
+        return write_text(output, text);
+    };
+    match File::create(files, name) {
+        Ok(mut file) => write_text(&mut file, text),
+        Err(_) => Err(TraceFailure::Write),
+    }
+}
+
 /// Draws the wanted steps of a key, and writes the picture to its file or to the output.
 fn draw<F: Files, R: BufRead, W: Write>(
     files: &F,
@@ -139,13 +155,7 @@ fn draw<F: Files, R: BufRead, W: Write>(
     };
     follow_steps(alloc, reader, output, &mut collector)?;
     let text = drawn(alloc, &collector, picture.html)?;
-    let Some(name) = picture.out else {
-        return write_text(output, &text);
-    };
-    match File::create(files, name) {
-        Ok(mut file) => write_text(&mut file, &text),
-        Err(_) => Err(TraceFailure::Write),
-    }
+    write_picture(files, output, picture.out, &text)
 }
 
 /// Sorts the trace, and writes the text of histories.

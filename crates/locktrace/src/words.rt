@@ -1,7 +1,7 @@
 //! Which task do the words of the command line ask for?
 //!
-//! The first half of the file builds the command line for clap, a command at a time. The second half turns clap's
-//! matches into a [`Task`]. [`read_task`] combines the two. Read next: `task.rt`, which performs a task.
+//! The first half of the file builds the command line for clap from [`COMMANDS`], a row for each command. The second
+//! half turns clap's matches into a [`Task`]. [`read_task`] combines the two. Read next: `task.rt`, which performs a task.
 use crate::help;
 use crate::layout::layout_of;
 use clap::error::ErrorKind;
@@ -10,7 +10,7 @@ use lt_picture::{Layout, Terminal};
 use std::alloc::{AllocError, Global};
 
 /// Which steps of a text are wanted.
-#[derive(Clone, Copy, Debug)]
+#[derive(Clone, Copy)]
 pub struct WantedSteps<'a> {
     /// The key; all keys if left out.
     pub key: Option<&'a str>,
@@ -21,7 +21,7 @@ pub struct WantedSteps<'a> {
 }
 
 /// How a trace is to be sorted.
-#[derive(Clone, Copy, Debug)]
+#[derive(Clone, Copy)]
 pub struct SortWords<'a> {
     /// Whether the lines are JSON objects.
     pub json: bool,
@@ -32,14 +32,14 @@ pub struct SortWords<'a> {
 }
 
 /// Where a picture goes, and its form.
-#[derive(Clone, Copy, Debug)]
+#[derive(Clone, Copy)]
 pub struct PictureWords<'a> {
     pub out: Option<&'a str>,
     pub html: bool,
 }
 
 /// What the program is asked to do. A task without a file reads standard input.
-#[derive(Clone, Copy, Debug)]
+#[derive(Clone, Copy)]
 pub enum Task<'a> {
     Sort(Option<&'a str>, SortWords<'a>),
     Check(Option<&'a str>),
@@ -49,7 +49,7 @@ pub enum Task<'a> {
 }
 
 /// Why the words name no task.
-#[derive(Debug, Drop)]
+#[derive(Drop)]
 pub enum TaskError {
     /// They ask for help, and this is its text.
     Help(String),
@@ -59,129 +59,197 @@ pub enum TaskError {
     Memory,
 }
 
-/// An option that takes a value.
-fn option<'a>(alloc: Global, name: &'a str, value: &'a str, help: &'a str) -> Arg<'a> {
-    Arg::new(alloc, name)
-        .long(name)
-        .value_name(value)
-        .help(help)
+/// An option of a command.
+#[derive(Clone, Copy)]
+struct TraceOption<'a> {
+    name: &'a str,
+    /// Its short form, if it has one.
+    short: Option<char>,
+    /// What its value is called. A flag has none.
+    value: Option<&'a str>,
+    help: &'a str,
 }
 
-/// An option without a value.
-fn flag<'a>(alloc: Global, name: &'a str, help: &'a str) -> Arg<'a> {
-    Arg::new(alloc, name)
-        .long(name)
-        .action(ArgAction::SetTrue)
-        .help(help)
+/// A command: its name, its file, and its options in the order of the help.
+#[derive(Clone, Copy)]
+struct TraceCommand<'a> {
+    name: &'a str,
+    about: &'a str,
+    /// What the help shows below the options.
+    after: &'a str,
+    needs_file: bool,
+    file: &'a str,
+    options: &'a [TraceOption<'a>],
 }
 
-/// A command that reads a file.
-fn reader<'a>(alloc: Global, name: &'a str, about: &'a str) -> Result<Command<'a>, AllocError> {
-    let file = Arg::new(alloc, "file").value_name("FILE").help(
-        "The file to read. Without one, the command reads standard input",
-    );
-    Command::new(alloc, name).about(about).arg(file)
+/// What the help says of a file that may be left out.
+const FILE: &str = "The file to read. Without one, the command reads standard input";
+
+const KEY: TraceOption = TraceOption {
+    name: "key",
+    short: None,
+    value: Some("KEY"),
+    help: "The key whose steps are wanted",
+};
+
+const FROM: TraceOption = TraceOption {
+    name: "from",
+    short: None,
+    value: Some("I"),
+    help: "The index of the first step, default 1",
+};
+
+const TO: TraceOption = TraceOption {
+    name: "to",
+    short: None,
+    value: Some("J"),
+    help: "The index of the last step",
+};
+
+const COMMANDS: [TraceCommand; 5] = [
+    TraceCommand {
+        name: "sort",
+        about: "Sorts the lines of a trace, in the order in which they happened, into a text of histories",
+        after: help::SORT,
+        needs_file: false,
+        file: FILE,
+        options: &[
+            TraceOption {
+                name: "json",
+                short: None,
+                value: None,
+                help: "Each line is a JSON object",
+            },
+            TraceOption {
+                name: "memory",
+                short: None,
+                value: Some("SIZE"),
+                help: "The most memory for lines, such as 64M or 2G, default 256M",
+            },
+            TraceOption {
+                name: "temporary",
+                short: None,
+                value: Some("FOLDER"),
+                help: "The folder for temporary files, default /tmp",
+            },
+        ],
+    },
+    TraceCommand {
+        name: "check",
+        about: "Checks whether a text of histories is legal, and writes the numbers of its keys and steps",
+        after: help::CHECK,
+        needs_file: false,
+        file: FILE,
+        options: &[],
+    },
+    TraceCommand {
+        name: "explain",
+        about: "Checks a text of histories. Says what the rules give for its first faulty line, or sums up a legal text",
+        after: help::EXPLAIN,
+        needs_file: true,
+        file: "The file to read. It is read twice if it has a fault",
+        options: &[],
+    },
+    TraceCommand {
+        name: "show",
+        about: "Checks a text of histories, and writes the steps of its keys as a table with the state after each",
+        after: help::SHOW,
+        needs_file: false,
+        file: FILE,
+        options: &[
+            KEY,
+            FROM,
+            TO,
+            TraceOption {
+                name: "width",
+                short: None,
+                value: Some("N"),
+                help: "The width of the table in columns, from 40 to 65535",
+            },
+            TraceOption {
+                name: "colour",
+                short: None,
+                value: Some("WHEN"),
+                help: "Whether the table has colours: always, never, or auto, the default",
+            },
+        ],
+    },
+    TraceCommand {
+        name: "picture",
+        about: "Checks a text of histories, and draws the steps of a key",
+        after: help::PICTURE,
+        needs_file: false,
+        file: FILE,
+        options: &[
+            KEY,
+            FROM,
+            TO,
+            TraceOption {
+                name: "out",
+                short: Some('o'),
+                value: Some("FILE"),
+                help: "The file for the picture. Without one, the command writes standard output",
+            },
+            TraceOption {
+                name: "html",
+                short: None,
+                value: None,
+                help: "Makes a page of HTML instead of an SVG",
+            },
+        ],
+    },
+];
+
+/// The option of a row.
+fn option<'a>(alloc: Global, row: &TraceOption<'a>) -> Arg<'a> {
+    let arg = Arg::new(alloc, row.name).long(row.name).help(row.help);
+    let arg = match row.short {
+        Some(short) => arg.short(short),
+        None => arg,
+    };
+    match row.value {
+        Some(value) => arg.value_name(value),
+        None => arg.action(ArgAction::SetTrue),
+    }
 }
 
-/// The options that choose steps.
-fn chooser<'a>(alloc: Global, command: Command<'a>) -> Result<Command<'a>, AllocError> {
-    let key = option(alloc, "key", "KEY", "The key whose steps are wanted");
-    let from = option(alloc, "from", "I", "The index of the first step, default 1");
-    let to = option(alloc, "to", "J", "The index of the last step");
-    command.arg(key)?.arg(from)?.arg(to)
-}
-
-fn sorter<'a>(alloc: Global) -> Result<Command<'a>, AllocError> {
-    let about =
-        "Sorts the lines of a trace, in the order in which they happened, into a text of histories";
-    let json = flag(alloc, "json", "Each line is a JSON object");
-    let memory = option(
-        alloc,
-        "memory",
-        "SIZE",
-        "The most memory for lines, such as 64M or 2G, default 256M",
-    );
-    let folder = option(
-        alloc,
-        "temporary",
-        "FOLDER",
-        "The folder for temporary files, default /tmp",
-    );
-    reader(alloc, "sort", about)?
-        .after_help(help::SORT)
-        .arg(json)?
-        .arg(memory)?
-        .arg(folder)
-}
-
-fn checker<'a>(alloc: Global) -> Result<Command<'a>, AllocError> {
-    let about =
-        "Checks whether a text of histories is legal, and writes the numbers of its keys and steps";
-    Ok(reader(alloc, "check", about)?.after_help(help::CHECK))
-}
-
-fn explainer<'a>(alloc: Global) -> Result<Command<'a>, AllocError> {
-    let about =
-        "Checks a text of histories. Says what the rules give for its first faulty line, or sums up a legal text";
+/// The command of a row, without its options.
+fn reader<'a>(alloc: Global, row: &TraceCommand<'a>) -> Result<Command<'a>, AllocError> {
     let file = Arg::new(alloc, "file")
         .value_name("FILE")
-        .required(true)
-        .help("The file to read. It is read twice if it has a fault");
-    Command::new(alloc, "explain")
-        .about(about)
-        .after_help(help::EXPLAIN)
+        .required(row.needs_file)
+        .help(row.file);
+    Command::new(alloc, row.name)
+        .about(row.about)
+        .after_help(row.after)
         .arg(file)
 }
 
-fn shower<'a>(alloc: Global) -> Result<Command<'a>, AllocError> {
-    let about =
-        "Checks a text of histories, and writes the steps of its keys as a table with the state after each";
-    let width = option(
-        alloc,
-        "width",
-        "N",
-        "The width of the table in columns, from 40 to 65535",
-    );
-    let colour = option(
-        alloc,
-        "colour",
-        "WHEN",
-        "Whether the table has colours: always, never, or auto, the default",
-    );
-    chooser(alloc, reader(alloc, "show", about)?)?
-        .after_help(help::SHOW)
-        .arg(width)?
-        .arg(colour)
+/// The command of a row.
+fn subcommand<'a>(alloc: Global, row: &TraceCommand<'a>) -> Result<Command<'a>, AllocError> {
+    let mut command = reader(alloc, row)?;
+    for row in row.options {
+        command = command.arg(option(alloc, row))?;
+    }
+    Ok(command)
 }
 
-fn drawer<'a>(alloc: Global) -> Result<Command<'a>, AllocError> {
-    let about = "Checks a text of histories, and draws the steps of a key";
-    let out = option(
-        alloc,
-        "out",
-        "FILE",
-        "The file for the picture. Without one, the command writes standard output",
-    );
-    let html = flag(alloc, "html", "Makes a page of HTML instead of an SVG");
-    chooser(alloc, reader(alloc, "picture", about)?)?
-        .after_help(help::PICTURE)
-        .arg(out.short('o'))?
-        .arg(html)
+/// The command line of the program, without its commands.
+fn program<'a>(alloc: Global) -> Result<Command<'a>, AllocError> {
+    let about = "Works with traces of lock tables: sorts, checks, explains, shows and draws them";
+    let named = Command::new(alloc, "locktrace")
+        .no_binary_name(true)
+        .bin_name("locktrace")?;
+    Ok(named.about(about).after_help(help::PROGRAM))
 }
 
 /// The command line of the program.
 fn command<'a>(alloc: Global) -> Result<Command<'a>, AllocError> {
-    let about = "Works with traces of lock tables: sorts, checks, explains, shows and draws them";
-    Command::new(alloc, "locktrace")
-        .no_binary_name(true)
-        .bin_name("locktrace")?
-        .about(about)
-        .after_help(help::PROGRAM)
-        .subcommand(sorter(alloc)?)?
-        .subcommand(checker(alloc)?)?
-        .subcommand(explainer(alloc)?)?
-        .subcommand(shower(alloc)?)?
-        .subcommand(drawer(alloc)?)
+    let mut command = program(alloc)?;
+    for row in &COMMANDS {
+        command = command.subcommand(subcommand(alloc, row)?)?;
+    }
+    Ok(command)
 }
 
 /// Whether a flag was given. Its value is then `true`.

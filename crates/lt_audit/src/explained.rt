@@ -19,7 +19,7 @@ use std::io::BufRead;
 pub const MOST_LINES: usize = 5;
 
 /// A line of a text, and what the rules say of it.
-#[derive(Debug, Drop)]
+#[derive(Drop)]
 pub struct Explained {
     /// The line, without its line end.
     pub line: Vec<u8>,

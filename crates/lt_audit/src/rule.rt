@@ -4,7 +4,7 @@ use lt_ids::{Access, Timestamp, TxnId};
 use lt_plain::{Call, Holder, KeyState, QueuedRequest};
 
 /// A row of docs/RULES.md.
-#[derive(Clone, Copy, Debug, PartialEq, Eq)]
+#[derive(Clone, Copy)]
 pub struct Rule {
     /// The heading of the section.
     pub section: &'static str,
@@ -13,7 +13,7 @@ pub struct Rule {
 }
 
 /// A visit, without its wait.
-#[derive(Clone, Copy, Debug)]
+#[derive(Clone, Copy)]
 struct RuleVisit {
     number: u64,
     txn: Option<TxnId>,

@@ -9,7 +9,7 @@ pub(crate) const COLUMNS: usize = 9;
 const LEAST: usize = 40;
 
 /// How the table is laid out.
-#[derive(Clone, Copy, Debug, PartialEq, Eq)]
+#[derive(Clone, Copy)]
 pub struct Layout {
     /// The width of a line in columns of the terminal, from 40 to 65535.
     width: usize,

@@ -3,7 +3,7 @@ use lt_ids::Ticket;
 use lt_plain::{Call, KeyState, Reply};
 
 /// A step of a key.
-#[derive(Debug, Drop)]
+#[derive(Drop)]
 pub struct ShownStep {
     /// The step's index among the steps of its key, from 1. It is the number that the table and the picture show.
     pub index: u64,

@@ -9,7 +9,7 @@ const FILE_WIDTH: u16 = 120;
 const TERMINAL_WIDTH: u16 = 80;
 
 /// What a program knows of its standard output.
-#[derive(Clone, Copy, Debug)]
+#[derive(Clone, Copy)]
 pub struct Terminal {
     /// Whether standard output is a terminal.
     pub is_terminal: bool,
@@ -20,7 +20,7 @@ pub struct Terminal {
 }
 
 /// When a table has colours.
-#[derive(Clone, Copy, Debug, PartialEq, Eq)]
+#[derive(Clone, Copy)]
 pub enum ColourChoice {
     Always,
     Never,

@@ -3,7 +3,7 @@ use lt_ids::Ticket;
 use lt_plain::{Call, Reply};
 
 /// A step of a key, as the statistics need it.
-#[derive(Debug, Drop)]
+#[derive(Drop)]
 pub struct StepFacts {
     /// The step's index among the steps of its key, from 1.
     pub index: u64,

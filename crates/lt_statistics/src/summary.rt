@@ -2,7 +2,7 @@
 use lt_ids::{Key, Ticket};
 
 /// The counts of a text.
-#[derive(Clone, Copy, Debug, PartialEq, Eq)]
+#[derive(Clone, Copy)]
 pub struct StepCounts {
     /// How many keys have steps.
     pub keys: u64,
@@ -25,7 +25,7 @@ impl StepCounts {
 }
 
 /// A key, with its steps and those of them that have the reply `wait`.
-#[derive(Debug, Drop)]
+#[derive(Drop)]
 pub struct HotKey {
     pub key: Key,
     pub steps: u64,
@@ -33,7 +33,7 @@ pub struct HotKey {
 }
 
 /// The longest queue of a text.
-#[derive(Debug, Drop)]
+#[derive(Drop)]
 pub struct LongestQueue {
     pub key: Key,
     /// The index of the step after which the queue was that long.
@@ -43,7 +43,7 @@ pub struct LongestQueue {
 }
 
 /// A wait that a step ended.
-#[derive(Debug, Drop)]
+#[derive(Drop)]
 pub struct LongestWait {
     pub key: Key,
     pub ticket: Ticket,
@@ -54,7 +54,7 @@ pub struct LongestWait {
 }
 
 /// What the statistics of a text say.
-#[derive(Debug, Drop)]
+#[derive(Drop)]
 pub struct TextSummary {
     pub counts: StepCounts,
     /// The longest queue, and of equally long ones the first. `None` if nobody is ever queued.

@@ -14,7 +14,7 @@ use lt_plain::{Call, Reply};
 use std::alloc::AllocError;
 
 /// An open wait.
-#[derive(Debug, Drop)]
+#[derive(Drop)]
 pub(crate) struct OpenWait {
     pub(crate) ticket: Ticket,
     /// The index of the visit that began it.

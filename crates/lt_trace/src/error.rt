@@ -71,7 +71,7 @@ pub(crate) fn stream_error(e: &io::Error, other: SortError) -> SortError
 }
 
 /// Why a line was not read: it has this fault, or memory ran out before that was known.
-#[derive(Clone, Copy, Debug, PartialEq, Eq)]
+#[derive(Clone, Copy)]
 pub(crate) enum TraceLineError {
     Memory,
     Fault(TraceFault),

@@ -19,7 +19,7 @@ use std::io::{BufRead, Write};
 use std::rt::Files;
 
 /// The form of the lines of a trace.
-#[derive(Clone, Copy, Debug, PartialEq, Eq)]
+#[derive(Clone, Copy)]
 pub enum TraceForm {
     /// `KEY PASS CALL = REPLY` or `KEY PASS CALL = REPLY let TICKET ..`: a line of histories without its index.
     Words,
@@ -30,7 +30,7 @@ pub enum TraceForm {
 }
 
 /// How a trace is sorted.
-#[derive(Clone, Copy, Debug)]
+#[derive(Clone, Copy)]
 pub struct SortOptions<'a> {
     pub form: TraceForm,
     /// How many bytes the lines in memory may take, with their entries. One line is always held. Not counted are a
