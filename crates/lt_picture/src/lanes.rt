@@ -16,7 +16,7 @@ use std::alloc::{AllocError, Global};
 pub const MOST_STEPS: usize = 400;
 
 /// A stretch of steps during which a lane is in one phase.
-#[derive(Clone, Copy, PartialEq, Eq)]
+#[derive(Clone, Copy, Debug, PartialEq, Eq)]
 pub struct Bar {
     /// The index of the lane.
     pub lane: usize,
@@ -28,7 +28,7 @@ pub struct Bar {
 }
 
 /// A step of one lane that ended a wait of another.
-#[derive(Clone, Copy, PartialEq, Eq)]
+#[derive(Clone, Copy, Debug, PartialEq, Eq)]
 pub struct Arrow {
     /// The number of the step, from 1.
     pub step: usize,

@@ -10,7 +10,7 @@ use lt_plain::{Call, Holder, KeyState, QueuedRequest, QueuedWriter};
 use std::alloc::{AllocError, Global};
 
 /// Whose life a row of the picture shows.
-#[derive(Clone, Copy, PartialEq, Eq, PartialOrd, Ord)]
+#[derive(Clone, Copy, Debug, PartialEq, Eq, PartialOrd, Ord)]
 pub enum Lane {
     /// The transaction with this number: its calls, and its hold on the lock.
     Txn(u64),
@@ -19,7 +19,7 @@ pub enum Lane {
 }
 
 /// Where a request or a transaction stands at the key.
-#[derive(Clone, Copy, PartialEq, Eq)]
+#[derive(Clone, Copy, Debug, PartialEq, Eq)]
 pub enum Phase {
     /// The key's state does not mention it.
     Out,
