@@ -2,12 +2,12 @@
 //! makes the rounds of one pass on its thread; [`drive_in_turn`] makes those of all passes on one thread.
 //!
 //! **A round.** The pass enters a request of two different keys, one to write and one to read, and scans. If there
-//! is only one key, the request names it twice. The keys are `k0`, `k1` and so on; a xorshift generator, seeded by
-//! the pass's number, draws them evenly. The round's timestamp is its number within the pass, and its transaction
-//! is the pass's number. If the scan waits, the pass polls a bounded number of times, or sleeps until it is let
-//! through. When it is let through, it scans again; if it gives up, it leaves. Once the request proceeds, the pass
-//! acquires the key that it writes, finishes there, and leaves. It stops at the end of the round in which its
-//! total of key steps reaches the given number.
+//! is only one key, the request names it twice. The keys are `k0`, `k1` and so on ([`crate::key_names`]); a xorshift
+//! generator, seeded by the pass's number, draws them evenly. The round's timestamp is its number within the pass,
+//! and its transaction is the pass's number. If the scan waits, the pass polls a bounded number of times, or sleeps
+//! until it is let through. When it is let through, it scans again; if it gives up, it leaves. Once the request
+//! proceeds, the pass acquires the key that it writes, finishes there, and leaves. It stops at the end of the round
+//! in which its total of key steps reaches the given number.
 //!
 //! **Threads and turns.** With threads, each pass has its own thread. Without them, the passes take turns on one
 //! thread, in an order that another generator draws. A turn is one stage of a round: enter and scan (and, if the
@@ -17,10 +17,11 @@
 //! streamed table empties the shard.
 //!
 //! **Why a sleeping pass is always let through.** A request holds a lock only after it proceeds, and from then on
-//! it waits for nothing. So each held lock comes free, which lets the waiting readers through. A waiting writer
-//! can also be queued behind the reservation of a smaller number. The request with that reservation writes no
-//! other key, so it can only wait to read. A read passes every reservation, so that request proceeds, and its turn
-//! ends. Numbers rise, so only finitely many requests go first.
+//! it waits for nothing. So each lock of a round comes free, which lets the waiting readers through. (The locks of
+//! [`crate::holding`] never come free, but no request names their keys.) A waiting writer can also be queued behind
+//! the reservation of a smaller number. The request with that reservation writes no other key, so it can only wait
+//! to read. A read passes every reservation, so that request proceeds, and its turn ends. Numbers rise, so only
+//! finitely many requests go first.
 ghost use Rattle.std.specs.Prelude.{◌≡◌, ◌<◌, IfSome};
 
 use crate::load::Load;

@@ -2,12 +2,15 @@
 //! finish and leave, all in memory, and prints the times.
 //!
 //! The table keeps its history whole until it is closed, streams it to a thread that takes the steps while others
-//! are made, or records none. Read [`crate::drivers`] for what each pass does, and [`crate::taking`] for the
-//! thread that takes the steps.
-ghost use Rattle.std.specs.Prelude.{◌≡◌};
+//! are made, or records none. A further transaction may hold locks meanwhile. Read [`crate::drivers`] for what each
+//! pass does, [`crate::taking`] for the thread that takes the steps, and [`crate::holding`] for the locks that are
+//! held.
+ghost use Rattle.std.specs.Prelude.{◌≡◌, unwrap_or};
 
 use crate::closing::{Ending, close};
 use crate::drivers::{Driver, Tally, all_of, drive, drive_in_turn, drivers_of, gathered};
+use crate::holding::holder_of;
+use crate::key_names::keys_of;
 use crate::taking::{Piece, Taker, take_until};
 use anyhow::bail;
 use lt_history::print;
@@ -26,17 +29,23 @@ use std::sync::atomic::{AtomicBool, Ordering};
 use std::thread::{Threads, join, map_vec};
 use std::time::{Clock, CpuClock, Duration, Instant};
 
-/// The most steps that a shard of a streamed table holds.
-const HELD: u64 = 1 << 20;
+/// The most steps that a shard of a streamed table stores. A load's further locks, at most 1,000,000, are acquired
+/// before the taker starts, and fit into one shard.
+const STORED: u64 = 1 << 20;
 
 /// The parameters of a load: how many passes, keys and shards; about how many key steps each pass makes; on
 /// threads or in turn; and how the table keeps its steps.
 #[derive(Clone, Copy, Debug)]
 pub struct Load {
+    /// How many passes make rounds.
     pub passes: usize,
     pub keys: usize,
     pub steps: u64,
     pub shards: usize,
+    /// How many further locks are held while the rounds are made, if the command line says so.
+    pub held: Option<u64>,
+    /// How many bytes each key has, if the command line says so.
+    pub key_bytes: Option<u64>,
     pub threads: bool,
     /// Whether a waiting pass sleeps until it is let through. Otherwise it polls.
     pub waits: bool,
@@ -45,22 +54,33 @@ pub struct Load {
     pub traces: bool,
 }
 
-/// The keys `k0`, `k1` and so on. None if an allocation fails.
-fn keys_of(alloc: Global, keys: usize) -> Option<Vec<Key>> {
-    let mut list = Vec::new(alloc);
-    for index in 0..keys {
-        let name = format!(in alloc; "k{index}").ok()?;
-        list.push(Key::from_bytes(alloc, name.as_bytes()).ok()?)
-            .ok()?;
+impl Load {
+    /// How many further locks are held while the rounds are made.
+    pub fn held_locks(&self) -> u64
+        ensures { result ≡ unwrap_or self.now.held 0 }
+    {
+        self.held.unwrap_or(0)
     }
-    Some(list)
+
+    /// How many passes make no rounds: one takes the steps of a streamed table, and one holds the further locks.
+    pub fn further_passes(&self) -> usize {
+        let takers = if self.keeping == Keeping::Streamed {
+            1
+        } else {
+            0
+        };
+        let holders: usize = if self.held_locks() > 0 { 1 } else { 0 };
+        holders.saturating_add(takers)
+    }
 }
 
-/// The callers of a table: its drivers and, if it is streamed, the taker of its steps.
+/// The callers of a table: its drivers; the taker of its steps, if it is streamed; and the seat of the pass that holds
+/// further locks, if there are any.
 #[derive(Drop)]
 struct LoadCallers<N: Name> {
     drivers: Vec<Driver<N>>,
     taker: Option<Taker<N>>,
+    holder: Option<Seat<N>>,
 }
 
 /// A taker with a seat of its own, if the table is streamed. An error if no seat is left or an allocation fails.
@@ -86,9 +106,12 @@ fn taker_of<N: Name>(
     }
 }
 
-/// The callers of a table. An error if there are too few seats or an allocation fails.
-fn crew_of<N: Name>(
+/// The callers of a table. The further locks of the load are then held. An error if there are too few seats, a lock is
+/// not taken or an allocation fails.
+fn crew_of<N: Name, T: KeyTable, R: Wait>(
+    rt: &R,
     alloc: Global,
+    table: &Table<N, T>,
     mut seats: Vec<Seat<N>>,
     load: &Load,
 ) -> anyhow::Result<LoadCallers<N>>
@@ -96,10 +119,15 @@ fn crew_of<N: Name>(
     requires keeping { N.of.keeping ≡ load.now.keeping }
 {
     let taker = taker_of(alloc, &mut seats, load)?;
+    let holder = holder_of(rt, alloc, table, &mut seats, load)?;
     let Some(drivers) = drivers_of(alloc, seats, load) else {
         bail!("memory was refused");
     };
-    Ok(LoadCallers { drivers, taker })
+    Ok(LoadCallers {
+        drivers,
+        taker,
+        holder,
+    })
 }
 
 /// Makes the rounds of all drivers, on threads or in turn. None if a call fails.
@@ -131,12 +159,17 @@ fn drive_beside<N: Name + Send + Sync, T: KeyTable + Send, H: Threads + Wait + C
     crew: LoadCallers<N>,
     at_once: bool,
 ) -> Option<LoadCallers<N>> {
-    let LoadCallers { drivers, taker } = crew;
+    let LoadCallers {
+        drivers,
+        taker,
+        holder,
+    } = crew;
     let Some(taker) = taker else {
         let drivers = drive_all(threads, alloc, table, keys, drivers, at_once)?;
         return Some(LoadCallers {
             drivers,
             taker: None,
+            holder,
         });
     };
     let flag = AtomicBool::new(false);
@@ -153,7 +186,22 @@ fn drive_beside<N: Name + Send + Sync, T: KeyTable + Send, H: Threads + Wait + C
     Some(LoadCallers {
         drivers: driven?,
         taker: Some(taken?),
+        holder,
     })
+}
+
+/// The seats of the drivers and of the holder, and the counts. None if an allocation fails.
+fn seats_of<N: Name>(
+    alloc: Global,
+    drivers: Vec<Driver<N>>,
+    holder: Option<Seat<N>>,
+) -> Option<(Vec<Seat<N>>, Tally)> {
+    let (mut seats, tally) = gathered(alloc, drivers)?;
+    let Some(seat) = holder else {
+        return Some((seats, tally));
+    };
+    seats.push(seat).ok()?;
+    Some((seats, tally))
 }
 
 /// The seats of all callers, the steps that were taken, and the counts. None if an allocation fails.
@@ -161,8 +209,12 @@ fn dismissed<N: Name>(
     alloc: Global,
     crew: LoadCallers<N>,
 ) -> Option<(Vec<Seat<N>>, Vec<Piece>, Tally)> {
-    let LoadCallers { drivers, taker } = crew;
-    let (mut seats, tally) = gathered(alloc, drivers)?;
+    let LoadCallers {
+        drivers,
+        taker,
+        holder,
+    } = crew;
+    let (mut seats, tally) = seats_of(alloc, drivers, holder)?;
     let Some(taker) = taker else {
         return Some((seats, Vec::new(alloc), tally));
     };
@@ -236,7 +288,7 @@ fn play<N: Name + Send + Sync, H: Threads + Wait + Clock + CpuClock + Sync>(
     let Some(seats) = seated::<N>(alloc, passes) else {
         bail!("memory was refused");
     };
-    let crew = crew_of(alloc, seats, load)?;
+    let crew = crew_of(threads, alloc, &table, seats, load)?;
     let (crew, spent) = timed(threads, alloc, &table, keys, crew, load.threads)?;
     let Some((ending, tally)) = close_with(threads, alloc, table, crew, load.keeping) else {
         bail!("the table was not closed");
@@ -248,17 +300,18 @@ fn play<N: Name + Send + Sync, H: Threads + Wait + Clock + CpuClock + Sync>(
     })
 }
 
-/// The configuration of the load's table. A streamed table has one pass more than the load, for the taker.
+/// The configuration of the load's table. It has a pass for each caller, and each shard has room for as many steps as
+/// a shard may make or, if steps are taken out, for [`STORED`].
 fn config_of(load: &Load) -> Config
     ensures { result.shards ≡ load.now.shards }
 {
-    let (takers, max_steps) = match load.keeping {
-        Keeping::Whole | Keeping::Unrecorded => (0, 1 << 32),
-        Keeping::Streamed => (1, HELD),
+    let max_steps = match load.keeping {
+        Keeping::Whole | Keeping::Unrecorded => 1 << 32,
+        Keeping::Streamed => STORED,
     };
     Config {
         shards: load.shards,
-        passes: load.passes.saturating_add(takers),
+        passes: load.passes.saturating_add(load.further_passes()),
         max_steps,
         max_requests: (1 << 40) - 1,
         max_waits: (1 << 24) - 1,
@@ -274,6 +327,14 @@ fn name_of(keeping: Keeping) -> &'static str {
     }
 }
 
+/// Prints the value of an option, if the command line gave it one.
+fn tell_given<R: Runtime>(rt: &R, name: &str, value: Option<u64>) -> anyhow::Result<()> {
+    if let Some(n) = value {
+        print!(rt; " {name}={n}")?;
+    }
+    Ok(())
+}
+
 /// Prints the parameters of the load.
 fn tell_load<R: Runtime>(rt: &R, load: &Load) -> anyhow::Result<()> {
     let at_once = if load.threads { load.passes } else { 1 };
@@ -283,7 +344,8 @@ fn tell_load<R: Runtime>(rt: &R, load: &Load) -> anyhow::Result<()> {
     )?;
     let waits = if load.waits { "sleep" } else { "poll" };
     print!(rt; " history={} waiting={waits}", name_of(load.keeping))?;
-    Ok(())
+    tell_given(rt, "held", load.held)?;
+    tell_given(rt, "key_bytes", load.key_bytes)
 }
 
 /// Prints the number of steps and the times.
@@ -330,7 +392,8 @@ fn write_trace<F: Files>(
 }
 
 /// Plays the load, prints one line with its times and counts, and writes the trace to the file, if one is named.
-/// An error if the table's number of steps differs from the number that the calls reported.
+/// The counts are those of the rounds. An error if the table's number of steps differs from the number that the calls
+/// reported.
 pub fn report<H: Threads + Wait + Clock + CpuClock + Sync, R: Runtime>(
     threads: &H,
     rt: &R,
@@ -338,7 +401,7 @@ pub fn report<H: Threads + Wait + Clock + CpuClock + Sync, R: Runtime>(
     load: &Load,
     trace: Option<&str>,
 ) -> anyhow::Result<()> {
-    let Some(keys) = keys_of(alloc, load.keys) else {
+    let Some(keys) = keys_of(alloc, load) else {
         bail!("memory was refused");
     };
     if keys.is_empty() {
@@ -346,7 +409,8 @@ pub fn report<H: Threads + Wait + Clock + CpuClock + Sync, R: Runtime>(
     }
     let ready = prepare_with(alloc, config_of(load), load.keeping)?;
     let played = play::<Brand, H>(threads, alloc, ready, load, &keys)?;
-    if played.ending.steps != played.tally.steps {
+    let reported = played.tally.steps.saturating_add(load.held_locks());
+    if played.ending.steps != reported {
         bail!("the table has another number of steps than the calls reported");
     }
     tell_load(rt, load)?;

@@ -2,12 +2,14 @@
 //! arguments the program prints its help.
 //!
 //! - `load` times rounds of a store's transactions, on one thread or many. The table keeps its history whole,
-//!   streams it, or records none. Read [`load`] and then [`drivers`].
+//!   streams it, or records none, and may hold further locks meanwhile. Read [`load`] and then [`drivers`].
 //! - `soak --seconds N` plays random requests on threads for N seconds and checks the histories. Read [`soak`].
 #![tactic(auto)]
 
 mod closing;
 mod drivers;
+mod holding;
+mod key_names;
 mod load;
 mod memory;
 mod soak;

@@ -10,6 +10,9 @@ use clap::{Arg, ArgAction, ArgMatches, Command, Error};
 use lt_table::Keeping;
 use std::alloc::{AllocError, Global};
 
+/// The most passes that a table has.
+const PASSES: u64 = 1024;
+
 /// The job that the command line asks for.
 #[derive(Drop)]
 pub enum BenchJob {
@@ -58,11 +61,25 @@ fn trace<'a>(alloc: Global) -> Arg<'a> {
         )
 }
 
+/// The option that says how many further locks are held.
+fn held<'a>(alloc: Global) -> Arg<'a> {
+    number(
+        alloc,
+        "held",
+        "Locks that a further pass holds meanwhile, 0 to 1000000; 0 if left out. Then --passes is at most 1023",
+    )
+}
+
 fn load<'a>(alloc: Global) -> Result<Command<'a>, AllocError> {
     Command::new(alloc, "load")
         .about("Times rounds of enter, scan, acquire, finish and leave on a table")
         .arg(number(alloc, "passes", "Callers, 1 to 1024; 4 if left out"))?
         .arg(number(alloc, "keys", "Keys, 1 to 10000000; 1000 if left out"))?
+        .arg(number(
+            alloc,
+            "key-bytes",
+            "Bytes of each key, 8 to 64; as few as its number takes if left out",
+        ))?
         .arg(number(
             alloc,
             "steps",
@@ -73,6 +90,7 @@ fn load<'a>(alloc: Global) -> Result<Command<'a>, AllocError> {
             "shards",
             "Shards of the table, 1 to 64; 4 if left out",
         ))?
+        .arg(held(alloc))?
         .arg(flag(alloc, "threads", "Run each pass on a thread of its own"))?
         .arg(flag(
             alloc,
@@ -92,16 +110,27 @@ fn command<'a>(alloc: Global) -> Result<Command<'a>, AllocError> {
         .subcommand(soak(alloc)?)
 }
 
+/// The number of an option, from `least` to `most`. None if the option is left out. An error if the value is not such
+/// a number.
+fn number_between(
+    matches: &ArgMatches<'_>,
+    name: &str,
+    least: u64,
+    most: u64,
+) -> anyhow::Result<Option<u64>> {
+    let Some(word) = matches.get_str(name) else {
+        return Ok(None);
+    };
+    match word.parse::<u64>() {
+        Ok(n) if least <= n && n <= most => Ok(Some(n)),
+        _ => bail!("--{name} is from {least} to {most}"),
+    }
+}
+
 /// The number of an option, from 1 to `most`, or the default if the option is left out. An error if the value is
 /// not such a number.
 fn number_of(matches: &ArgMatches<'_>, name: &str, default: u64, most: u64) -> anyhow::Result<u64> {
-    let Some(word) = matches.get_str(name) else {
-        return Ok(default);
-    };
-    match word.parse::<u64>() {
-        Ok(n) if 0 < n && n <= most => Ok(n),
-        _ => bail!("--{name} is from 1 to {most}"),
-    }
+    Ok(number_between(matches, name, 1, most)?.unwrap_or(default))
 }
 
 /// How the table keeps its steps; whole if the option is left out.
@@ -116,10 +145,12 @@ fn keeping_of(matches: &ArgMatches<'_>) -> anyhow::Result<Keeping> {
 
 fn load_of(matches: &ArgMatches<'_>) -> anyhow::Result<Load> {
     Ok(Load {
-        passes: number_of(matches, "passes", 4, 1024)? as usize,
+        passes: number_of(matches, "passes", 4, PASSES)? as usize,
         keys: number_of(matches, "keys", 1_000, 10_000_000)? as usize,
         steps: number_of(matches, "steps", 1_000_000, 1 << 32)?,
         shards: number_of(matches, "shards", 4, 64)? as usize,
+        held: number_between(matches, "held", 0, 1_000_000)?,
+        key_bytes: number_between(matches, "key-bytes", 8, 64)?,
         threads: matches.get_flag("threads"),
         waits: matches.get_flag("wait"),
         keeping: keeping_of(matches)?,
@@ -127,15 +158,26 @@ fn load_of(matches: &ArgMatches<'_>) -> anyhow::Result<Load> {
     })
 }
 
-/// The job of a load. An error if `--wait` is given without `--threads`, or `--trace` without `--history streamed`.
-fn load_job(alloc: Global, matches: &ArgMatches<'_>) -> anyhow::Result<BenchJob> {
-    let load = load_of(matches)?;
+/// An error if the load's options do not go together: `--wait` without `--threads`, `--trace` without
+/// `--history streamed`, or more passes than a table has.
+fn check_options(load: &Load) -> anyhow::Result<()> {
     if load.waits && !load.threads {
         bail!("--wait needs --threads");
     }
     if load.traces && load.keeping != Keeping::Streamed {
         bail!("--trace needs --history streamed");
     }
+    let most = PASSES.saturating_sub(load.further_passes() as u64);
+    if load.passes as u64 > most {
+        bail!("--passes is from 1 to {most} with --held or --history streamed");
+    }
+    Ok(())
+}
+
+/// The job of a load. An error if its options do not go together.
+fn load_job(alloc: Global, matches: &ArgMatches<'_>) -> anyhow::Result<BenchJob> {
+    let load = load_of(matches)?;
+    check_options(&load)?;
     let file = match matches.get_str("trace") {
         Some(name) => Some(String::from_str(alloc, name)?),
         None => None,
