@@ -14,6 +14,10 @@
 //!     valgrind --tool=callgrind --callgrind-out-file=/dev/null PROGRAM library two 20000
 //!
 //! less the same with 10000 rounds, by 60,000 calls, is what a call takes.
+//!
+//! This program compares the library for C and Rust, a table of one thread, with the rules that the tests of
+//! `bindings/rust` use. `bench/plain`, in the top folder, is the whole table in plain Rust, with shards, threads and
+//! histories: `tools/compare_plain` times `lockbench load` beside it.
 
 #[path = "../../rust/tests/rules/mod.rs"]
 mod rules;
