@@ -39,6 +39,7 @@ TESTS = [
     ('lt_words_tests', 'tests::a_book_is_used_by_its_name'),
     ('lt_call_tests', 'rules::worked::'),
     ('lt_call_tests', 'refusals::'),
+    ('lt_call_tests', 'giving_up::a_lock'),
     ('lt_schedule_tests', 'schedules::tests::schedules_have_the_same_outcome'),
     ('lt_text_tests', 'histories::'),
     ('lt_text_tests', 'scripts::'),
@@ -95,6 +96,16 @@ def refuse_in_tests(report, shim, lanes):
             report.tell(f'{crate}, {name}: {requests} allocations, each refused once', faults)
             if prefix.startswith('schedules::'):
                 tell_table_calls(report, [out for _, (_, out, _, _) in ended])
+
+
+def refuse_from_a_moment(report, shim, lanes):
+    """Whether every lock is given up, and every request leaves, wherever memory ends for good."""
+    program, name = built('lt_call_tests', tests=True), 'giving_up::a_lock_can_always_be_given_up'
+    status, _, err, (requests, _, _) = shim.run([program, name])
+    faults = [f'with memory: status {status}'] if status else [] if requests else ['no allocation']
+    ended = list(lanes.map(lambda n: (n, shim.run([program, name], refuse_from=n)), range(1, requests + 1)))
+    faults += [f'from allocation {n} on: status {status}, {err[-200:]!r}' for n, (status, _, err, _) in ended if status]
+    report.tell(f'lt_call_tests, {name}: memory ends at each of {requests} allocations', faults)
 
 
 def tell_table_calls(report, outputs):
@@ -324,6 +335,7 @@ def main():
     with tempfile.TemporaryDirectory() as folder, ThreadPoolExecutor(os.cpu_count()) as lanes:
         shim = Shim(folder)
         refuse_in_tests(report, shim, lanes)
+        refuse_from_a_moment(report, shim, lanes)
         refuse_in_program(report, shim, lanes)
         cut_everywhere(report, lanes)
         try_traces(report, shim, lanes, given.verdicts)

@@ -1,5 +1,5 @@
 /* Refuses one request for memory, one read or one write: the one whose number stands in REFUSE_MEMORY, REFUSE_READ or
-   REFUSE_WRITE, counted from 1. A request for memory is a call of malloc, calloc or realloc, and gets none; a read (also
+   REFUSE_WRITE, counted from 1. REFUSE_FROM=N refuses the Nth request for memory and all that come after it. A request for memory is a call of malloc, calloc or realloc, and gets none; a read (also
    one at an offset) or a write fails with EIO. SHORT_WRITE=N has the Nth write take one byte alone, so that another one follows. At the end
    the numbers of all three are written to the file descriptor that TELL names.
    Built as a shared library and loaded by LD_PRELOAD; see hostile.py. */
@@ -10,7 +10,7 @@
 #include <stdlib.h>
 #include <unistd.h>
 
-static unsigned long refuse_memory, refuse_read, refuse_write, short_write;
+static unsigned long refuse_memory, refuse_from, refuse_read, refuse_write, short_write;
 static unsigned long requests, reads, writes;
 static void *(*next_malloc)(size_t);
 static void *(*next_calloc)(size_t, size_t);
@@ -32,6 +32,7 @@ __attribute__((constructor)) static void find(void) {
     next_pread = dlsym(RTLD_NEXT, "pread");
     next_write = dlsym(RTLD_NEXT, "write");
     refuse_memory = number("REFUSE_MEMORY");
+    refuse_from = number("REFUSE_FROM");
     refuse_read = number("REFUSE_READ");
     refuse_write = number("REFUSE_WRITE");
     short_write = number("SHORT_WRITE");
@@ -58,6 +59,11 @@ static int is_next(unsigned long *count, unsigned long refused) {
     return __atomic_add_fetch(count, 1, __ATOMIC_SEQ_CST) == refused;
 }
 
+static int is_without_memory(void) {
+    unsigned long request = __atomic_add_fetch(&requests, 1, __ATOMIC_SEQ_CST);
+    return request == refuse_memory || (refuse_from && request >= refuse_from);
+}
+
 static void *none(void) {
     errno = ENOMEM;
     return NULL;
@@ -65,7 +71,7 @@ static void *none(void) {
 
 void *malloc(size_t size) {
     if (!next_malloc) next_malloc = dlsym(RTLD_NEXT, "malloc");
-    return is_next(&requests, refuse_memory) ? none() : next_malloc(size);
+    return is_without_memory() ? none() : next_malloc(size);
 }
 
 /* dlsym itself may ask for zeroed memory while it looks for calloc: it gets none, which it can do without. */
@@ -77,12 +83,12 @@ void *calloc(size_t count, size_t size) {
         next_calloc = dlsym(RTLD_NEXT, "calloc");
         finding = 0;
     }
-    return is_next(&requests, refuse_memory) ? none() : next_calloc(count, size);
+    return is_without_memory() ? none() : next_calloc(count, size);
 }
 
 void *realloc(void *old, size_t size) {
     if (!next_realloc) next_realloc = dlsym(RTLD_NEXT, "realloc");
-    return is_next(&requests, refuse_memory) ? none() : next_realloc(old, size);
+    return is_without_memory() ? none() : next_realloc(old, size);
 }
 
 ssize_t read(int file, void *to, size_t most) {

@@ -8,14 +8,17 @@
  *
  *     #include "locktable.h"
  *     #include <stdio.h>
+ *     #include <sys/random.h>
  *     int main(void) {
  *         struct lt_table table = {0};
+ *         uint64_t start;
  *         struct lt_through lets[8];
  *         size_t count;
  *         const uint8_t key[] = {'a'};
  *         const struct lt_txn nine = {.txn = 9, .wall = 10};
  *         const struct lt_request one = {.number = 1, .txn = 1, .wall = 10, .wait = 1, .pass = 1, .writes = true};
- *         if (lt_table_open(&table) != LT_DONE) return 1;
+ *         if (getrandom(&start, sizeof start, 0) != sizeof start) return 6;
+ *         if (lt_table_open(&table, start) != LT_DONE) return 1;
  *         if (lt_table_acquire(&table, key, 1, &nine, lets, 8, &count) != LT_TAKEN) return 2;
  *         if (lt_table_visit(&table, key, 1, &one, lets, 8, &count) != LT_MUST_WAIT) return 3;
  *         if (lt_table_finish(&table, key, 1, 9, lets, 8, &count) != LT_FREED || count != 1) return 4;
@@ -181,11 +184,14 @@ struct lt_report {
 };
 
 /*
- * Opens an empty table.
+ * Opens an empty table, whose keys are hashed from this start.
+ *
+ * Whoever chooses the keys can make the table slow if he knows the start. So draw it, for each table, where nobody can
+ * guess it: getrandom(2) does. What the table answers does not depend on it.
  *
  * Answers LT_DONE, or refuses: LT_OPEN_ALREADY, LT_MEMORY.
  */
-uint32_t lt_table_open(struct lt_table *table);
+uint32_t lt_table_open(struct lt_table *table, uint64_t start);
 
 /*
  * Closes the table and frees all of its memory, also if keys are held or lets are left. The struct is then closed, and
@@ -205,8 +211,10 @@ uint32_t lt_table_close(struct lt_table *table);
  * If there are more lets than `room`, the table keeps the others. Until lt_table_lets has given them all, every step is
  * refused with LT_LETS_LEFT. So no let is lost. If `count` is below `room`, no let is left.
  *
- * A step takes memory before it changes anything. With a key of at most 22 bytes, it takes none if the reply is
- * LT_TOO_LONG, LT_KEPT, LT_OTHER or LT_ABSENT, or if it is LT_PASSED and the reservation stays as it was.
+ * A step takes memory before it changes anything. A LOCK CAN ALWAYS BE GIVEN UP: with a key of at most 22 bytes, an
+ * update, a finish and a leave are never refused with LT_MEMORY, whatever they let through. An acquire is only if nobody
+ * has locked the key and nobody waits for it. A visit is not if its reply would be LT_TOO_LONG, or LT_PASSED with the
+ * reservation as it was.
  */
 
 /*

@@ -1,6 +1,7 @@
 #include "shard.h"
 
 #include <new>
+#include <random>
 #include <stdexcept>
 #include <thread>
 
@@ -34,8 +35,14 @@ template <class Call> static uint32_t reply_at_last(Call call) {
     return reply_of(code);
 }
 
+/* A start for the hash of a table's keys, which nobody can guess. */
+static uint64_t random_start() {
+    std::random_device device;
+    return static_cast<uint64_t>(device()) << 32 | device();
+}
+
 Shard::Shard(size_t trace_bytes) : trace_(trace_bytes) {
-    if (lt_table_open(&table_) != LT_DONE) {
+    if (lt_table_open(&table_, random_start()) != LT_DONE) {
         throw std::bad_alloc();
     }
 }

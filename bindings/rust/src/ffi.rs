@@ -81,7 +81,7 @@ type StepOfTxn =
 type EntryOf = unsafe extern "C" fn(*mut RawTable, *const u8, usize, usize, *mut RawQueued) -> u32;
 
 extern "C" {
-    fn lt_table_open(table: *mut RawTable) -> u32;
+    fn lt_table_open(table: *mut RawTable, start: u64) -> u32;
     fn lt_table_close(table: *mut RawTable) -> u32;
     fn lt_table_visit(
         table: *mut RawTable,
@@ -154,11 +154,11 @@ pub(crate) struct Handle {
 unsafe impl Send for Handle {}
 
 impl Handle {
-    /// The handle of a new table, or the code of the refusal.
-    pub fn open() -> Result<Handle, u32> {
+    /// The handle of a new table, whose keys are hashed from this start, or the code of the refusal.
+    pub fn open(start: u64) -> Result<Handle, u32> {
         let mut table = RawTable { is_open: false, at: core::ptr::null_mut() };
         // SAFETY: the struct is all zero, which is a closed table, and nobody else has it.
-        let code = unsafe { lt_table_open(&mut table) };
+        let code = unsafe { lt_table_open(&mut table, start) };
         // The struct may be moved, for example into this value: only a second copy of it could do harm, and there is
         // none.
         if code == codes::DONE {

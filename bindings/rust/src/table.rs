@@ -5,7 +5,9 @@ use crate::ffi::{self, Handle, RawKey, RawQueued, RawRequest, RawTxn};
 use crate::names::{
     Access, Found, Holder, KeyState, Queued, Refused, Reply, Request, Through, Timestamp, TxnId, Writer,
 };
+use std::collections::hash_map::RandomState;
 use std::fmt;
+use std::hash::{BuildHasher, Hasher};
 
 /// How many lets cross at once. A step with more of them takes further calls.
 const ROOM: usize = 16;
@@ -54,9 +56,10 @@ pub struct LockTable {
 }
 
 impl LockTable {
-    /// Opens an empty table. It is refused only for memory.
+    /// Opens an empty table. It is refused only for memory. Its keys are hashed from a start that nobody can guess, as
+    /// those of the standard library's `HashMap` are.
     pub fn open() -> Result<LockTable, Refused> {
-        match Handle::open() {
+        match Handle::open(RandomState::new().build_hasher().finish()) {
             Ok(handle) => Ok(LockTable { handle, room: [NO_LET; ROOM] }),
             Err(code) => Err(refused(code)),
         }

@@ -35,6 +35,7 @@ use std::alloc::Global;
 use std::env;
 use std::fs::{File, Files};
 use std::marker::Brand;
+use std::random::RandomSource;
 use std::rt::Runtime;
 use std::sync::Wait;
 use std::thread::{Threads, available_parallelism};
@@ -89,7 +90,7 @@ fn write_trace<F: Files>(
 }
 
 /// Runs the plan and tells what came of it.
-fn run_plan<H: Threads + Wait + Clock + Sync, R: Runtime + Files>(
+fn run_plan<H: Threads + Wait + Clock + RandomSource + Sync, R: Runtime + Files>(
     threads: &H,
     rt: &R,
     alloc: Global,
@@ -103,7 +104,7 @@ fn run_plan<H: Threads + Wait + Clock + Sync, R: Runtime + Files>(
 }
 
 /// Does what the words of the command line ask for.
-fn run_words<H: Threads + Wait + Clock + Sync>(
+fn run_words<H: Threads + Wait + Clock + RandomSource + Sync>(
     threads: &H,
     rt: &HostRuntime,
     words: &[&str],

@@ -9,10 +9,11 @@ use crate::transfer::{Teller, teller_of, total, work};
 use anyhow::bail;
 use example_store::{Store, StoreError, StoreSession, passes_back, sessions_of};
 use lt_entry::Entry;
-use lt_table::{Config, Keeping, Ready, Rest, Rests, open};
+use lt_table::{Config, Keeping, Ready, Rest, Rests, open, random_start};
 use lt_words::{Name, Pass};
 use std::alloc::{AllocError, Global};
 use std::mem;
+use std::random::RandomSource;
 use std::sync::Wait;
 use std::sync::atomic::{AtomicBool, Ordering};
 use std::thread::{Threads, join, map_vec};
@@ -163,13 +164,14 @@ fn shared_out<N: Name>(
 fn open_store<N: Name>(
     alloc: Global,
     ready: Ready,
+    start: u64,
     plan: &StorePlan,
 ) -> anyhow::Result<OpenStore<N>>
     requires named { ready.of ≡ N.of }
     requires shards { ready.of.shards ≡ SHARDS }
     requires keeping { ready.of.keeping ≢ Keeping.Whole }
 {
-    let (table, passes) = open::<N>(alloc, ready)?;
+    let (table, passes) = open::<N>(alloc, ready, start)?;
     let (pair, crew) = shared_out(alloc, passes, plan)?;
     let count = (plan.accounts as usize).saturating_add(2);
     let store = Store::new(alloc, table, count, BALANCE)?;
@@ -305,7 +307,7 @@ fn run_both<N: Name + Send + Sync, H: Threads + Wait + Clock + Sync>(
 }
 
 /// Opens the store over the prepared table, runs both workloads and closes the table.
-pub fn serve<N: Name + Send + Sync, H: Threads + Wait + Clock + Sync>(
+pub fn serve<N: Name + Send + Sync, H: Threads + Wait + Clock + RandomSource + Sync>(
     threads: &H,
     alloc: Global,
     ready: Ready,
@@ -315,7 +317,14 @@ pub fn serve<N: Name + Send + Sync, H: Threads + Wait + Clock + Sync>(
     requires shards { ready.of.shards ≡ SHARDS }
     requires keeping { ready.of.keeping ≢ Keeping.Whole }
 {
-    let mut opened = open_store::<N>(alloc, ready, plan)?;
+    let start = match random_start(threads) {
+        Ok(start) => start,
+        Err(error) => {
+            ready.abandon();
+            return Err(error.into());
+        }
+    };
+    let mut opened = open_store::<N>(alloc, ready, start, plan)?;
     let mut run = run_both(threads, alloc, &mut opened, plan)?;
     run.histories = close_store(threads, alloc, opened)?;
     Ok(run)

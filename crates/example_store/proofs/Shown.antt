@@ -4,8 +4,8 @@ use Rattle.std.proofs.Common.{refl}
 use Rattle.std.specs.Option.{option_map, IfSome}
 use mathlib.Core.List.{IsPrefix}
 use Rattle.lt_entry.specs.declared.entry.Entry.{Entry}
-use Rattle.lt_plain.specs.declared.call.Call.{Call}
-use Rattle.lt_plain.specs.declared.call.Reply.{Reply}
+use Rattle.lt_rules.specs.declared.call.Call.{Call}
+use Rattle.lt_rules.specs.declared.call.Reply.{Reply}
 use Rattle.lt_words.specs.declared.event.Event.{Event}
 use Rattle.lt_words.specs.History.{part, shard_of}
 use Rattle.lt_words.specs.Row.{Opening, PassState}

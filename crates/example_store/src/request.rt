@@ -11,7 +11,7 @@ use crate::error::StoreError;
 use crate::session::{StoreSession, TxnName};
 use crate::store::{KeySlot, Store, TRIES};
 use lt_ids::{Access, Key, TxnId};
-use lt_plain::Reply;
+use lt_rules::Reply;
 use lt_table::{Answer, EnterRefused, Guard, LeaveStopped, Left, Scan, ScanError, StepError};
 use lt_words::{Name, Pass};
 use std::sync::Wait;

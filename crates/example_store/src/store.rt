@@ -14,7 +14,7 @@
 //!
 //! Read next `src/request.rt`, the way of one request through the table, and `src/cell.rt`.
 ghost use Rattle.std.specs.Prelude.{◌≡◌, Some, IfOk, OnErr, IsSomeAnd, slice_get};
-ghost use Rattle.lt_plain.specs.declared.call.Call.TheVariants.{Finish};
+ghost use Rattle.lt_rules.specs.declared.call.Call.TheVariants.{Finish};
 ghost use Rattle.lt_table_core.specs.Reported.{ReportsCall};
 ghost use Rattle.example_store.specs.Values.{KnowsInstall};
 
@@ -22,7 +22,7 @@ use crate::cell::{Intent, Reading, ValueCell};
 use crate::error::StoreError;
 use crate::session::{OpenTxn, StoreSession, TxnName};
 use lt_ids::{Access, Key, Timestamp, TxnId};
-use lt_plain::Reply;
+use lt_rules::Reply;
 use lt_table::{Answer, LinkedTable, StepError, Table};
 use lt_words::{Name, Pass};
 use std::alloc::{AllocError, Global};

@@ -5,7 +5,7 @@
 //! the end.
 use crate::taking::Piece;
 use lt_entry::Entry;
-use lt_plain::KeyTable;
+use lt_rules::KeyTable;
 use lt_table::{Histories, Keeping, Rest, Rests, Table};
 use lt_test_kit::run::{close_all, gather};
 use lt_test_kit::seat::Seat;

@@ -26,7 +26,7 @@ ghost use Rattle.std.specs.Prelude.{◌≡◌, ◌<◌, IfSome};
 
 use crate::load::Load;
 use lt_ids::{Access, Key, Timestamp, TxnId};
-use lt_plain::KeyTable;
+use lt_rules::KeyTable;
 use lt_table::{
     Answer, EnterRefused, Guard, LeaveStopped, Left, Poll, Scan, ScanError, StepError, Table,
 };

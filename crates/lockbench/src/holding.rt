@@ -10,7 +10,7 @@ use crate::key_names::key_of;
 use crate::load::Load;
 use anyhow::bail;
 use lt_ids::{Key, Timestamp, TxnId};
-use lt_plain::{KeyTable, Reply};
+use lt_rules::{KeyTable, Reply};
 use lt_table::{Answer, StepError, Table};
 use lt_test_kit::holds::Holds;
 use lt_test_kit::seat::Seat;

@@ -15,7 +15,7 @@ use crate::taking::{Piece, Taker, take_until};
 use anyhow::bail;
 use lt_history::print;
 use lt_ids::Key;
-use lt_plain::KeyTable;
+use lt_rules::KeyTable;
 use lt_table::{Config, Keeping, Ready, Table, open, prepare_with};
 use lt_test_kit::run::seated;
 use lt_test_kit::seat::Seat;
@@ -284,7 +284,8 @@ fn play<N: Name + Send + Sync, H: Threads + Wait + Clock + CpuClock + Sync>(
     requires many { ready.of.shards ≡ load.now.shards }
     requires keeping { ready.of.keeping ≡ load.now.keeping }
 {
-    let (table, passes) = open::<N>(alloc, ready)?;
+    // A fixed start, so that a figure can be repeated.
+    let (table, passes) = open::<N>(alloc, ready, 0)?;
     let Some(seats) = seated::<N>(alloc, passes) else {
         bail!("memory was refused");
     };

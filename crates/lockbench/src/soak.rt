@@ -20,7 +20,7 @@ use crate::taking::{Piece, Taker, take_until};
 use anyhow::bail;
 use lt_history::{Entry, Report, check, compose};
 use lt_ids::Access;
-use lt_plain::{KeyTable, Reply};
+use lt_rules::{KeyTable, Reply};
 use lt_table::{
     Config, Keeping, Poll, Ready, Scan, ScanError, StepError, Table, open, prepare_with,
 };
@@ -481,7 +481,7 @@ fn play_named<N: Name + Send + Sync, R: Threads + Wait + Clock + Sync>(
     requires many { ready.of.shards ≡ shards }
     requires keeping { ready.of.keeping ≡ plan.now.keeping }
 {
-    let (table, passes) = open::<N>(alloc, ready).ok()?;
+    let (table, passes) = open::<N>(alloc, ready, random.next()).ok()?;
     let seats = seated::<N>(alloc, passes)?;
     let crew = crew_of(alloc, seats, shards, plan.keeping, random)?;
     let crew = work_beside(rt, alloc, &table, crew, &plan.limit)?;

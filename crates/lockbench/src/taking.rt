@@ -8,7 +8,7 @@ ghost use Rattle.std.specs.Prelude.{◌≡◌, ◌≢◌, ◌<◌, []};
 ghost use Rattle.lt_words.specs.declared.keeping.Keeping.TheVariants.{Whole};
 
 use lt_entry::Entry;
-use lt_plain::KeyTable;
+use lt_rules::KeyTable;
 use lt_table::{Keeping, Reader, Table};
 use lt_test_kit::seat::Seat;
 use lt_words::{Name, Pass};

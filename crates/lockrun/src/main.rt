@@ -9,6 +9,7 @@ use std::alloc::AllocError;
 use std::env;
 use std::io::ErrorKind;
 use std::process::ExitCode;
+use std::random::RandomSource;
 use std::sync::Wait;
 use std::thread::Threads;
 
@@ -30,7 +31,10 @@ fn texts<'a>(rt: &HostRuntime, words: &'a [String]) -> Result<Vec<&'a str>, Allo
 
 /// Does what the words ask for. Both parameters are the same runtime: only `main` may name it as one that has
 /// threads, so `main` passes it as both.
-fn run<H: Threads + Wait + Sync>(threads: &H, rt: &HostRuntime) -> Result<Finish, Failure> {
+fn run<H: Threads + Wait + RandomSource + Sync>(
+    threads: &H,
+    rt: &HostRuntime,
+) -> Result<Finish, Failure> {
     let words = words(rt)?;
     let Ok(texts) = texts(rt, &words) else {
         return Err(Failure::Memory);

@@ -6,8 +6,8 @@ use Rattle.lt_checker.specs.declared.checker.CheckError.{CheckError}
 use Rattle.lt_checker.specs.declared.checker.CheckError.TheVariants as checks
 use Rattle.lt_checker.specs.declared.pieces.Checker.{Checker}
 use Rattle.lt_checker.specs.Pieces.{IsCountable, HasTaken, RefusesFrom, GivesByRules, NoLineComesNext, SaysAtEnd, AcceptsAtEnd, RefusesAtEnd}
-use Rattle.lt_plain.specs.declared.call.Call.{Call}
-use Rattle.lt_plain.specs.Rules.{Record}
+use Rattle.lt_rules.specs.declared.call.Call.{Call}
+use Rattle.lt_rules.specs.Rules.{Record}
 use Rattle.lt_checker.specs.Cursor.{spot}
 use Rattle.lt_checker.specs.Lines.{Parts, IsLine, line_text}
 use Rattle.lt_checker.specs.Text.{record_before}

@@ -11,7 +11,7 @@ ghost use Rattle.lt_audit.specs.Audit.{IsReading, IsAuditedAs, IsExplained, IsCa
 use crate::error::AuditError;
 use crate::stream::{begin, read_line, take_pending};
 use lt_checker::{Checker, Expected, HistoryLineError, Line};
-use lt_plain::{Call, KeyState};
+use lt_rules::{Call, KeyState};
 use std::alloc::{AllocError, Global};
 use std::io::BufRead;
 

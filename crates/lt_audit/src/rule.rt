@@ -1,7 +1,7 @@
 //! Which row of docs/RULES.md applies to a call? [`rule_of`] names it in the words of that page: what the record is,
 //! and for a visit what the access is. Read next: docs/RULES.md, "A visit" and "The other calls".
 use lt_ids::{Access, Timestamp, TxnId};
-use lt_plain::{Call, Holder, KeyState, QueuedRequest};
+use lt_rules::{Call, Holder, KeyState, QueuedRequest};
 
 /// A row of docs/RULES.md.
 #[derive(Clone, Copy)]

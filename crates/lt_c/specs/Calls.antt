@@ -1,10 +1,11 @@
 -- The visit that C asks for, and its first fault.
 use Rattle.std.specs.Prelude.{ℕ, ◌^◌, ◌||◌, nat_eq, nat_le, nat_lt, if◌then◌else◌, Option, Some, None}
 use Rattle.lt_ids.specs.declared.request.Access.TheVariants.{Read, Write}
-use Rattle.lt_plain.specs.declared.call.Call.{Call}
-use Rattle.lt_plain.specs.declared.call.Call.TheVariants.{Visit}
-use Rattle.lt_plain.specs.Rules.{Record, Outcome}
-use Rattle.lt_plain.specs.Step.{step}
+use Rattle.lt_rules.specs.declared.call.Call.{Call}
+use Rattle.lt_rules.specs.declared.call.Call.TheVariants.{Visit}
+use Rattle.lt_c.specs.declared.pass_call.PassCall.{PassCall}
+use Rattle.lt_rules.specs.Rules.{Record, Outcome}
+use Rattle.lt_rules.specs.Step.{step}
 use Rattle.lt_c.specs.declared.shapes.LtRequest.{LtRequest}
 
 -- a transaction as C names it, where 0 is none
@@ -31,3 +32,7 @@ visit_fault r =
     else if nat_eq r.wait 0 || nat_le (2 ^ 24) r.wait then Some 10
     else if nat_eq r.pass 0 || nat_lt 1024 r.pass then Some 11
     else None
+
+-- what a call of this pass does to the record of its key
+abbrev pub act_of : PassCall → Record → Outcome
+act_of c = λ r. step r c.pass c.call

@@ -5,8 +5,8 @@ use Rattle.lt_ids.specs.declared.error.IdError.TheVariants.{KeyEmpty, KeyTooLong
 use Rattle.lt_ids.specs.declared.error.IdError.TheVariants as key_errors
 use Rattle.lt_checker.specs.declared.error.Fault.{Fault}
 use Rattle.lt_checker.specs.declared.error.Fault.TheVariants.{Header, Shape, KeyOrder, Index, WrongReply, WrongLets}
-use Rattle.lt_plain.specs.declared.call.Reply.{Reply}
-use Rattle.lt_plain.specs.declared.call.Reply.TheVariants.{Passed, MustWait, TooLong, Taken, Kept, Raised, Other, Freed, Left, Absent, Nothing, Reserved, Idle, WaitFor, WaitFirst, WaitOwn}
+use Rattle.lt_rules.specs.declared.call.Reply.{Reply}
+use Rattle.lt_rules.specs.declared.call.Reply.TheVariants.{Passed, MustWait, TooLong, Taken, Kept, Raised, Other, Freed, Left, Absent, Nothing, Reserved, Idle, WaitFor, WaitFirst, WaitOwn}
 
 -- the code of a reply
 abbrev pub reply_code : Reply → ℕ

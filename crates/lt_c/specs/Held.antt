@@ -4,8 +4,8 @@ use Rattle.std.specs.FinMap as map
 use Rattle.std.specs.Coded.{Coded, code_by, coded×, coded_list, coded_option}
 use Rattle.lt_ids.specs.declared.ticket.Through.{Through}
 use Rattle.lt_ids.specs.contracts.ticket.Through as through
-use Rattle.lt_plain.specs.Codes.{records_code}
-use Rattle.lt_plain.specs.Table.{Records}
+use Rattle.lt_rules.specs.Codes.{records_code}
+use Rattle.lt_rules.specs.Table.{Records}
 
 pub record Held : Type 0 where
   pub records : Records

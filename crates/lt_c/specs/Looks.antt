@@ -3,9 +3,9 @@ use Rattle.std.specs.Prelude.{ℕ, ◌≡◌, true, List, ◌++◌, Option, Some
 use Rattle.std.specs.Option.{option_map}
 use Rattle.std.specs.FinMap as finmap
 use Rattle.lt_ids.specs.Key.{key_fault}
-use Rattle.lt_plain.specs.Rules.{Record}
-use Rattle.lt_plain.specs.Step.{look}
-use Rattle.lt_plain.specs.Table.{record_at}
+use Rattle.lt_rules.specs.Rules.{Record}
+use Rattle.lt_rules.specs.Step.{look}
+use Rattle.lt_rules.specs.Table.{record_at}
 use Rattle.lt_c.specs.declared.shapes.LtKey.{LtKey}
 use Rattle.lt_c.specs.declared.shapes.LtQueued.{LtQueued}
 use Rattle.lt_c.specs.Codes.{key_code, reply_code, reply_txn}

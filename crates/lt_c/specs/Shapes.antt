@@ -2,9 +2,9 @@
 use Rattle.std.specs.Prelude.{Bool, false, Option, Some, None, length, unwrap_or}
 use Rattle.lt_ids.specs.declared.ticket.Through.{Through}
 use Rattle.lt_ids.specs.declared.timestamp.Timestamp.{Timestamp}
-use Rattle.lt_plain.specs.declared.queued.Holder.{Holder}
-use Rattle.lt_plain.specs.declared.queued.QueuedRequest.{QueuedRequest}
-use Rattle.lt_plain.specs.Rules.{Record}
+use Rattle.lt_rules.specs.declared.queued.Holder.{Holder}
+use Rattle.lt_rules.specs.declared.queued.QueuedRequest.{QueuedRequest}
+use Rattle.lt_rules.specs.Rules.{Record}
 use Rattle.lt_c.specs.declared.shapes.LtThrough.{LtThrough}
 use Rattle.lt_c.specs.declared.shapes.LtTxn.{LtTxn}
 use Rattle.lt_c.specs.declared.shapes.LtQueued.{LtQueued}

@@ -3,9 +3,11 @@ use Rattle.std.specs.Prelude.{ℕ, ◌≡◌, ◌≤◌, ◌++◌, List, Option,
 use Rattle.std.specs.Option.{option_map}
 use Rattle.lt_ids.specs.declared.ticket.Through.{Through}
 use Rattle.lt_ids.specs.Key.{key_fault}
-use Rattle.lt_plain.specs.declared.call.Reply.{Reply}
-use Rattle.lt_plain.specs.Rules.{Record, Outcome, TakesNoMemory}
-use Rattle.lt_plain.specs.Table.{IsStep, record_at}
+use Rattle.lt_rules.specs.declared.call.Reply.{Reply}
+use Rattle.lt_rules.specs.Rules.{Record, Outcome, TakesNoMemory}
+use Rattle.lt_rules.specs.Memory.{Begins}
+use Rattle.lt_rules.specs.declared.call.Call.{Call}
+use Rattle.lt_rules.specs.Table.{IsStep, record_at}
 use Rattle.lt_c.specs.declared.shapes.LtThrough.{LtThrough}
 use Rattle.lt_c.specs.declared.shapes.LtRequest.{LtRequest}
 use Rattle.lt_c.specs.Calls.{visit_fault}
@@ -77,3 +79,8 @@ visit_refusal request handle key = first_refusal (visit_fault request) (step_ref
 pub record AllocatesNothing (key : List ℕ) (act : Record → Outcome) (h : Held) : Type 0 where
   pub short_key : length key ≤ 22
   pub small_step : TakesNoMemory (record_at h.records key) (act (record_at h.records key))
+
+-- The call gives something up, and its key is stored without an allocation. So memory is never refused to it.
+pub record GivesUp (key : List ℕ) (call : Call) (h : Held) : Type 0 where
+  pub short_key : length key ≤ 22
+  pub begins_nothing : Begins (record_at h.records key) call → ⊥

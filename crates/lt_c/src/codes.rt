@@ -5,7 +5,7 @@ ghost use Rattle.lt_c.specs.Codes.{reply_code, reply_txn, key_code, fault_code, 
 
 use lt_checker::Fault;
 use lt_ids::{IdError, TxnId};
-use lt_plain::Reply;
+use lt_rules::Reply;
 
 /// The call did what it was asked, and has no reply of the rules to give.
 pub const DONE: u32 = 0;

@@ -1,12 +1,13 @@
 //! What does C hold? [`TableHandle`] is a flag and a pointer, all zero at first. Each call takes the table out of the
 //! handle, and puts it back before it returns.
 ghost use Rattle.std.specs.Prelude.{◌≡◌, ◌≢◌, ◌≤◌, ◌<◌, Some, None, IfSome, IfNone, is_some};
-ghost use Rattle.lt_c.specs.Steps.{step_refusal, OnHandle, OnTable, MakesStep, AllocatesNothing, KeepsOut};
+ghost use Rattle.lt_c.specs.Steps.{step_refusal, OnHandle, OnTable, MakesStep, AllocatesNothing, GivesUp, KeepsOut};
+ghost use Rattle.lt_c.specs.Calls.{act_of};
 ghost use Rattle.lt_c.specs.Codes.{IsReplyUnless};
 
-use crate::calls::StepCall;
 use crate::codes::{CLOSED, FIRST_REPLY, MEMORY};
 use crate::held::HeldTable;
+use crate::pass_call::PassCall;
 use crate::shapes::LtThrough;
 use crate::slot::TableSlot;
 use std::alloc::Global;
@@ -52,26 +53,27 @@ impl TableHandle {
     }
 
     /// Makes the call at the key with these bytes, and gives its lets.
-    pub fn step<C: StepCall>(
+    pub fn step(
         &mut self,
         alloc: Global,
         key: &[u8],
-        call: &C,
+        by: &PassCall,
         lets: &mut [LtThrough],
         count: &mut usize,
     ) -> u32
         ensures refused { IsReplyUnless (step_refusal self.old.slot.held key.now) result }
         ensures stepped { FIRST_REPLY ≤ result → OnHandle
-            (MakesStep key.now (C.act call.now) result lets.old lets.new count.new)
+            (MakesStep key.now (act_of by.now) result lets.old lets.new count.new)
             self.old.slot.held self.new.slot.held }
         ensures table_kept { result < FIRST_REPLY → self.new.slot.held ≡ self.old.slot.held }
         ensures out_kept { result < FIRST_REPLY → KeepsOut lets.old lets.new count.old count.new }
-        ensures no_memory { OnTable (AllocatesNothing key.now (C.act call.now)) self.old.slot.held → result ≢ MEMORY }
+        ensures no_memory { OnTable (AllocatesNothing key.now (act_of by.now)) self.old.slot.held → result ≢ MEMORY }
+        ensures gives_up { OnTable (GivesUp key.now by.now.call) self.old.slot.held → result ≢ MEMORY }
     {
         let Some(mut table) = self.take(alloc) else {
             return CLOSED;
         };
-        let code = table.step(alloc, key, call, lets, count);
+        let code = table.step(alloc, key, by, lets, count);
         self.put(table);
         code
     }

@@ -2,20 +2,23 @@
 //! them all. Its methods make a step and give its lets, or look at a key, and answer a code.
 ghost use Rattle.std.specs.Prelude.{◌≡◌, ◌≢◌, ◌≤◌, ◌<◌, ◌++◌, [], IfOk, OnErr, IsOk, length, map, drop};
 ghost use Rattle.std.specs.FinMap as finmap;
-ghost use Rattle.lt_plain.specs.Rules.{TakesNoMemory};
-ghost use Rattle.lt_plain.specs.Step.{look};
-ghost use Rattle.lt_plain.specs.Table.{record_at};
+ghost use Rattle.lt_rules.specs.Rules.{TakesNoMemory};
+ghost use Rattle.lt_rules.specs.Step.{look};
+ghost use Rattle.lt_rules.specs.Table.{record_at};
 ghost use Rattle.lt_c.specs.Held.{new_table};
 ghost use Rattle.lt_c.specs.Shapes.{raw_let};
-ghost use Rattle.lt_c.specs.Steps.{StepsHeld, GivesLets, KeepsOut, MakesStep, AllocatesNothing, held_refusal};
+ghost use Rattle.lt_c.specs.Steps.{StepsHeld, GivesLets, KeepsOut, MakesStep, AllocatesNothing, GivesUp, held_refusal};
+ghost use Rattle.lt_c.specs.Calls.{act_of};
+ghost use Rattle.lt_rules.specs.Memory.{Begins};
 ghost use Rattle.lt_c.specs.Codes.{IsReplyUnless};
 
-use crate::calls::StepCall;
 use crate::codes::{FIRST_REPLY, LETS_LEFT, MEMORY, key_code, reply_code};
+use crate::pass_call::PassCall;
 use crate::shapes::{LtThrough, raw_let};
 use lt_ids::{Key, Through};
 use lt_lock::LinkedTable;
-use lt_plain::{KeyState, KeyTable, Reply};
+use lt_rules::laws::releases_need_no_memory;
+use lt_rules::{KeyState, KeyTable, Reply};
 use std::alloc::{AllocError, Global};
 use std::marker::Model;
 
@@ -38,7 +41,10 @@ impl Model for HeldTable {
 
     ghost view = { λ t. record { records = t.table; lets = drop t.given t.lets.items } };
 
-    ghost invariant = { λ t. t.given ≤ length t.lets.items };
+    ghost use Rattle.std.specs.Prelude.{vec_capacity};
+    ghost use Rattle.lt_rules.specs.Memory.{HasRoom};
+
+    ghost invariant = { λ t. (t.given ≤ length t.lets.items) × HasRoom t.table (vec_capacity t.lets) };
 }
 
 /// Writes these lets to the front of the array, which has room for them.
@@ -52,28 +58,31 @@ fn write_lets(lets: &[Through], array: &mut [LtThrough])
 }
 
 impl HeldTable {
-    /// A table without keys. This call allocates nothing.
-    pub fn new(alloc: Global) -> HeldTable
+    /// A table without keys, whose keys are hashed from this start. This call allocates nothing.
+    pub fn new(alloc: Global, start: u64) -> HeldTable
         ensures { result ≡ new_table }
     {
         HeldTable {
-            table: LinkedTable::new(alloc),
+            table: LinkedTable::new(alloc, start),
             lets: Vec::new(alloc),
             given: 0,
         }
     }
 
     /// Makes the call at the key. All lets of the step are then left to give.
-    fn make<C: StepCall>(&mut self, key: &Key, call: &C) -> Result<Reply, AllocError>
+    fn make(&mut self, key: &Key, by: &PassCall) -> Result<Reply, AllocError>
         requires { self.old.lets ≡ [] }
-        ensures ok { IfOk result (StepsHeld self.old self.new key.now (C.act call.now)) }
+        ensures ok { IfOk result (StepsHeld self.old self.new key.now (act_of by.now)) }
         ensures err { OnErr result (self.new ≡ self.old) }
         ensures no_memory { TakesNoMemory (record_at self.old.records key.now)
-            (C.act call.now (record_at self.old.records key.now)) → IsOk result }
+            (act_of by.now (record_at self.old.records key.now)) → IsOk result }
+        ensures begins { OnErr result (Begins (record_at self.old.records key.now) by.now.call) }
     {
+        // Ghost call: tells the prover which calls fail while the list of lets has room.
+        releases_need_no_memory();
         self.lets.clear();
         self.given = 0;
-        call.make(&mut self.table, key, &mut self.lets)
+        self.table.step(key, by.pass, &by.call, &mut self.lets)
     }
 
     /// Gives as many of the lets that are left as fit into the array, and returns how many.
@@ -88,20 +97,21 @@ impl HeldTable {
     }
 
     /// Makes the call at the key with these bytes, and gives its lets.
-    pub fn step<C: StepCall>(
+    pub fn step(
         &mut self,
         alloc: Global,
         key: &[u8],
-        call: &C,
+        by: &PassCall,
         array: &mut [LtThrough],
         count: &mut usize,
     ) -> u32
         ensures refused { IsReplyUnless (held_refusal self.old key.now) result }
-        ensures stepped { FIRST_REPLY ≤ result → MakesStep key.now (C.act call.now) result
+        ensures stepped { FIRST_REPLY ≤ result → MakesStep key.now (act_of by.now) result
             array.old array.new count.new self.old self.new }
         ensures table_kept { result < FIRST_REPLY → self.new ≡ self.old }
         ensures out_kept { result < FIRST_REPLY → KeepsOut array.old array.new count.old count.new }
-        ensures no_memory { AllocatesNothing key.now (C.act call.now) self.old → result ≢ MEMORY }
+        ensures no_memory { AllocatesNothing key.now (act_of by.now) self.old → result ≢ MEMORY }
+        ensures gives_up { GivesUp key.now by.now.call self.old → result ≢ MEMORY }
     {
         if self.given < self.lets.len() {
             return LETS_LEFT;
@@ -110,7 +120,7 @@ impl HeldTable {
             Ok(key) => key,
             Err(error) => return key_code(&error),
         };
-        match self.make(&key, call) {
+        match self.make(&key, by) {
             Ok(reply) => {
                 *count = self.give(array);
                 reply_code(&reply)

@@ -7,7 +7,7 @@
 //!
 //! What is promised:
 //!
-//! - Each step of the table is the step of the rules (`lt_plain`) on its key alone, and its code is that of the reply.
+//! - Each step of the table is the step of the rules (`lt_rules`) on its key alone, and its code is that of the reply.
 //! - A call that answers a refusal has changed neither the table nor what it was to write its answer to.
 //! - No let is lost or given twice: the lets that do not fit into the caller's array stay in the handle, and no other
 //!   step is made until the caller has taken them.
@@ -20,8 +20,8 @@
 //! with `rattle_`.
 //!
 //! Read next: `steps.rt`, `looks.rt`, `check.rt` and `shard.rt` have the exports, and `codes.rt` has what they answer.
-//! `handle.rt` and `slot.rt` have the handle, `held.rt` what an open one holds, and `calls.rt` the calls that a step can
-//! make. In `specs/`, `Steps` and `Looks` define what the contracts of the exports say.
+//! `handle.rt` and `slot.rt` have the handle, `held.rt` what an open one holds, and `calls.rt` the visit that C
+//! asks for. In `specs/`, `Steps` and `Looks` define what the contracts of the exports say.
 #![tactic(auto)]
 
 mod calls;
@@ -30,6 +30,7 @@ mod codes;
 mod handle;
 mod held;
 mod looks;
+mod pass_call;
 mod shapes;
 mod shard;
 mod slot;

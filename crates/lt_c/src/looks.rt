@@ -2,7 +2,7 @@
 //! at the keys that have a record, and changes nothing in the table. Lets that are left do not keep C from looking.
 ghost use Rattle.std.specs.Prelude.{◌≡◌, ◌≢◌, ◌≤◌, ◌<◌, Some, None, IfSome, IsSome, IsNone, IfOk, IfErr, OnOk, length};
 ghost use Rattle.std.specs.FinMap as finmap;
-ghost use Rattle.lt_plain.specs.Table.{record_at};
+ghost use Rattle.lt_rules.specs.Table.{record_at};
 ghost use Rattle.lt_c.specs.Codes.{IsReplyUnless, IsDoneUnless};
 ghost use Rattle.lt_c.specs.Looks.{bytes_refusal, look_refusal, open_refusal, Looks, ShowsKey, FindsQueued, FindsKey};
 ghost use Rattle.lt_c.specs.Steps.{OnTable};
@@ -15,7 +15,7 @@ use crate::handle::TableHandle;
 use crate::held::HeldTable;
 use crate::shapes::{LtKey, LtQueued, raw_key, raw_queued};
 use lt_ids::Key;
-use lt_plain::KeyState;
+use lt_rules::KeyState;
 use std::alloc::Global;
 
 /// What the request with this number finds at the key.

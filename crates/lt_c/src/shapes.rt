@@ -5,7 +5,7 @@ ghost use Rattle.lt_c.specs.Shapes.{raw_let, raw_queued, raw_reservation, raw_ho
 
 use crate::codes::txn_number;
 use lt_ids::{Through, Timestamp};
-use lt_plain::{Holder, KeyState, QueuedRequest};
+use lt_rules::{Holder, KeyState, QueuedRequest};
 
 /// A transaction at a timestamp.
 #[repr(C)]

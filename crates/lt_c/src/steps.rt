@@ -1,25 +1,29 @@
 //! How does C open a table, make its steps and close it? Each function here is an export. It tests every argument,
 //! and answers a code. A step writes its lets into the caller's array, and sets `count` to how many it wrote. The
 //! handle keeps those that do not fit, and refuses the next step until `lt_table_lets` has given them.
-ghost use Rattle.std.specs.Prelude.{◌≡◌, ◌≢◌, ◌≤◌, ◌<◌, Some, None, IsSome, IsNone};
-ghost use Rattle.lt_plain.specs.Rules.{acquire, update, finish, leave};
+ghost use Rattle.std.specs.Prelude.{◌≡◌, ◌≢◌, ◌≤◌, ◌<◌, length, Some, None, IsSome, IsNone};
+ghost use Rattle.lt_rules.specs.declared.call.Call.TheVariants.{Acquire};
+ghost use Rattle.lt_rules.specs.Rules.{acquire, update, finish, leave};
 ghost use Rattle.lt_c.specs.Calls.{visit_act};
 ghost use Rattle.lt_c.specs.Codes.{IsReplyUnless};
 ghost use Rattle.lt_c.specs.Held.{new_table};
 ghost use Rattle.lt_c.specs.Shapes.{txn_time};
-ghost use Rattle.lt_c.specs.Steps.{step_refusal, txn_refusal, visit_refusal, OnTable, OnHandle, MakesStep, AllocatesNothing, GivesLets, KeepsOut};
+ghost use Rattle.lt_c.specs.Steps.{step_refusal, txn_refusal, visit_refusal, OnTable, OnHandle, MakesStep, AllocatesNothing, GivesUp, GivesLets, KeepsOut};
 
-use crate::calls::{AcquireCall, FinishCall, LeaveCall, UpdateCall, visit_of};
+use crate::calls::visit_of;
 use crate::codes::{BAD_TXN, CLOSED, DONE, FIRST_REPLY, MEMORY, OPEN_ALREADY};
 use crate::handle::TableHandle;
 use crate::held::HeldTable;
+use crate::pass_call::PassCall;
 use crate::shapes::{LtRequest, LtThrough, LtTxn, txn_time};
 use lt_ids::TxnId;
+use lt_rules::Call;
 use std::alloc::Global;
 
-/// Opens a table without keys.
+/// Opens a table without keys, whose keys are hashed from this start. Draw the start, for each table, where nobody can
+/// guess it: whoever chooses the keys and knows the start can make the table slow.
 #[unsafe(no_mangle)]
-pub extern "C" fn lt_table_open(alloc: Global, handle: &mut TableHandle) -> u32
+pub extern "C" fn lt_table_open(alloc: Global, handle: &mut TableHandle, start: u64) -> u32
     ensures open_already { IsSome handle.old.slot.held → result ≡ OPEN_ALREADY }
     ensures memory { IsNone handle.old.slot.held → result ≢ DONE → result ≡ MEMORY }
     ensures opened { result ≡ DONE → handle.new.slot.held ≡ Some new_table }
@@ -28,7 +32,7 @@ pub extern "C" fn lt_table_open(alloc: Global, handle: &mut TableHandle) -> u32
     if handle.is_open() {
         return OPEN_ALREADY;
     }
-    let Ok(table) = Box::new(alloc, HeldTable::new(alloc)) else {
+    let Ok(table) = Box::new(alloc, HeldTable::new(alloc, start)) else {
         return MEMORY;
     };
     handle.put(table);
@@ -70,7 +74,7 @@ pub extern "C" fn lt_table_visit(
         handle.old.slot.held → result ≢ MEMORY }
 {
     match visit_of(request) {
-        Ok(call) => handle.step(alloc, key, &call, lets, count),
+        Ok(by) => handle.step(alloc, key, &by, lets, count),
         Err(code) => code,
     }
 }
@@ -92,12 +96,15 @@ pub extern "C" fn lt_table_acquire(
     ensures out_kept { result < FIRST_REPLY → KeepsOut lets.old lets.new count.old count.new }
     ensures no_memory { OnTable (AllocatesNothing key.now (λ r. acquire r by.now.txn (txn_time by.now)))
         handle.old.slot.held → result ≢ MEMORY }
+    // Memory is refused only to an acquire of a key that has no record, or that has more than 22 bytes.
+    ensures gives_up { OnTable (GivesUp key.now (Acquire by.now.txn (txn_time by.now)))
+        handle.old.slot.held → result ≢ MEMORY }
 {
     let Some(txn) = TxnId::new(by.txn) else {
         return BAD_TXN;
     };
     let ts = txn_time(by);
-    let call = AcquireCall { txn, ts };
+    let call = PassCall::of(Call::Acquire { txn, ts });
     handle.step(alloc, key, &call, lets, count)
 }
 
@@ -118,12 +125,14 @@ pub extern "C" fn lt_table_update(
     ensures out_kept { result < FIRST_REPLY → KeepsOut lets.old lets.new count.old count.new }
     ensures no_memory { OnTable (AllocatesNothing key.now (λ r. update r by.now.txn (txn_time by.now)))
         handle.old.slot.held → result ≢ MEMORY }
+    // A key of up to 22 bytes can always be given up.
+    ensures gives_up { length key.now ≤ 22 → result ≢ MEMORY }
 {
     let Some(txn) = TxnId::new(by.txn) else {
         return BAD_TXN;
     };
     let ts = txn_time(by);
-    let call = UpdateCall { txn, ts };
+    let call = PassCall::of(Call::Update { txn, ts });
     handle.step(alloc, key, &call, lets, count)
 }
 
@@ -144,12 +153,14 @@ pub extern "C" fn lt_table_finish(
     ensures out_kept { result < FIRST_REPLY → KeepsOut lets.old lets.new count.old count.new }
     ensures no_memory { OnTable (AllocatesNothing key.now (λ r. finish r txn))
         handle.old.slot.held → result ≢ MEMORY }
+    // A key of up to 22 bytes can always be given up.
+    ensures gives_up { length key.now ≤ 22 → result ≢ MEMORY }
 {
     let Some(txn) = TxnId::new(txn) else {
         return BAD_TXN;
     };
-    let call = FinishCall { txn };
-    handle.step(alloc, key, &call, lets, count)
+    let by = PassCall::of(Call::Finish { txn });
+    handle.step(alloc, key, &by, lets, count)
 }
 
 /// A request stops waiting, or gives up its reservation.
@@ -169,9 +180,11 @@ pub extern "C" fn lt_table_leave(
     ensures out_kept { result < FIRST_REPLY → KeepsOut lets.old lets.new count.old count.new }
     ensures no_memory { OnTable (AllocatesNothing key.now (λ r. leave r number))
         handle.old.slot.held → result ≢ MEMORY }
+    // A key of up to 22 bytes can always be given up.
+    ensures gives_up { length key.now ≤ 22 → result ≢ MEMORY }
 {
-    let call = LeaveCall { number };
-    handle.step(alloc, key, &call, lets, count)
+    let by = PassCall::of(Call::Leave { number });
+    handle.step(alloc, key, &by, lets, count)
 }
 
 /// Gives the next lets of the last step. There are none left if `count` is then below the length of the array.

@@ -1,7 +1,7 @@
 //! Closes a table without its last pass, which the table refuses, and then with all its passes.
 ghost use Rattle.std.specs.Prelude.{◌≡◌};
 
-use lt_plain::KeyTable;
+use lt_rules::KeyTable;
 use lt_table::{
     CloseError, CloseRefused, Config, Histories, Ready, Table, abandon_guards, open, prepare,
 };
@@ -68,7 +68,7 @@ fn close_both<N: Name, T: KeyTable + Drop, R: Wait>(
 fn close_twice_named<N: Name, R: Wait>(rt: &R, alloc: Global, ready: Ready) -> Option<Closed>
     requires { ready.of ≡ N.of }
 {
-    let (table, passes) = open::<N>(alloc, ready).ok()?;
+    let (table, passes) = open::<N>(alloc, ready, 0).ok()?;
     let seats = seated::<N>(alloc, passes)?;
     close_both(rt, alloc, table, seats)
 }

@@ -8,7 +8,7 @@ ghost use Rattle.std.specs.Prelude.{◌≡◌, ◌≢◌, ◌<◌, []};
 use crate::playing::{put_line, put_steps};
 use crate::text::call_of;
 use lt_entry::Entry;
-use lt_plain::KeyTable;
+use lt_rules::KeyTable;
 use lt_table::{
     CloseError, CloseRefused, Config, Gone, Keeping, Reader, Ready, Rests, Table, open,
     prepare_with,
@@ -302,7 +302,7 @@ fn keep_named<N: Name, R: Wait>(
     requires of { ready.of ≡ N.of }
     requires keeping { N.of.keeping ≢ Keeping.Whole }
 {
-    let (table, passes) = open::<N>(alloc, ready).ok()?;
+    let (table, passes) = open::<N>(alloc, ready, 0).ok()?;
     let mut work = work_of(alloc, &table, seated::<N>(alloc, passes)?)?;
     for act in acts {
         work = act_on(rt, alloc, &table, work, act)?;

@@ -3,7 +3,7 @@ ghost use Rattle.std.specs.Prelude.{◌≡◌};
 
 use crate::playing::{config, outcomes_of};
 use crate::text::rows_of;
-use lt_plain::KeyTable;
+use lt_rules::KeyTable;
 use lt_table::{Config, Ready, Table, open, prepare};
 use lt_test_kit::command::CommandRow;
 use lt_test_kit::play::PlayedCommand;
@@ -63,7 +63,7 @@ fn learn_named<N: Name, R: Wait>(
 ) -> Option<Vec<PlayedCommand>>
     requires { ready.of ≡ N.of }
 {
-    let (table, passes) = open::<N>(alloc, ready).ok()?;
+    let (table, passes) = open::<N>(alloc, ready, 0).ok()?;
     let mut work = TableAtWork::new(alloc, seated::<N>(alloc, passes)?);
     learn_on(rt, alloc, &table, &mut work, before, after)?;
     let TableAtWork { seats, lines, .. } = work;

@@ -6,13 +6,15 @@
 //!   its steps, and [`keeping`] on a table that streams its steps or records none. [`worked`], [`kept`] and
 //!   [`learning`] have the tests. [`closing`] tries to close a table without its last pass.
 //! - **Failed allocations.** The tests of [`refusals`] and [`rules`] pass under any single allocation failure.
-//!   [`refusing`] plays the script of the former.
+//!   [`refusing`] plays the script of the former. [`giving_up`] gives locks up where memory has ended.
 //!
 //! Worked schedules are scripts of the tool (`lt_tool_tests`).
 #![tactic(auto)]
 
 #[cfg(test)]
 mod closing;
+#[cfg(test)]
+mod giving_up;
 #[cfg(test)]
 mod keeping;
 #[cfg(test)]

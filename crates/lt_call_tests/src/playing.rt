@@ -111,7 +111,7 @@ fn play_named<N: Name, R: Wait>(
 ) -> Option<TableRun>
     requires { ready.of ≡ N.of }
 {
-    let (table, passes) = open::<N>(alloc, ready).ok()?;
+    let (table, passes) = open::<N>(alloc, ready, 0).ok()?;
     play_all(rt, alloc, table, passes, rows, &[])
 }
 

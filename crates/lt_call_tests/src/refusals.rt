@@ -7,7 +7,7 @@ use crate::playing::config;
 use crate::refusing::{Done, Part, TakeScript, play_taken, play_whole};
 use crate::text::rows_of;
 use lt_entry::Entry;
-use lt_plain::Reply;
+use lt_rules::Reply;
 use lt_table::{Config, Keeping, Poll, Scan};
 use lt_test_kit::asking::{Question, TableAnswer};
 use lt_test_kit::command::{CallOutcome, CommandRow};

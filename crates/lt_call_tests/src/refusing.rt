@@ -5,7 +5,7 @@
 ghost use Rattle.std.specs.Prelude.{◌≡◌, ◌≢◌};
 
 use lt_entry::Entry;
-use lt_plain::KeyTable;
+use lt_rules::KeyTable;
 use lt_table::{Config, Keeping, Ready, Rests, Table, open, prepare_with};
 use lt_test_kit::asking::{Question, TableAnswer};
 use lt_test_kit::command::{CommandRow, TableCall};
@@ -141,7 +141,7 @@ fn whole_named<N: Name, R: Wait>(
 ) -> Option<Done>
     requires { ready.of ≡ N.of }
 {
-    let (table, passes) = open::<N>(alloc, ready).ok()?;
+    let (table, passes) = open::<N>(alloc, ready, 0).ok()?;
     let mut work = TableAtWork::new(alloc, seated::<N>(alloc, passes)?);
     let taken = play_both(rt, alloc, &table, &mut work, script)?;
     close(rt, alloc, table, work, taken)
@@ -156,7 +156,7 @@ fn taken_named<N: Name, R: Wait>(
     requires of { ready.of ≡ N.of }
     requires keeping { N.of.keeping ≢ Keeping.Whole }
 {
-    let (table, passes) = open::<N>(alloc, ready).ok()?;
+    let (table, passes) = open::<N>(alloc, ready, 0).ok()?;
     let mut work = TableAtWork::new(alloc, seated::<N>(alloc, passes)?);
     let taken = play_around_a_take(rt, alloc, &table, &mut work, script)?;
     close(rt, alloc, table, work, taken)

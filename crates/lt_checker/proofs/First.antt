@@ -8,19 +8,19 @@ use Rattle.lt_ids.specs.Ids.{Wait}
 use Rattle.lt_ids.specs.declared.timestamp.Timestamp.{Timestamp}
 use Rattle.lt_ids.specs.declared.request.Access.{Access}
 use Rattle.lt_ids.specs.declared.request.Access.TheVariants.{Read, Write}
-use Rattle.lt_plain.specs.declared.queued.Holder.{Holder}
-use Rattle.lt_plain.specs.declared.queued.QueuedRequest.{QueuedRequest}
-use Rattle.lt_plain.specs.declared.queued.QueuedWriter.{QueuedWriter}
-use Rattle.lt_plain.specs.declared.call.Call.{Call}
-use Rattle.lt_plain.specs.declared.call.Call.TheVariants.{Visit, Acquire, Update, Finish, Leave, Look}
-use Rattle.lt_plain.specs.declared.call.Reply.{Reply}
-use Rattle.lt_plain.specs.declared.call.Reply.TheVariants.{Freed, Left, Other, Absent}
-use Rattle.lt_plain.specs.Rules.{Record, empty, has_txn, Outcome, unchanged, settle, free, finish_from, finish_by, leave, leave_by, leading, stop_reading, is_reserved_by, is_waiting, without_reader, without_writer}
-use Rattle.lt_plain.specs.Visit.{visit_lock, settled}
-use Rattle.lt_plain.specs.Step.{Event, step, IsLegalFrom, IsLegalBy}
+use Rattle.lt_rules.specs.declared.queued.Holder.{Holder}
+use Rattle.lt_rules.specs.declared.queued.QueuedRequest.{QueuedRequest}
+use Rattle.lt_rules.specs.declared.queued.QueuedWriter.{QueuedWriter}
+use Rattle.lt_rules.specs.declared.call.Call.{Call}
+use Rattle.lt_rules.specs.declared.call.Call.TheVariants.{Visit, Acquire, Update, Finish, Leave, Look}
+use Rattle.lt_rules.specs.declared.call.Reply.{Reply}
+use Rattle.lt_rules.specs.declared.call.Reply.TheVariants.{Freed, Left, Other, Absent}
+use Rattle.lt_rules.specs.Rules.{Record, empty, has_txn, Outcome, unchanged, settle, free, finish_from, finish_by, leave, leave_by, leading, stop_reading, is_reserved_by, is_waiting, without_reader, without_writer}
+use Rattle.lt_rules.specs.Visit.{visit_lock, settled}
+use Rattle.lt_rules.specs.Step.{Event, step, IsLegalFrom, IsLegalBy}
 use Rattle.lt_checker.specs.First as first
 use Rattle.lt_checker.specs.First.{FirstRulesHold}
-use Rattle.lt_plain.proofs.Passes.{Each, IsOfCall, step_keeps}
+use Rattle.lt_rules.proofs.Passes.{Each, IsOfCall, step_keeps}
 
 -- Each queued request has a transaction.
 abbrev Owned : Record → Type 0

@@ -8,16 +8,16 @@ use Rattle.lt_ids.specs.declared.timestamp.Timestamp.{Timestamp}
 use Rattle.lt_ids.specs.declared.request.Access.{Access}
 use Rattle.lt_ids.specs.declared.request.Access.TheVariants.{Read, Write}
 use Rattle.lt_ids.specs.Ids.{is_below}
-use Rattle.lt_plain.specs.declared.queued.Holder.{Holder}
-use Rattle.lt_plain.specs.declared.queued.QueuedRequest.{QueuedRequest}
-use Rattle.lt_plain.specs.declared.queued.QueuedWriter.{QueuedWriter}
-use Rattle.lt_plain.specs.declared.call.Call.{Call}
-use Rattle.lt_plain.specs.declared.call.Call.TheVariants.{Visit, Acquire, Update, Finish, Leave, Look}
-use Rattle.lt_plain.specs.declared.call.Reply.{Reply}
-use Rattle.lt_plain.specs.declared.call.Reply.TheVariants.{Other, Nothing, Reserved, Idle, WaitOwn}
-use Rattle.lt_plain.specs.Rules.{Record, number_of, writer_number, is_txn, Outcome, unchanged, raise, acquire_from, update_from, finish_from, leave, is_reserved_by, is_waiting, stop_reading}
-use Rattle.lt_plain.specs.Step.{step, look, look_waiter, look_reader, look_writer, look_behind, waits_for, waits_for_reserved}
-use Rattle.lt_plain.specs.Visit.{visit_lock, visit_held, visit_reserved, wait_to_read, is_too_long, join_writers, pass, displace, is_queued}
+use Rattle.lt_rules.specs.declared.queued.Holder.{Holder}
+use Rattle.lt_rules.specs.declared.queued.QueuedRequest.{QueuedRequest}
+use Rattle.lt_rules.specs.declared.queued.QueuedWriter.{QueuedWriter}
+use Rattle.lt_rules.specs.declared.call.Call.{Call}
+use Rattle.lt_rules.specs.declared.call.Call.TheVariants.{Visit, Acquire, Update, Finish, Leave, Look}
+use Rattle.lt_rules.specs.declared.call.Reply.{Reply}
+use Rattle.lt_rules.specs.declared.call.Reply.TheVariants.{Other, Nothing, Reserved, Idle, WaitOwn}
+use Rattle.lt_rules.specs.Rules.{Record, number_of, writer_number, is_txn, Outcome, unchanged, raise, acquire_from, update_from, finish_from, leave, is_reserved_by, is_waiting, stop_reading}
+use Rattle.lt_rules.specs.Step.{step, look, look_waiter, look_reader, look_writer, look_behind, waits_for, waits_for_reserved}
+use Rattle.lt_rules.specs.Visit.{visit_lock, visit_held, visit_reserved, wait_to_read, is_too_long, join_writers, pass, displace, is_queued}
 use Rattle.lt_text.specs.Replies.{is_visit_reply, is_acquire_reply, is_update_reply, is_finish_reply, is_leave_reply, is_look_reply, is_reply_of}
 
 abbrev Has : (Reply → Bool) → Outcome → Type 0

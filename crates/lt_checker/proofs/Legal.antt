@@ -4,8 +4,8 @@ use Rattle.std.specs.List.{AllByRecursion, Contains}
 use Rattle.std.specs.Str.{bytes_eq}
 use Rattle.std.proofs.lemmas.List.Elements.{All-from_recursion, recursion_from_All, All-filter, All-weaker, filter_passes}
 use Rattle.std.proofs.lemmas.List.Sums.{length-filter, count_by-le-length}
-use Rattle.lt_plain.specs.Rules.{Record, empty}
-use Rattle.lt_plain.specs.Step.{step, IsLegalFrom}
+use Rattle.lt_rules.specs.Rules.{Record, empty}
+use Rattle.lt_rules.specs.Step.{step, IsLegalFrom}
 use Rattle.lt_text.specs.Replies.{is_reply_of}
 use Rattle.lt_entry.specs.declared.entry.Entry.{Entry}
 use Rattle.lt_checker.specs.Lines.{Parts, IsLine}

@@ -3,8 +3,8 @@ use Rattle.std.proofs.Common.{◌≡◌, ℕ, Bool, true, false, cond, List, [],
 use Rattle.std.specs.List.{AllByRecursion}
 use Rattle.std.specs.Str.{bytes_eq}
 use Rattle.lt_ids.specs.Ids.{Wait}
-use Rattle.lt_plain.specs.Rules.{Record, empty}
-use Rattle.lt_plain.specs.Step.{IsLegalFrom}
+use Rattle.lt_rules.specs.Rules.{Record, empty}
+use Rattle.lt_rules.specs.Step.{IsLegalFrom}
 use Rattle.lt_entry.specs.Ranges.{IsTicket}
 use Rattle.lt_entry.specs.declared.entry.Entry.{Entry}
 use Rattle.lt_checker.specs.Lines.{Parts}

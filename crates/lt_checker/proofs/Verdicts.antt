@@ -14,7 +14,7 @@ use Rattle.lt_checker.specs.Text.{Spot, IsOf, start, text_by, spot_after, spot_f
 use Rattle.lt_checker.specs.Version.{IsVersion, IsLegalOf, header_of, is_first, is_too_long_reply}
 use Rattle.lt_entry.specs.declared.entry.Entry.{Entry}
 use Rattle.lt_checker.specs.First as first
-use Rattle.lt_plain.specs.Step.{IsLegal}
+use Rattle.lt_rules.specs.Step.{IsLegal}
 use Rattle.lt_checker.proofs.First.{first_rules_hold}
 use Rattle.std.specs.Str.{bytes_eq}
 use Rattle.std.proofs.lemmas.Bool.Decides.{nat_tests}

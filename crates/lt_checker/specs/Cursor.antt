@@ -4,8 +4,8 @@ use Rattle.std.specs.Ordering.{nat_cmp, is_lt}
 use Rattle.std.specs.Cmp.Lexicographic.{slice_cmp}
 use Rattle.std.specs.Prelude.{false}
 use Rattle.lt_ids.specs.Ids.{Wait}
-use Rattle.lt_plain.specs.Rules.{Record, empty}
-use Rattle.lt_plain.specs.Step.{step}
+use Rattle.lt_rules.specs.Rules.{Record, empty}
+use Rattle.lt_rules.specs.Step.{step}
 use Rattle.lt_checker.specs.declared.error.Fault.TheVariants.{KeyOrder, Index, WrongReply, WrongLets}
 use Rattle.lt_checker.specs.declared.error.HistoryLineError.{HistoryLineError}
 use Rattle.lt_checker.specs.declared.error.HistoryLineError.TheVariants as refusals

@@ -8,14 +8,14 @@ use Rattle.std.specs.Ordering.{nat_cmp, match_ordering}
 use Rattle.lt_ids.specs.declared.request.Access.{Access}
 use Rattle.lt_ids.specs.declared.request.Access.TheVariants.{Read, Write}
 use Rattle.lt_ids.specs.Ids.{is_below}
-use Rattle.lt_plain.specs.declared.queued.Holder.{Holder}
-use Rattle.lt_plain.specs.declared.queued.QueuedRequest.{QueuedRequest}
-use Rattle.lt_plain.specs.declared.call.Call.{Call}
-use Rattle.lt_plain.specs.declared.call.Call.TheVariants.{Visit}
-use Rattle.lt_plain.specs.declared.call.Reply.{Reply}
-use Rattle.lt_plain.specs.Rules.{Record, empty, number_of, through_of, is_txn, Outcome, settle, stop_reading, set_back, active_requests}
-use Rattle.lt_plain.specs.Visit.{pass, wait_to_write, wait_to_read, settled}
-use Rattle.lt_plain.specs.Step.{Event, IsLegal, IsLegalBy, step_by}
+use Rattle.lt_rules.specs.declared.queued.Holder.{Holder}
+use Rattle.lt_rules.specs.declared.queued.QueuedRequest.{QueuedRequest}
+use Rattle.lt_rules.specs.declared.call.Call.{Call}
+use Rattle.lt_rules.specs.declared.call.Call.TheVariants.{Visit}
+use Rattle.lt_rules.specs.declared.call.Reply.{Reply}
+use Rattle.lt_rules.specs.Rules.{Record, empty, number_of, through_of, is_txn, Outcome, settle, stop_reading, set_back, active_requests}
+use Rattle.lt_rules.specs.Visit.{pass, wait_to_write, wait_to_read, settled}
+use Rattle.lt_rules.specs.Step.{Event, IsLegal, IsLegalBy, step_by}
 
 -- The lock has just lost its holder or its reservation: all readers are let through. The first writer gets the
 -- reservation, and is let through if it is active.

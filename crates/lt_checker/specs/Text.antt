@@ -8,8 +8,8 @@ use Rattle.std.specs.List.{flat_map, AllByRecursion}
 use Rattle.std.specs.Str.{bytes_eq}
 use Rattle.std.specs.Ordering.{nat_cmp, is_lt}
 use Rattle.std.specs.Cmp.Lexicographic.{slice_cmp}
-use Rattle.lt_plain.specs.Rules.{Record, empty, Outcome}
-use Rattle.lt_plain.specs.Step.{step}
+use Rattle.lt_rules.specs.Rules.{Record, empty, Outcome}
+use Rattle.lt_rules.specs.Step.{step}
 use Rattle.lt_checker.specs.declared.error.Fault.{Fault}
 use Rattle.lt_checker.specs.declared.error.Fault.TheVariants.{Header, Shape, KeyOrder, Index, WrongReply, WrongLets}
 use Rattle.lt_checker.specs.declared.error.HistoryLineError.{HistoryLineError}

@@ -1,10 +1,10 @@
 -- The versions of the text. In the first version every visit has a transaction and no bound, and no visit is
 -- answered that the queue is too long; histories are legal by the rules of that version.
 use Rattle.std.specs.Prelude.{ℕ, ◌≡◌, ◌⊎◌, ◌==◌, ◌&&◌, Bool, true, false, not, if◌then◌else◌, List, codes}
-use Rattle.lt_plain.specs.declared.call.Call.{Call}
-use Rattle.lt_plain.specs.declared.call.Reply.{Reply}
-use Rattle.lt_plain.specs.declared.call.Reply.TheVariants.{TooLong}
-use Rattle.lt_plain.specs.Step.{Event, IsLegal}
+use Rattle.lt_rules.specs.declared.call.Call.{Call}
+use Rattle.lt_rules.specs.declared.call.Reply.{Reply}
+use Rattle.lt_rules.specs.declared.call.Reply.TheVariants.{TooLong}
+use Rattle.lt_rules.specs.Step.{Event, IsLegal}
 use Rattle.lt_checker.specs.First as first
 
 abbrev pub IsVersion : ℕ → Type 0

@@ -2,10 +2,10 @@
 //!
 //! A `Cursor` remembers the key and the index of the latest line and replays that key's calls on a record of its
 //! own. `follow` checks, in this order, that the next line has its key in order, the right index, the reply of
-//! the rules and their lets. Read next: `specs/Text.antt` for these four conditions, and `lt_plain` for the rules.
+//! the rules and their lets. Read next: `specs/Text.antt` for these four conditions, and `lt_rules` for the rules.
 ghost use Rattle.std.specs.Prelude.{◌≡◌, ◌<◌, ◌≤◌, ◌↔◌, [], IfOk, IfErr, IsTrue, map, length};
-ghost use Rattle.lt_plain.specs.Rules.{IsOutcome, empty};
-ghost use Rattle.lt_plain.specs.Step.{step};
+ghost use Rattle.lt_rules.specs.Rules.{IsOutcome, empty};
+ghost use Rattle.lt_rules.specs.Step.{step};
 ghost use Rattle.lt_checker.specs.Lines.{IsLine, parts_of};
 ghost use Rattle.lt_checker.specs.Text.{Follows, IsWrongOr, MayNotComeNext, start, spot_after};
 ghost use Rattle.lt_checker.specs.Cursor.{record_in, spot, IsAtNewKey, IsNoFirst, IsNext, IsNoNext, FollowsRules, IsNotMade, IsGiven};
@@ -13,8 +13,8 @@ ghost use Rattle.lt_checker.specs.Cursor.{record_in, spot, IsAtNewKey, IsNoFirst
 use crate::error::{Fault, HistoryLineError};
 use crate::line::{Line, LineStep};
 use lt_ids::{Key, Through, Ticket};
-use lt_plain::{Call, Reply};
 use lt_row::LinkedRecord;
+use lt_rules::{Call, Reply};
 use std::alloc::{AllocError, Global};
 use std::cmp::Ordering;
 

@@ -1,6 +1,6 @@
 //! Is a text the text of legal histories? This crate reads such texts line by line and checks them exactly.
 //!
-//! [`check`] reads a text and decides whether it is the text of legal histories: the rules of one key (`lt_plain`)
+//! [`check`] reads a text and decides whether it is the text of legal histories: the rules of one key (`lt_rules`)
 //! must give every reply and every let in it. So anybody who has the text can audit a run without the table that
 //! made it. A text of the first version is checked by the rules of that version, and [`upgrade`] turns it into a
 //! text of the second. `lt_writer` writes such texts, and `lt_history` re-exports both crates.

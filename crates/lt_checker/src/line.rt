@@ -10,7 +10,7 @@ ghost use Rattle.lt_checker.specs.Lines.{IsReadAs, key_at, step_at, tickets_of, 
 
 use crate::error::{Fault, HistoryLineError};
 use lt_ids::{IdError, Key, Ticket};
-use lt_plain::{Call, Reply};
+use lt_rules::{Call, Reply};
 use lt_text::call::call;
 use lt_text::field::ticket;
 use lt_text::number::number;

@@ -25,7 +25,7 @@ use crate::error::{Fault, HistoryLineError};
 use crate::line::Line;
 use crate::version::line_of;
 use lt_ids::Key;
-use lt_plain::KeyState;
+use lt_rules::KeyState;
 use lt_text::words::cut;
 use std::alloc::{AllocError, Global};
 

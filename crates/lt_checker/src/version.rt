@@ -7,7 +7,7 @@ ghost use Rattle.lt_checker.specs.First.{is_of_first};
 
 use crate::error::{Fault, HistoryLineError};
 use crate::line::{Line, LineStep, read_line};
-use lt_plain::{Call, Reply};
+use lt_rules::{Call, Reply};
 use std::alloc::Global;
 
 /// Whether the first version has this call: a visit must have a transaction and no bound.

@@ -10,9 +10,9 @@ use Rattle.std.specs.Ordering.{nat_cmp}
 use Rattle.std.specs.Cmp.Lexicographic.{slice_cmp}
 use Rattle.std.proofs.lemmas.List.{map-append, append-nil}
 use Rattle.std.proofs.lemmas.List.Elements.{filter-append}
-use Rattle.lt_plain.specs.Rules.{Record, empty}
-use Rattle.lt_plain.specs.Step.{Event, step, IsLegal, IsLegalFrom, record_after}
-use Rattle.lt_plain.specs.Table.{Records, record_at, IsStep}
+use Rattle.lt_rules.specs.Rules.{Record, empty}
+use Rattle.lt_rules.specs.Step.{Event, step, IsLegal, IsLegalFrom, record_after}
+use Rattle.lt_rules.specs.Table.{Records, record_at, IsStep}
 use Rattle.lt_entry.specs.declared.entry.Entry.{Entry}
 use Rattle.lt_entry.specs.Legal.{event_of, key_part, AreLegalKeys}
 use Rattle.lt_entry.proofs.SameKeys.{same_key, key_itself}

@@ -4,11 +4,11 @@ use Rattle.lt_ids.specs.Ids.{Wait}
 use Rattle.lt_ids.specs.declared.timestamp.Timestamp.{Timestamp}
 use Rattle.lt_ids.specs.declared.request.Access.{Access}
 use Rattle.lt_ids.specs.declared.ticket.Through.{Through}
-use Rattle.lt_plain.specs.declared.call.Call.{Call}
-use Rattle.lt_plain.specs.declared.call.Call.TheVariants as call
-use Rattle.lt_plain.specs.declared.call.Reply.{Reply}
-use Rattle.lt_plain.specs.Step.{EntryState}
-use Rattle.lt_plain.specs.declared.call.Reply.TheVariants as reply
+use Rattle.lt_rules.specs.declared.call.Call.{Call}
+use Rattle.lt_rules.specs.declared.call.Call.TheVariants as call
+use Rattle.lt_rules.specs.declared.call.Reply.{Reply}
+use Rattle.lt_rules.specs.Step.{EntryState}
+use Rattle.lt_rules.specs.declared.call.Reply.TheVariants as reply
 use Rattle.lt_entry.specs.declared.entry.CallKind.{CallKind}
 use Rattle.lt_entry.specs.declared.entry.CallKind.TheVariants.{OwnedVisit, UnownedVisit, Acquire, Update, Finish, Leave, Look}
 use Rattle.lt_entry.specs.declared.entry.ReplyRest.{ReplyRest}

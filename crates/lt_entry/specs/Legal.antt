@@ -4,7 +4,7 @@
 -- any way: whether the history is legal depends only on the key_part of each key.
 use Rattle.std.specs.Prelude.{ℕ, List, map, filter}
 use Rattle.std.specs.Str.{bytes_eq}
-use Rattle.lt_plain.specs.Step.{Event, IsLegal}
+use Rattle.lt_rules.specs.Step.{Event, IsLegal}
 use Rattle.lt_entry.specs.declared.entry.Entry.{Entry}
 
 -- the entry as a step in its key's history

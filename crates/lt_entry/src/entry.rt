@@ -6,7 +6,7 @@ ghost use Rattle.lt_entry.specs.Entry.{call_of, reply_of, entry_with, lets_in, t
 ghost use Rattle.lt_entry.specs.Ranges.{IsTxn, IsOwner, IsTicket, IsTime, IsCall, IsReply, IsInRange, NamesNumber};
 
 use lt_ids::{Access, Key, Through, Ticket, Timestamp, TxnId};
-use lt_plain::{Call, Reply};
+use lt_rules::{Call, Reply};
 use std::alloc::{AllocError, Global};
 use std::fmt::{self, Debug, Formatter, Write};
 use std::marker::Model;
@@ -334,7 +334,7 @@ pub struct Entry {
 }
 
 impl Model for Entry {
-    ghost use Rattle.lt_plain.specs.Step.{EntryState};
+    ghost use Rattle.lt_rules.specs.Step.{EntryState};
     ghost use Rattle.lt_entry.specs.Entry.{call_of, reply_of, entry_with, lets_in, txn_in};
 
     ghost Value = { EntryState };

@@ -1,7 +1,7 @@
 //! What does a history keep of each step, and which histories are legal?
 //!
 //! A history is the list of the steps of a lock table. Each step is an [`Entry`]: its key, pass, call, reply and
-//! lets. A history is legal if, for each key by itself, the rules of one key (`lt_plain`) give each reply and each
+//! lets. A history is legal if, for each key by itself, the rules of one key (`lt_rules`) give each reply and each
 //! let of its steps (`AreLegalKeys` in `specs/Legal.antt`). The growing history, the shards and the table keep
 //! such lists; `lt_history` writes them as text.
 //!

@@ -1,5 +1,6 @@
 -- How the storage of a key represents its bytes, and which storage a key may have.
-use Rattle.std.specs.Prelude.{ℕ, ◌<◌, ◌≤◌, List, length, take}
+use Rattle.std.specs.Prelude.{ℕ, ◌≡◌, ◌<◌, ◌≤◌, List, length, take, drop}
+use Rattle.std.specs.List.{AllByRecursion}
 use Rattle.lt_ids.specs.declared.key.Bytes.{Bytes}
 use Rattle.lt_ids.specs.declared.key.Bytes.TheVariants.{Short, Long}
 
@@ -17,3 +18,8 @@ AreWithin (Long n _) = n ≤ 64
 abbrev pub NeedTheirRoom : Bytes → Type 0
 NeedTheirRoom (Short n bytes) = Unit {0}
 NeedTheirRoom (Long n bytes) = 22 < length (take n bytes.value)
+
+-- the unused cells are 0
+abbrev pub ArePadded : Bytes → Type 0
+ArePadded (Short n bytes) = AllByRecursion (λ b. b ≡ 0) (drop n bytes)
+ArePadded (Long n bytes) = AllByRecursion (λ b. b ≡ 0) (drop n bytes.value)

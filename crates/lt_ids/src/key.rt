@@ -1,19 +1,21 @@
 //! What is a key, and when does one allocate? [`Key`] is the public type; `Bytes` is its storage, which no
 //! contract outside this crate mentions. `specs/Key.antt` defines which byte strings are keys and the order of the
 //! faults.
-ghost use Rattle.std.specs.Prelude.{◌≡◌, ◌==◌, ◌≤◌, length, take, IfOk, IsOk, IfSome, IfNone, IsNone, All, IsTrue, true, false, not, position};
+ghost use Rattle.std.specs.Prelude.{◌≡◌, ◌==◌, ◌≤◌, [], ◌∷◌, length, take, IfOk, IsOk, IfSome, IfNone, IsNone, All, IsTrue, true, false, not, position, sum, drop};
+ghost use Rattle.std.specs.List.{AllByRecursion};
 ghost use Rattle.std.specs.Ordering.{nat_cmp, as_partial_cmp};
 ghost use Rattle.std.specs.Cmp.{partial_order_from_own_ties};
-ghost use Rattle.std.specs.Cmp.Rules.{comparing};
+ghost use Rattle.std.specs.Cmp.Rules.{comparing, hashing};
 ghost use Rattle.std.specs.Cmp.Lexicographic.{slice_cmp, pointwise};
 ghost use Rattle.std.proofs.Common.{rules};
 ghost use Rattle.lt_ids.specs.Key.{IsKey, IsKeyUnlessMemory, key_fault, is_key_byte};
-ghost use Rattle.lt_ids.specs.Bytes.{bytes_of, AreWithin, NeedTheirRoom};
+ghost use Rattle.lt_ids.specs.Bytes.{bytes_of, AreWithin, NeedTheirRoom, ArePadded};
 
 use crate::IdError;
 use std::alloc::{AllocError, Global};
 use std::cmp::Ordering;
 use std::fmt::{self, Debug, Formatter, Write};
+use std::hash::{Hash, Hasher};
 use std::marker::Model;
 
 /// The storage of a key: its length and its bytes. Up to 22 bytes lie inline, more in an allocation.
@@ -30,6 +32,7 @@ impl Bytes {
         ensures bytes { IfOk result (λ b. bytes_of b ≡ bytes.now) }
         ensures within { IfOk result AreWithin }
         ensures needed { IfOk result NeedTheirRoom }
+        ensures padded { IfOk result ArePadded }
         ensures short { length bytes.now ≤ 22 → IsOk result }
     {
         let len = bytes.len();
@@ -38,9 +41,7 @@ impl Bytes {
             short[..len].copy_from_slice(bytes);
             return Ok(Bytes::Short(len as u8, short));
         }
-        let mut long = [0; 64];
-        long[..len].copy_from_slice(bytes);
-        match Box::new(alloc, long) {
+        match Box::new(alloc, cells_of_64(bytes)) {
             Ok(long) => Ok(Bytes::Long(len as u8, long)),
             Err(_) => Err(AllocError),
         }
@@ -50,9 +51,11 @@ impl Bytes {
     fn copy(&self) -> Result<Bytes, AllocError>
         requires within { AreWithin self.now }
         requires needed { NeedTheirRoom self.now }
+        requires padded { ArePadded self.now }
         ensures bytes { IfOk result (λ b. bytes_of b ≡ bytes_of self.now) }
         ensures within { IfOk result AreWithin }
         ensures needed { IfOk result NeedTheirRoom }
+        ensures padded { IfOk result ArePadded }
         ensures short { length (bytes_of self.now) ≤ 22 → IsOk result }
     {
         match self {
@@ -71,6 +74,52 @@ impl Bytes {
             Bytes::Long(len, bytes) => &bytes[..*len as usize],
         }
     }
+
+    /// The sum of the bytes. The unused cells are 0, so it adds all cells, which a processor does at once.
+    #[inline]
+    fn sum(&self) -> u16
+        requires { ArePadded self.now }
+        ensures { result ≡ sum (bytes_of self.now) }
+    {
+        match self {
+            Bytes::Short(_, bytes) => sum_of_22(bytes),
+            Bytes::Long(_, bytes) => sum_of_64(bytes),
+        }
+    }
+}
+
+/// The cells of a long key with these bytes.
+fn cells_of_64(bytes: &[u8]) -> [u8; 64]
+    requires { length bytes.now ≤ 64 }
+    ensures bytes { take (length bytes.now) result ≡ bytes.now }
+    ensures padded { AllByRecursion (λ b. b ≡ 0) (drop (length bytes.now) result) }
+{
+    let mut long = [0; 64];
+    long[..bytes.len()].copy_from_slice(bytes);
+    long
+}
+
+/// The sum of the cells of a short key.
+#[inline(always)]
+fn sum_of_22(bytes: &[u8; 22]) -> u16
+    ensures { result ≡ sum bytes.now }
+{
+    let mut total = 0;
+    for i in 0..22 {
+        total += u16::from(bytes[i]);
+    }
+    total
+}
+
+/// The sum of the cells of a long key.
+fn sum_of_64(bytes: &[u8; 64]) -> u16
+    ensures { result ≡ sum bytes.now }
+{
+    let mut total = 0;
+    for i in 0..64 {
+        total += u16::from(bytes[i]);
+    }
+    total
 }
 
 /// A copy of the bytes of a long key. It stays out of line, so that the copy of a short key is a few instructions
@@ -93,13 +142,13 @@ pub struct Key {
 impl Model for Key {
     ghost use Rattle.std.specs.Prelude.{ℕ, List};
     ghost use Rattle.lt_ids.specs.Key.{IsKey};
-    ghost use Rattle.lt_ids.specs.Bytes.{bytes_of, AreWithin, NeedTheirRoom};
+    ghost use Rattle.lt_ids.specs.Bytes.{bytes_of, AreWithin, NeedTheirRoom, ArePadded};
 
     ghost Value = { List ℕ };
 
     ghost view = { λ k. bytes_of k.bytes };
 
-    ghost invariant = { λ k. IsKey (bytes_of k.bytes) × AreWithin k.bytes × NeedTheirRoom k.bytes };
+    ghost invariant = { λ k. IsKey (bytes_of k.bytes) × AreWithin k.bytes × NeedTheirRoom k.bytes × ArePadded k.bytes };
 }
 
 impl Key {
@@ -135,6 +184,7 @@ impl Key {
         Ok(Key { bytes })
     }
 
+    /// The bytes of the key.
     #[inline]
     pub fn as_bytes(&self) -> &[u8]
         ensures bytes { result.now ≡ self.now }
@@ -142,11 +192,23 @@ impl Key {
     {
         self.bytes.as_slice()
     }
+
+    /// The sum of the key's bytes, which tells its shard.
+    #[inline]
+    pub fn byte_sum(&self) -> u16
+        ensures { result ≡ sum self.now }
+    {
+        self.bytes.sum()
+    }
 }
 
+/// A key is shown as the text that it is.
 impl Debug for Key {
     fn fmt<W: Write>(&self, f: &mut Formatter<W>) -> fmt::Result {
-        self.as_bytes().fmt(f)
+        match str::from_utf8(self.as_bytes()) {
+            Ok(text) => Debug::fmt(text, f),
+            Err(_) => self.as_bytes().fmt(f),
+        }
     }
 }
 
@@ -234,5 +296,15 @@ impl PartialOrd for Key {
 
     fn partial_cmp(&self, other: &Key) -> Option<Ordering> {
         Some(self.cmp(other))
+    }
+}
+
+impl Hash for Key {
+    ghost hash_input = { λ k. k ∷ [] };
+
+    ghost respects_eq = { Prim.search (comparing, hashing, rules) };
+
+    fn hash<H: Hasher>(&self, state: &mut H) {
+        state.write(self.as_bytes());
     }
 }

@@ -1,5 +1,5 @@
 -- Records are added and dropped, and queue entries are replaced.
-use Rattle.std.proofs.Common.{◌≡◌, ℕ, Bool, true, false, cond, Option, Some, None, List, [], refl, sym, ap, ◌∙◌, inl, inr, subst}
+use Rattle.std.proofs.Common.{◌≡◌, ℕ, Bool, true, false, cond, Option, Some, None, List, [], length, refl, sym, ap, ◌∙◌, inl, inr, subst}
 use Rattle.std.specs.Prelude.{nat_eq, is_some, unwrap_or}
 use Rattle.std.specs.Option.{option_map}
 use Rattle.std.specs.FinMap as map
@@ -12,21 +12,27 @@ use Rattle.lt_links.specs.declared.ids.Queue.{Queue}
 use Rattle.lt_links.specs.declared.ids.QueueKind.{QueueKind}
 use Rattle.lt_links.specs.declared.ids.QueueKind.TheVariants.{Writers, Readers, Reservation}
 use Rattle.lt_links.specs.Ring.{has, is_in, Path}
-use Rattle.lt_links.specs.Cells.{no_joint, head_of, queue_joint, owned_of, next_of, prev_of, queued_at, owned_at, Owners}
+use Rattle.lt_links.specs.Cells.{no_joint, empty_head, head_of, len_of, queue_joint, owned_of, next_of, prev_of, queued_at, owned_at, Owners}
 use Rattle.lt_links.specs.Maps.{Maps, Lists, no_lists, list_of, has_record, IsEmpty, AddsRecord, DropsRecord, SetsStand, queue, number_at}
 use Rattle.lt_links.specs.View.{maps_of, queue_of, node_number, stand_of, Links}
 use Rattle.lt_links.proofs.Rings.{same_or_apart}
 use Rattle.lt_links.proofs.Joints.{same_queue, IsFamily-kept}
 use Rattle.lt_links.proofs.Views.{queue_is, stand_is}
 use Rattle.lt_links.proofs.Steps.{Are-links, same_number}
+use Rattle.lt_links.proofs.Counts.{AreCounted}
 
 abbrev pub no_heads : Heads
-no_heads = record { writers = no_joint; readers = no_joint; reservation = no_joint }
+no_heads = record { writers = empty_head; readers = empty_head; reservation = empty_head }
 
 no_head : (kind : QueueKind) → head_of (Some no_heads) kind ≡ no_joint
 no_head Writers = refl
 no_head Readers = refl
 no_head Reservation = refl
+
+no_len : (kind : QueueKind) → len_of (Some no_heads) kind ≡ 0
+no_len Writers = refl
+no_len Readers = refl
+no_len Reservation = refl
 
 -- the heads of one record are replaced, and the ends of its queues are as before
 module _ (nodes : Slab Node) (heads heads' : Slab Heads) (owners : Owners) (queues : Queue → List ℕ) (numbers : ℕ → List ℕ) (links : Links nodes heads owners queues numbers) (id : ℕ) (slot : Option Heads) (writes : Updates heads heads' id slot) where
@@ -50,6 +56,12 @@ module _ (nodes : Slab Node) (heads heads' : Slab Heads) (owners : Owners) (queu
           | inr o ↦ ap (λ o. head_of o q.kind) (writes.others q.id o.0)
         ]
 
+  AreCounted-heads : AreCounted heads queues → ((q : Queue) → q.id ≡ id → len_of slot q.kind ≡ length (queues q)) → AreCounted heads' queues
+  AreCounted-heads counted lens q = elim (same_or_apart q.id id) [
+    | inl e ↦ ap (λ i. len_of (get heads' i) q.kind) e.0 ∙ ap (λ o. len_of o q.kind) writes.changed ∙ lens q e.0
+    | inr o ↦ ap (λ o. len_of o q.kind) (writes.others q.id o.0) ∙ counted q
+  ]
+
   records_are : (there : Bool) → is_some slot ≡ there → (i : ℕ) → is_some (get heads' i) ≡ cond (nat_eq i id) there (is_some (get heads i))
   records_are there is i = elim (same_or_apart i id) [
     | inl e ↦ rw e.1 (ap (λ j. is_some (get heads' j)) e.0 ∙ ap is_some writes.changed ∙ is)
@@ -63,6 +75,11 @@ module _ (nodes : Slab Node) (heads heads' : Slab Heads) (owners : Owners) (queu
       Links-heads nodes heads heads' owners queues numbers links id (Some no_heads) writes
       (λ q e. no_head q.kind ∙ sym (ap (λ i. head_of (get heads i) q.kind) e ∙ ap (λ o. head_of o q.kind) vacant))
       (λ q n e h. refl)
+
+  pub AreCounted-added : AreCounted heads queues → AreCounted heads' queues
+  AreCounted-added counted =
+      AreCounted-heads nodes heads heads' owners queues numbers links id (Some no_heads) writes counted
+      (λ q e. no_len q.kind ∙ sym (ap (λ i. len_of (get heads i) q.kind) e ∙ ap (λ o. len_of o q.kind) vacant) ∙ counted q)
 
   pub AddsRecord-added : AddsRecord (maps_of nodes heads owners) (maps_of nodes heads' owners) id
   AddsRecord-added =
@@ -91,6 +108,11 @@ module _ (nodes : Slab Node) (heads heads' : Slab Heads) (owners : Owners) (queu
       Links-heads nodes heads heads' owners queues numbers links id None writes
       (λ q e. sym (no_ends q e))
       (λ q n e h. absurd (true≢false (sym h ∙ ap (has n) (none_queued q e))))
+
+  pub AreCounted-dropped : AreCounted heads queues → AreCounted heads' queues
+  AreCounted-dropped counted =
+      AreCounted-heads nodes heads heads' owners queues numbers links id None writes counted
+      (λ q e. ap length (sym (none_queued q e)))
 
   pub DropsRecord-dropped : DropsRecord (maps_of nodes heads owners) (maps_of nodes heads' owners) id
   DropsRecord-dropped =

@@ -9,3 +9,4 @@ mod Pushes
 mod Shows
 mod Edits
 mod Placed
+mod Counts

@@ -1,4 +1,4 @@
-use Rattle.std.proofs.Common.{◌≡◌, ◌≢◌, ◌⊎◌, ℕ, Bool, true, false, cond, Option, Some, None, List, [], ◌∷◌, ◌++◌, refl, sym, ap, ◌∙◌, inl, inr, arith}
+use Rattle.std.proofs.Common.{◌≡◌, ◌≢◌, ◌⊎◌, ℕ, ◌+◌, Bool, true, false, cond, Option, Some, None, List, [], ◌∷◌, ◌++◌, length, refl, sym, ap, ◌∙◌, inl, inr, arith}
 use Rattle.std.specs.Prelude.{nat_eq}
 use Rattle.std.specs.List.{last_or}
 use Rattle.std.proofs.lemmas.Bool.Decides.{nat_tests}
@@ -56,6 +56,15 @@ without_absent n (x ∷ xs) h =
     elim (same_or_apart n x) [
       | inl s ↦ absurd (true≢false (rw s.1 at h))
       | inr e ↦ rw e.1 (ap (λ l. x ∷ l) (without_absent n xs (rw e.1 at h)))
+    ]
+
+-- removing a number that is once in a list makes the list shorter by one
+pub length-without : (n : ℕ) (l : List ℕ) → Distinct l → has n l ≡ true → length l ≡ length (without n l) + 1
+length-without n [] d h = absurd (true≢false (sym h))
+length-without n (x ∷ xs) d h =
+    elim (same_or_apart n x) [
+      | inl s ↦ rw (s.1, without_absent n xs (rw s.0 d.0)) (omega arith)
+      | inr o ↦ rw o.1 (omega (arith, length-without n xs d.1 (rw o.1 at h)))
     ]
 
 -- a position on a path, including the one before its list
@@ -248,6 +257,16 @@ has-put_after m (Some k) n (x ∷ xs) i =
     settled : (b : Bool) → true ≡ cond b true true
     settled true = refl
     settled false = refl
+
+-- inserting after a position of a list makes the list longer by one
+pub length-put_after : (a : Option ℕ) (n : ℕ) (l : List ℕ) → is_in l a ≡ true → length (put_after a n l) ≡ length l + 1
+length-put_after None n l i = omega arith
+length-put_after (Some k) n [] i = absurd (true≢false (sym i))
+length-put_after (Some k) n (x ∷ xs) i =
+    elim (same_or_apart k x) [
+      | inl s ↦ rw s.1 (omega arith)
+      | inr o ↦ rw o.1 (omega (arith, length-put_after (Some k) n xs (rw o.1 at i)))
+    ]
 
 Distinct-put_after : (a : Option ℕ) (n : ℕ) (l : List ℕ) → is_in l a ≡ true → has n l ≡ false → Distinct l → Distinct (put_after a n l)
 Distinct-put_after None n l i absent d = (absent, d)

@@ -1,5 +1,5 @@
 -- What the links show about the maps.
-use Rattle.std.proofs.Common.{◌≡◌, ℕ, true, Option, Some, None, List, [], ◌∷◌, ◌++◌, refl, sym, ap, ◌∙◌, subst, get_or, unwrap_or}
+use Rattle.std.proofs.Common.{◌≡◌, ℕ, true, Option, Some, None, List, [], ◌∷◌, ◌++◌, length, refl, sym, ap, ◌∙◌, subst, get_or, unwrap_or}
 use Rattle.std.specs.Ordering.{nat_cmp}
 use Rattle.std.specs.BTreeMap.{is_at}
 use Rattle.std.specs.Map.{lookup}
@@ -11,7 +11,7 @@ use Rattle.lt_links.specs.declared.node.Heads.{Heads}
 use Rattle.lt_links.specs.declared.stand.Stand.{Stand}
 use Rattle.lt_links.specs.declared.ids.Queue.{Queue}
 use Rattle.lt_links.specs.Ring.{has, is_in, Distinct, Link, Path, Ring}
-use Rattle.lt_links.specs.Cells.{next_of, prev_of, queue_joint, owned_of, queued_at, owned_at, Owners, head_of, no_joint}
+use Rattle.lt_links.specs.Cells.{next_of, prev_of, queue_joint, owned_of, queued_at, owned_at, Owners, head_of, len_of, len_at, no_joint}
 use Rattle.lt_links.specs.Maps.{Maps, queue, owned, HasNode, IsSound}
 use Rattle.lt_links.specs.View.{maps_of, queue_of, node_number, stand_of, Links, IsLinked}
 use Rattle.lt_links.proofs.Views.{stand_is, record_is, number_is, queue_is, owned_is, has_queue}
@@ -142,6 +142,9 @@ module _ (nodes : Slab Node) (heads : Slab Heads) (owners : Owners) (queues : Qu
   pub first_is : (q : Queue) → (queued_at nodes heads q None).next ≡ slice_get (queue maps q) 0
   first_is q = next_on_path (next_of (queued_at nodes heads) q) None (queues q) (links.queues_linked.rings q).path ∙ ap (λ l. slice_get l 0) (sym (q_is q))
 
+  pub len_is : (q : Queue) → len_at heads q ≡ length (queues q) → len_at heads q ≡ length (queue maps q)
+  len_is q counted = counted ∙ ap length (sym (q_is q))
+
   pub owner_first_is : (k : ℕ) → (owned_at nodes owners k None).next ≡ slice_get (owned maps k) 0
   owner_first_is k = next_on_path (next_of (owned_at nodes owners) k) None (numbers k) (links.numbers_linked.rings k).path ∙ ap (λ l. slice_get l 0) (sym (k_is k))
 
@@ -166,6 +169,7 @@ IsLinked-none nodes heads owners n h o =
         owners_there = λ m k e. absurd (no_number m k e);
         owners_needed = λ k e. absurd (true≢false (sym e ∙ ap (λ es. is_some (lookup (is_at (nat_cmp k)) es)) o));
       };
+      lens = λ q. ap (λ l. len_of (get_or l q.id None) q.kind) h;
     }
   where
     no_slot : (m : ℕ) → get nodes m ≡ None

@@ -20,7 +20,7 @@ use Rattle.lt_links.specs.Ring.{has, Distinct, without, Link, Path}
 use Rattle.lt_links.specs.Cells.{no_joint, head_of, Joints, next_of, queued_at, owned_at, Owners, ends_of, IsFamily}
 use Rattle.lt_links.specs.Maps.{Maps, no_lists, list_of, queue, owned, stand, has_record, has_list}
 use Rattle.lt_links.specs.View.{walk, list_at, lists_at, maps_of, queue_of, node_number, stand_of, Links}
-use Rattle.lt_links.proofs.Rings.{same_or_apart, has-without, without_absent, Distinct-without}
+use Rattle.lt_links.proofs.Rings.{same_or_apart, has-without, without_absent, Distinct-without, length-without}
 
 -- a walk along a path goes through its list
 walk_path : (next : Link) (fuel : ℕ) (p : Option ℕ) (l : List ℕ) → Path next p l → length l ≤ fuel → walk next fuel p ≡ l
@@ -30,13 +30,11 @@ walk_path next (suc fuel) p [] path room = rw path refl
 walk_path next (suc fuel) p (x ∷ xs) path room = rw path.0 (ap (λ l. x ∷ l) (walk_path next fuel (Some x) xs path.1 (omega arith)))
 
 -- Distinct numbers below a bound are no more than the bound.
-length-without : (n : ℕ) (l : List ℕ) → Distinct l → length l ≤ length (without n l) + 1
-length-without n [] d = omega arith
-length-without n (x ∷ xs) d =
-    elim (same_or_apart n x) [
-      | inl s ↦ rw (s.1, without_absent n xs (rw s.0 d.0)) (omega arith)
-      | inr o ↦ rw o.1 (omega (arith, length-without n xs d.1))
-    ]
+length_without_one : (n : ℕ) (l : List ℕ) → Distinct l → length l ≤ length (without n l) + 1
+length_without_one n l d = elim (has n l) as (λ b. has n l ≡ b → length l ≤ length (without n l) + 1) [
+  | true ↦ λ h. omega (arith, length-without n l d h)
+  | false ↦ λ h. rw (without_absent n l h) (omega arith)
+] refl
 
 length_bounded : (bound : ℕ) (l : List ℕ) → Distinct l → ((m : ℕ) → has m l ≡ true → m < bound) → length l ≤ bound
 length_bounded zero [] d below = omega arith
@@ -48,7 +46,7 @@ length_bounded (suc bound) l d below =
       | inl s ↦ absurd (true≢false (sym (rw (has-without m bound l, s.1) at h)))
       | inr o ↦ omega (arith, o.0, below m (rw (has-without m bound l, o.1) at h))
     ]) in
-    omega (arith, rest, length-without bound l d)
+    omega (arith, rest, length_without_one bound l d)
 
 tied : (a b : ℕ) → a ≡ b → eq_by_cmp nat_cmp a b ≡ true
 tied a b e = grind (arith, nat_tests)
@@ -127,11 +125,13 @@ module _ (nodes : Slab Node) (heads : Slab Heads) (owners : Owners) where
       by_case (Some j) = refl
 
   module _ {K : Type 0} (joints : Joints K) (home : ℕ → Option K) (lists : K → List ℕ) (family : IsFamily joints home lists) (housed : (n : ℕ) (k : K) → home n ≡ Some k → is_some (get nodes n) ≡ true) where
+    -- a list has at most as many nodes as the slab has slots
+    list_fits : (k : K) → length (lists k) ≤ length nodes.slots
+    list_fits k = length_bounded (length nodes.slots) (lists k) (family.rings k).distinct (λ m h. ContainsKey-within nodes m (housed m k (family.homes k m h)))
+
     -- the walk goes through the whole list
     walk_is : (k : K) → list_at nodes joints k ≡ lists k
-    walk_is k =
-        let room = length_bounded (length nodes.slots) (lists k) (family.rings k).distinct (λ m h. ContainsKey-within nodes m (housed m k (family.homes k m h))) in
-        walk_path (next_of joints k) (length nodes.slots) None (lists k) (family.rings k).path room
+    walk_is k = walk_path (next_of joints k) (length nodes.slots) None (lists k) (family.rings k).path (list_fits k)
 
     -- if the ends lead nowhere, the list is empty
     nothing_is : (k : K) → joints k None ≡ no_joint → lists k ≡ []
@@ -158,6 +158,10 @@ module _ (nodes : Slab Node) (heads : Slab Heads) (owners : Owners) where
         by_case : (o : Option Node) → node_number o ≡ Some k → is_some o ≡ true
         by_case None e = absurd (cc)
         by_case (Some d) e = refl
+
+    -- a queue has at most as many nodes as the slab has slots
+    pub queue_fits : (q : Queue) → length (queues q) ≤ length nodes.slots
+    queue_fits q = list_fits (queued_at nodes heads) _ queues links.queues_linked has_queue q
 
     pub queue_is : (q : Queue) → queue maps q ≡ queues q
     queue_is q = ap (λ o. list_of (unwrap_or o no_lists) q.kind) (record_in q.id) ∙ by_case (get heads q.id) refl

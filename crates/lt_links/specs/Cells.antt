@@ -1,4 +1,5 @@
--- The neighbors that the nodes in the slab and the ends of the lists store, and the changes to them.
+-- The neighbors that the nodes in the slab and the ends of the lists store, the stored lengths of the queues, and the
+-- changes to them.
 use Rattle.std.specs.Prelude.{◌≡◌, ◌≢◌, ◌⊎◌, ℕ, true, false, Option, Some, None, is_some, List, unwrap_or}
 use Rattle.std.specs.Ordering.{nat_cmp}
 use Rattle.std.specs.BTreeMap as tree
@@ -6,6 +7,7 @@ use Rattle.std.specs.BTreeMap.{BTreeMap}
 use Rattle.slab.specs.Slab.{Slab, get}
 use Rattle.lt_links.specs.declared.node.Joint.{Joint}
 use Rattle.lt_links.specs.declared.node.Node.{Node}
+use Rattle.lt_links.specs.declared.node.Head.{Head}
 use Rattle.lt_links.specs.declared.node.Heads.{Heads}
 use Rattle.lt_links.specs.declared.ids.Queue.{Queue}
 use Rattle.lt_links.specs.declared.ids.QueueKind.{QueueKind}
@@ -16,18 +18,47 @@ abbrev pub no_joint : Joint
 no_joint = record { prev = None; next = None }
 
 abbrev pub head_at : Heads → QueueKind → Joint
-head_at h Writers = h.writers
-head_at h Readers = h.readers
-head_at h Reservation = h.reservation
+head_at h Writers = h.writers.ends
+head_at h Readers = h.readers.ends
+head_at h Reservation = h.reservation.ends
 
 abbrev pub with_head : Heads → QueueKind → Joint → Heads
-with_head h Writers j = record h { writers = j }
-with_head h Readers j = record h { readers = j }
-with_head h Reservation j = record h { reservation = j }
+with_head h Writers j = record h { writers = record h.writers { ends = j } }
+with_head h Readers j = record h { readers = record h.readers { ends = j } }
+with_head h Reservation j = record h { reservation = record h.reservation { ends = j } }
 
 abbrev pub head_of : Option Heads → QueueKind → Joint
 head_of None kind = no_joint
 head_of (Some h) kind = head_at h kind
+
+-- the head of an empty queue
+abbrev pub empty_head : Head
+empty_head = record { ends = no_joint; len = 0 }
+
+abbrev pub len_in : Heads → QueueKind → ℕ
+len_in h Writers = h.writers.len
+len_in h Readers = h.readers.len
+len_in h Reservation = h.reservation.len
+
+abbrev pub with_len : Heads → QueueKind → ℕ → Heads
+with_len h Writers n = record h { writers = record h.writers { len = n } }
+with_len h Readers n = record h { readers = record h.readers { len = n } }
+with_len h Reservation n = record h { reservation = record h.reservation { len = n } }
+
+abbrev pub len_of : Option Heads → QueueKind → ℕ
+len_of None kind = 0
+len_of (Some h) kind = len_in h kind
+
+-- the stored length of a queue, or 0 if the record does not exist
+abbrev pub len_at : Slab Heads → Queue → ℕ
+len_at heads q = len_of (get heads q.id) q.kind
+
+-- One stored length is replaced. Every other length, the ends of every queue and the records stay.
+pub record SetsLen (heads heads' : Slab Heads) (q : Queue) (n : ℕ) : Type 0 where
+  pub here : len_at heads' q ≡ n
+  pub others : (p : Queue) → p ≢ q → len_at heads' p ≡ len_at heads p
+  pub ends_kept : (p : Queue) → head_of (get heads' p.id) p.kind ≡ head_of (get heads p.id) p.kind
+  pub heads_kept : (id : ℕ) → is_some (get heads' id) ≡ is_some (get heads id)
 
 abbrev pub queue_joint : Option Node → Joint
 queue_joint None = no_joint
@@ -105,6 +136,7 @@ module _ {K : Type 0} where
 pub record KeepsQueued (nodes : Slab Node) (heads : Slab Heads) (nodes' : Slab Node) (heads' : Slab Heads) : Type 0 where
   pub nodes_kept : (n : ℕ) → unqueued (get nodes' n) ≡ unqueued (get nodes n)
   pub heads_kept : (id : ℕ) → is_some (get heads' id) ≡ is_some (get heads id)
+  pub lens_kept : (q : Queue) → len_at heads' q ≡ len_at heads q
 
 abbrev pub JoinsQueued : Slab Node → Slab Heads → Slab Node → Slab Heads → Queue → Option ℕ → Option ℕ → Type 0
 JoinsQueued = JoinsPlaces queued_at KeepsQueued

@@ -12,6 +12,7 @@ pub KeepsQueued-twice : (a b c : Slab Node) (d e f : Slab Heads) → KeepsQueued
 KeepsQueued-twice a b c d e f one two = record {
   nodes_kept = λ n. two.nodes_kept n ∙ one.nodes_kept n;
   heads_kept = λ id. two.heads_kept id ∙ one.heads_kept id;
+  lens_kept = λ q. two.lens_kept q ∙ one.lens_kept q;
 }
 
 unqueued_there : (x : Option Node) → is_some (unqueued x) ≡ is_some x

@@ -8,7 +8,7 @@ use Rattle.lt_links.specs.declared.stand.Stand.{Stand}
 use Rattle.lt_links.specs.declared.ids.Queue.{Queue}
 use Rattle.lt_links.specs.declared.ids.QueueKind.TheVariants.{Writers, Readers, Reservation}
 use Rattle.lt_links.specs.Ring.{Link}
-use Rattle.lt_links.specs.Cells.{Joints, next_of, queued_at, owned_at, Owners, ends_of, IsFamily}
+use Rattle.lt_links.specs.Cells.{Joints, next_of, queued_at, owned_at, len_at, Owners, ends_of, IsFamily}
 use Rattle.lt_links.specs.Maps.{Maps, Lists}
 
 abbrev follow : (Option ℕ → List ℕ) → Option ℕ → List ℕ
@@ -58,7 +58,9 @@ pub record Links (nodes : Slab Node) (heads : Slab Heads) (owners : Owners) (que
   pub owners_there : (n number : ℕ) → node_number (get nodes n) ≡ Some number → is_some (ends_of owners number) ≡ true
   pub owners_needed : (number : ℕ) → is_some (ends_of owners number) ≡ true → numbers number ≢ []
 
+-- There are lists through which the links lead, and the stored length of each queue is the length of its list.
 pub record IsLinked (nodes : Slab Node) (heads : Slab Heads) (owners : Owners) : Type 0 where
   pub queues : Queue → List ℕ
   pub numbers : ℕ → List ℕ
   pub links : Links nodes heads owners queues numbers
+  pub lens : (q : Queue) → len_at heads q ≡ length (queues q)

@@ -1,11 +1,11 @@
 //! What can a caller do with the linked queues? [`Links`] has the calls; its contracts see three maps, which
 //! `specs/Maps.antt` defines. Read `ends.rt` next, which changes the links of a list.
-ghost use Rattle.std.specs.Prelude.{◌≡◌};
+ghost use Rattle.std.specs.Prelude.{◌≡◌, length};
 
 use crate::ends::{join, link};
 use crate::node::{Heads, Joint, Node};
 use crate::owners::{follow_last, owner_ends, push_owner, unlink_owned};
-use crate::queues::queued;
+use crate::queues::{count_in, count_out, queued, stored_len};
 use crate::{NodeId, Queue, RecordId, Stand};
 use slab::Slab;
 use std::alloc::{AllocError, Global};
@@ -77,6 +77,15 @@ impl Links {
         ensures sound { IsSound self.new }
     {
         self.heads.remove(id.key());
+    }
+
+    /// How many nodes a queue has. Takes constant time.
+    pub fn len(&self, queue: Queue) -> usize
+        requires { has_record self.now queue.id ≡ true }
+        ensures len { result ≡ length (queue_of self.now queue) }
+        ensures sound { IsSound self.now }
+    {
+        stored_len(&self.heads, &queue)
     }
 
     /// The first node of a queue.
@@ -190,6 +199,7 @@ impl Links {
             place.owned.prev,
             place.owned.next,
         );
+        count_out(&mut self.heads, &place.queue);
         self.nodes.remove(key).stand
     }
 
@@ -212,6 +222,8 @@ impl Links {
         self.nodes[key].queue = queue;
         let first = queued(&self.nodes, &self.heads, &queue, None).next;
         link(&mut self.heads, &mut self.nodes, &queue, None, first, key);
+        count_out(&mut self.heads, &place.queue);
+        count_in(&mut self.heads, &self.nodes, &queue);
     }
 
     /// Puts a queue entry at the front of a queue, and at the end of its number's list. After an error, nothing
@@ -264,6 +276,7 @@ impl Links {
         let next = queued(&self.nodes, &self.heads, queue, at).next;
         link(&mut self.heads, &mut self.nodes, queue, at, next, key);
         follow_last(&mut self.nodes, last, key);
+        count_in(&mut self.heads, &self.nodes, queue);
         Ok(NodeId::new(key))
     }
 }

@@ -16,12 +16,22 @@ pub(crate) struct Node {
     pub owned: Joint,
 }
 
-/// The ends of a record's three queues.
+/// What a record stores of one queue.
+#[derive(Clone, Copy, Debug, PartialEq, Eq)]
+pub(crate) struct Head {
+    /// The first node of the queue is `next`, and the last is `prev`.
+    pub ends: Joint,
+    /// How many nodes the queue has. A call that puts a node into the queue adds one. A call that takes a node out
+    /// takes one off. So no call walks a queue to learn its length.
+    pub len: usize,
+}
+
+/// A record stores the ends and the length of each of its three queues.
 #[derive(Clone, Copy, Debug, PartialEq, Eq)]
 pub(crate) struct Heads {
-    pub writers: Joint,
-    pub readers: Joint,
-    pub reservation: Joint,
+    pub writers: Head,
+    pub readers: Head,
+    pub reservation: Head,
 }
 
 impl Node {
@@ -49,20 +59,23 @@ impl Node {
 
 impl Heads {
     ghost use Rattle.std.specs.Prelude.{◌≡◌};
-    ghost use Rattle.lt_links.specs.Cells.{no_joint};
+    ghost use Rattle.lt_links.specs.Cells.{empty_head};
 
-    /// The ends of three empty queues.
+    /// The heads of three empty queues.
     pub(crate) fn new() -> Heads
-        ensures { result ≡ record { writers = no_joint; readers = no_joint; reservation = no_joint } }
+        ensures { result ≡ record { writers = empty_head; readers = empty_head; reservation = empty_head } }
     {
-        let ends = Joint {
-            prev: None,
-            next: None,
+        let empty = Head {
+            ends: Joint {
+                prev: None,
+                next: None,
+            },
+            len: 0,
         };
         Heads {
-            writers: ends,
-            readers: ends,
-            reservation: ends,
+            writers: empty,
+            readers: empty,
+            reservation: empty,
         }
     }
 }

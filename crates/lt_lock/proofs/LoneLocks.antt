@@ -1,5 +1,5 @@
 -- The table with one lock, for which nobody waits: its records, and one step of each call.
-use Rattle.std.proofs.Common.{◌≡◌, ◌≢◌, ℕ, Bool, true, false, ◌&&◌, ◌||◌, not, is_none, is_some, nat_eq, cond, List, [], ◌∷◌, Option, Some, None, unwrap_or, nat_lt, nat_le, refl, sym, ap, ◌∙◌, IsSome, IfSome, subst, arith, inl, inr}
+use Rattle.std.proofs.Common.{◌≡◌, ◌≢◌, ◌≤◌, ℕ, Bool, true, false, ◌&&◌, ◌||◌, not, is_some, nat_eq, cond, List, [], ◌∷◌, Option, Some, None, unwrap_or, nat_lt, nat_le, refl, sym, ap, ◌∙◌, IsSome, IfSome, subst, arith, inl, inr}
 use mathlib.Core.Bool.{true≢false}
 use Rattle.std.proofs.lemmas.Bool.Decides.{nat_tests}
 use Rattle.std.specs.Str.{bytes_eq}
@@ -11,23 +11,26 @@ use Rattle.std.specs.FinMap.{get, get-empty, get-from_entries}
 use Rattle.lt_ids.specs.declared.ticket.Through.{Through}
 use Rattle.lt_ids.specs.declared.request.Access.{Access}
 use Rattle.lt_ids.specs.declared.request.Access.TheVariants.{Read, Write}
-use Rattle.lt_ids.specs.Ids.{is_below}
-use Rattle.lt_plain.specs.declared.queued.Holder.{Holder}
-use Rattle.lt_plain.specs.declared.queued.QueuedRequest.{QueuedRequest}
-use Rattle.lt_plain.specs.declared.call.Call.TheVariants.{Acquire}
-use Rattle.lt_plain.specs.declared.call.Reply.{Reply}
-use Rattle.lt_plain.specs.declared.call.Reply.TheVariants.{Passed, MustWait, Other, Freed, Absent, Nothing}
-use Rattle.lt_plain.specs.Rules.{Record, empty, is_empty, is_txn, Outcome, IsOutcome, TakesNoMemory, unchanged, finish, leave}
-use Rattle.lt_plain.specs.Step.{look}
-use Rattle.lt_plain.proofs.Rising.{keys-from_entries}
+use Rattle.lt_ids.specs.declared.timestamp.Timestamp.{Timestamp}
+use Rattle.lt_ids.specs.Ids.{Wait, is_below}
+use Rattle.lt_rules.specs.declared.queued.Holder.{Holder}
+use Rattle.lt_rules.specs.declared.queued.QueuedRequest.{QueuedRequest}
+use Rattle.lt_rules.specs.declared.call.Call.{Call}
+use Rattle.lt_rules.specs.declared.call.Call.TheVariants.{Visit, Acquire, Update, Finish, Leave, Look}
+use Rattle.lt_rules.specs.declared.call.Reply.{Reply}
+use Rattle.lt_rules.specs.declared.call.Reply.TheVariants.{Passed, MustWait, Other, Freed, Nothing}
+use Rattle.lt_rules.specs.Rules.{Record, empty, is_empty, is_txn, Outcome, IsOutcome, NeedsNoMemory, TakesNoMemory, unchanged}
+use Rattle.lt_rules.specs.Step.{step, look}
+use Rattle.lt_rules.specs.Memory.{how_many, MayLack, HasRoom}
+use Rattle.lt_rules.proofs.Rising.{keys-from_entries}
 use Rattle.std.specs.List.Sorted.{IsStrictlySortedBy}
-use Rattle.lt_plain.specs.Visit.{visit, pass, settled, wait_to_read}
-use Rattle.lt_plain.specs.Table.{Records, record_at, AreSound, IsKept, IsStep}
-use Rattle.lt_plain.specs.Lawful.{IsLawful}
-use Rattle.lt_plain.proofs.Lawfulness.{step_keeps_lawful, empty_is_lawful}
-use Rattle.lt_plain.proofs.Maps.{order, same_records, same_or_apart, is_apart}
+use Rattle.lt_rules.specs.Visit.{visit, pass, settled, wait_to_read}
+use Rattle.lt_rules.specs.Table.{Records, record_at, AreSound, IsKept, IsStep}
+use Rattle.lt_rules.specs.Lawful.{IsLawful}
+use Rattle.lt_rules.proofs.Lawfulness.{step_keeps_lawful, empty_is_lawful}
+use Rattle.lt_rules.proofs.Maps.{order, same_records, same_or_apart, is_apart}
 use Rattle.lt_lock.specs.declared.lone.LoneLock.{LoneLock}
-use Rattle.lt_lock.specs.Lone.{held, with_lone, is_lone_at, is_lone_of, passes_held, passes_lone, IsWithLone}
+use Rattle.lt_lock.specs.Lone.{held, with_lone, passes_held, IsWithLone, MustQueue, NeedsRows}
 
 -- the records of a table in which one key has a record
 abbrev pub one : List ℕ → Record → Records
@@ -155,12 +158,13 @@ same_key b a k test e = (bytes_eq-Decides a k).0 (turn (bytes_eq a k) (sym test 
     turn true e = refl
     turn false e = absurd (true≢false e)
 
+-- the outcome of the opposite test
+pub turn : (b : Bool) → not b ≡ true → b ≡ false
+turn false e = refl
+turn true e = absurd (true≢false (sym e))
+
 other_key : (a k : List ℕ) → bytes_eq a k ≡ false → k ≢ a
 other_key a k e s = true≢false (sym ((bytes_eq-Decides a k).1 (sym s)) ∙ e)
-
-pub none_of : {A : Type 0} (o : Option A) → is_none o ≡ true → o ≡ None
-none_of None e = refl
-none_of (Some x) e = absurd (true≢false (sym e))
 
 -- a statement on the record of any key, if it holds of the lone lock's and of the empty one
 lone_record : (l : LoneLock) (key : List ℕ) (P : Record → Type 0) → (bytes_eq l.key key ≡ true → P (held l.holder)) → (bytes_eq l.key key ≡ false → P empty) → P (record_at (one l.key (held l.holder)) key)
@@ -168,36 +172,6 @@ lone_record l key P here other = elim (bytes_eq l.key key) as (λ b. bytes_eq l.
   | true ↦ λ e. subst P (sym (subst (λ k. record_at (one l.key (held l.holder)) k ≡ held l.holder) ((bytes_eq-Decides l.key key).0 e) (record_here l.key (held l.holder)))) (here e)
   | false ↦ λ e. subst P (sym (record_other l.key (held l.holder) key (other_key l.key key e))) (other e)
 ] refl
-
--- a step that changes nothing, at any key
-lone_kept : (l : LoneLock) (key : List ℕ) (act : Record → Outcome) (reply : Reply) → (bytes_eq l.key key ≡ true → act (held l.holder) ≡ unchanged (held l.holder) reply) → (bytes_eq l.key key ≡ false → act empty ≡ unchanged empty reply) → IsStep (one l.key (held l.holder)) key act reply [] (one l.key (held l.holder))
-lone_kept l key act reply here other = kept_step (one l.key (held l.holder)) key act reply (lone_record l key (λ r. act r ≡ unchanged r reply) here other)
-
-both_true : (a b : Bool) → (a && b) ≡ true → (a ≡ true) × (b ≡ true)
-both_true true b e = (refl, e)
-both_true false b e = absurd (true≢false (sym e))
-
-second_false : (a b : Bool) → (a && b) ≡ false → a ≡ true → b ≡ false
-second_false true b e t = e
-second_false false b e t = absurd (true≢false (sym t))
-
--- the holder frees the lone lock
-pub free_lone : (lone : Option LoneLock) (key : List ℕ) (txn : ℕ) → is_lone_of lone key txn ≡ true → (records : Records) → IsStep (with_lone lone records) key (λ r. finish r txn) Freed [] finmap.empty
-free_lone None key txn e records = absurd (true≢false (sym e))
-free_lone (Some l) key txn e records =
-    let is = both_true (bytes_eq l.key key) (nat_eq l.holder.txn txn) e in
-    subst (λ k. IsStep (one l.key (held l.holder)) k (λ r. finish r txn) Freed [] finmap.empty) ((bytes_eq-Decides l.key key).0 is.0)
-    (freed_step l.key (λ r. finish r txn) Freed (held l.holder) (rw (is.1) (record { moved = refl; replied = refl; let_through = refl })))
-
--- who does not have the lone lock frees nothing
-pub finish_other : (lone : Option LoneLock) (records : Records) (key : List ℕ) (txn : ℕ) → is_none lone ≡ false → is_lone_of lone key txn ≡ false → IsStep (with_lone lone records) key (λ r. finish r txn) Other [] (with_lone lone records)
-finish_other None records key txn some e = absurd (true≢false some)
-finish_other (Some l) records key txn some e = lone_kept l key (λ r. finish r txn) Other (λ here. rw (second_false _ _ e here) refl) (λ other. refl)
-
--- nobody waits for the lone lock, so nobody leaves it
-pub leave_lone : (lone : Option LoneLock) (records : Records) (key : List ℕ) (n : ℕ) → is_some lone ≡ true → IsStep (with_lone lone records) key (λ r. leave r n) Absent [] (with_lone lone records)
-leave_lone None records key n some = absurd (true≢false (sym some))
-leave_lone (Some l) records key n some = lone_kept l key (λ r. leave r n) Absent (λ here. refl) (λ other. refl)
 
 pub look_lone : (lone : Option LoneLock) (records : Records) (key : List ℕ) (n : ℕ) → is_some lone ≡ true → Nothing ≡ look (record_at (with_lone lone records) key) n
 look_lone None records key n some = absurd (true≢false (sym some))
@@ -210,27 +184,6 @@ record_lone l key e = lone_record l key (λ r. held l.holder ≡ r) (λ here. re
 pub record_apart : (l : LoneLock) (key : List ℕ) → bytes_eq l.key key ≡ false → empty ≡ record_at (one l.key (held l.holder)) key
 record_apart l key e = lone_record l key (λ r. empty ≡ r) (λ here. absurd (true≢false (sym here ∙ e))) (λ other. refl)
 
-pub empty_elsewhere : (lone : Option LoneLock) (records : Records) (key : List ℕ) → IsSome lone → is_lone_at lone key ≡ false → record_at (with_lone lone records) key ≡ empty
-empty_elsewhere None records key some e = absurd (true≢false (sym some))
-empty_elsewhere (Some l) records key some e = sym (record_apart l key e)
-
--- a step that changes nothing, at another key than the lone lock's
-pub kept_elsewhere : (lone : Option LoneLock) (records : Records) (key : List ℕ) (act : Record → Outcome) (reply : Reply) → IsSome lone → is_lone_at lone key ≡ false → act empty ≡ unchanged empty reply → IsStep (with_lone lone records) key act reply [] (with_lone lone records)
-kept_elsewhere lone records key act reply some e same = kept_step_none (with_lone lone records) key act reply (empty_elsewhere lone records key some e) same
-
--- the visits that pass while there is a lone lock, and those that do not
-pub pass_lone : (lone : Option LoneLock) (records : Records) (key : List ℕ) (q : QueuedRequest) (longest : ℕ) (access : Access) → passes_lone lone key q.txn q.ts access ≡ true → IsStep (with_lone lone records) key (λ r. visit r q longest access) Passed [] (with_lone lone records)
-pass_lone None records key q longest access e = absurd (true≢false (sym e))
-pass_lone (Some l) records key q longest access e = lone_kept l key (λ r. visit r q longest access) Passed
-    (λ here. passes_here l.holder q longest access (rw here at e))
-    (λ other. refl)
-
-pub wait_lone : (lone : Option LoneLock) (records : Records) (key : List ℕ) (q : QueuedRequest) (longest : ℕ) (access : Access) → IsSome lone → passes_lone lone key q.txn q.ts access ≡ false → TakesNoMemory (record_at (with_lone lone records) key) (visit (record_at (with_lone lone records) key) q longest access) → ⊥
-wait_lone None records key q longest access some e = absurd (true≢false (sym some))
-wait_lone (Some l) records key q longest access some e = lone_record l key (λ r. TakesNoMemory r (visit r q longest access) → ⊥)
-    (λ here t. rw (waits_here l.holder q longest access (rw here at e)) at t)
-    (λ other t. absurd (true≢false (rw other at e)))
-
 pub keys_one : (k : List ℕ) (r : Record) → finmap.keys (one k r) ≡ k ∷ []
 unfolding IsStrictlySortedBy
 keys_one k r = keys-from_entries ((k, r) ∷ []) (tt, tt)
@@ -238,3 +191,86 @@ keys_one k r = keys-from_entries ((k, r) ∷ []) (tt, tt)
 pub some_unless : {A : Type 0} (o : Option A) → (o ≡ None → ⊥) → IsSome o
 some_unless None not_none = absurd (not_none refl)
 some_unless (Some x) not_none = refl
+
+-- an outcome that changes nothing
+pub unchanged_outcome : (o : Outcome) (r : Record) (reply : Reply) → o ≡ unchanged r reply → IsOutcome o r reply []
+unchanged_outcome o r reply same = record {
+  moved = sym (ap (λ x. x.after) same);
+  replied = sym (ap (λ x. x.reply) same);
+  let_through = sym (ap (λ x. x.lets) same);
+}
+
+-- ---- a call at the key of the lone lock
+
+pub visit_passes : (h : Holder) (ticket : Wait) (txn : Option ℕ) (ts : Timestamp) (access : Access) (longest : ℕ) → passes_held h txn ts access ≡ true → (pass : ℕ) → IsOutcome (step (held h) pass (Visit ticket txn ts access longest)) (held h) Passed []
+visit_passes h ticket txn ts access longest e pass = unchanged_outcome _ (held h) Passed (passes_here h (record { ticket = ticket; txn = txn; ts = ts; pass = pass }) longest access e)
+
+pub visit_queues : (h : Holder) (ticket : Wait) (txn : Option ℕ) (ts : Timestamp) (access : Access) (longest : ℕ) → passes_held h txn ts access ≡ false → MustQueue (held h) (Visit ticket txn ts access longest)
+visit_queues h ticket txn ts access longest e pass = waits_here h (record { ticket = ticket; txn = txn; ts = ts; pass = pass }) longest access e
+
+pub finish_frees : (h : Holder) (txn : ℕ) → nat_eq h.txn txn ≡ true → (pass : ℕ) → IsOutcome (step (held h) pass (Finish txn)) empty Freed []
+finish_frees h txn own pass = rw own (record { moved = refl; replied = refl; let_through = refl })
+
+pub finish_other : (h : Holder) (txn : ℕ) → nat_eq h.txn txn ≡ false → (pass : ℕ) → IsOutcome (step (held h) pass (Finish txn)) (held h) Other []
+finish_other h txn other pass = rw other (record { moved = refl; replied = refl; let_through = refl })
+
+-- ---- the calls that need a row
+
+-- a call that has to queue at this record
+queueing : (r : Record) (call : Call) → MustQueue r call → ((pass : ℕ) → TakesNoMemory r (step r pass call) → ⊥) × ((room : ℕ) → MayLack r call room)
+queueing r (Visit ticket txn ts access longest) must = (
+  λ pass t. subst (λ reply. NeedsNoMemory reply (r.reservation ≡ (step r pass (Visit ticket txn ts access longest)).after.reservation)) (must pass) t,
+  λ room. tt,
+)
+queueing r (Acquire txn ts) must = absurd must
+queueing r (Update txn ts) must = absurd must
+queueing r (Finish txn) must = absurd must
+queueing r (Leave number) must = absurd must
+queueing r (Look number) must = absurd must
+
+-- an acquire of a key that has no record
+pub taking : (h : Holder) (call : Call) → call ≡ Acquire h.txn h.ts → ((pass : ℕ) → TakesNoMemory empty (step empty pass call) → ⊥) × ((room : ℕ) → MayLack empty call room)
+taking h call is = rw is (λ pass t. t, λ room. inl refl)
+
+pub no_lone_needs : (key : List ℕ) (call : Call) → NeedsRows None key call
+no_lone_needs key call some = absurd (true≢false (sym some))
+
+pub lone_queues : (l : LoneLock) (key : List ℕ) (call : Call) → l.key ≡ key → MustQueue (held l.holder) call → NeedsRows (Some l) key call
+lone_queues l key call here must some = subst (λ k. ((pass : ℕ) → TakesNoMemory (record_at (one l.key (held l.holder)) k) (step (record_at (one l.key (held l.holder)) k) pass call) → ⊥) × ((room : ℕ) → MayLack (record_at (one l.key (held l.holder)) k) call room)) here
+    (subst (λ r. ((pass : ℕ) → TakesNoMemory r (step r pass call) → ⊥) × ((room : ℕ) → MayLack r call room)) (sym (record_here l.key (held l.holder))) (queueing (held l.holder) call must))
+
+pub lone_takes : (l : LoneLock) (key : List ℕ) (call : Call) (h : Holder) → bytes_eq l.key key ≡ false → call ≡ Acquire h.txn h.ts → NeedsRows (Some l) key call
+lone_takes l key call h other is some =
+    subst (λ r. ((pass : ℕ) → TakesNoMemory r (step r pass call) → ⊥) × ((room : ℕ) → MayLack r call room)) (record_apart l key other) (taking h call is)
+
+-- a step that changes nothing, at another key than the lone lock's
+pub kept_elsewhere : (l : LoneLock) (key : List ℕ) (act : Record → Outcome) (reply : Reply) → bytes_eq l.key key ≡ false → act empty ≡ unchanged empty reply → IsStep (one l.key (held l.holder)) key act reply [] (one l.key (held l.holder))
+kept_elsewhere l key act reply other same = kept_step_none (one l.key (held l.holder)) key act reply (sym (record_apart l key other)) same
+
+-- ---- room for lets
+
+-- nobody queues while there is no row, so any list has room
+pub lone_room : (lone : Option LoneLock) (room : ℕ) → HasRoom (with_lone lone finmap.empty) room
+lone_room None room q = subst (λ r. how_many r ≤ room) (sym (record_none q)) (omega arith)
+lone_room (Some l) room q = elim (same_or_apart q l.key) [
+  | inl s ↦ subst (λ r. how_many r ≤ room) (sym (ap (record_at (one l.key (held l.holder))) s.0 ∙ record_here l.key (held l.holder))) (omega arith)
+  | inr d ↦ subst (λ r. how_many r ≤ room) (sym (record_other l.key (held l.holder) q d.0)) (omega arith)
+]
+
+-- nobody is queued while there is a lone lock
+pub lone_writers : (lone : Option LoneLock) (records : Records) (key : List ℕ) → is_some lone ≡ true → (record_at (with_lone lone records) key).writers ≡ []
+lone_writers None records key some = absurd (true≢false (sym some))
+lone_writers (Some l) records key some = lone_record l key (λ r. r.writers ≡ []) (λ here. refl) (λ other. refl)
+
+pub lone_readers : (lone : Option LoneLock) (records : Records) (key : List ℕ) → is_some lone ≡ true → (record_at (with_lone lone records) key).readers ≡ []
+lone_readers None records key some = absurd (true≢false (sym some))
+lone_readers (Some l) records key some = lone_record l key (λ r. r.readers ≡ []) (λ here. refl) (λ other. refl)
+
+-- a call that answers at a key without a record, and is made at another key than the lone lock's
+pub answered_elsewhere : (l : LoneLock) (key : List ℕ) (call : Call) (reply : Reply) → bytes_eq l.key key ≡ false → ((pass : ℕ) → step empty pass call ≡ unchanged empty reply) → (pass : ℕ) → IsStep (one l.key (held l.holder)) key (λ r. step r pass call) reply [] (one l.key (held l.holder))
+answered_elsewhere l key call reply other answers pass = kept_step_none (one l.key (held l.holder)) key (λ r. step r pass call) reply (sym (record_apart l key other)) (answers pass)
+
+-- nobody waits in a table without rows
+pub nobody_waits : (lone : Option LoneLock) (room : ℕ) → HasRoom (with_lone lone finmap.empty) room
+nobody_waits None room q = subst (λ r. how_many r ≤ room) (sym (record_none q)) (omega arith)
+nobody_waits (Some l) room q = lone_record l q (λ r. how_many r ≤ room) (λ here. omega arith) (λ other. omega arith)

@@ -4,14 +4,17 @@ use mathlib.Core.Bool.{true≢false}
 use Rattle.std.proofs.lemmas.Bool.Decides.{nat_tests}
 use Rattle.std.proofs.lemmas.Result.{IfOk-weaker}
 use Rattle.std.specs.Option.{option_map}
-use Rattle.std.specs.Result.{IfOk, OnOk, OnErr}
+use Rattle.std.specs.Result.{IfOk, OnErr}
 use Rattle.std.specs.declared.result.Result.{Result}
 use Rattle.std.specs.declared.result.Result.TheVariants.{Ok, Err}
 use Rattle.std.specs.Cmp.Lexicographic.{nat_list_cmp_total}
-use Rattle.std.specs.FinMap.{get, find, keys, gets, get-from_entries, get-remove}
-use Rattle.std.specs.BTreeMap as tree
-use Rattle.std.specs.List.Sorted.{IsStrictlySortedBy}
-use Rattle.std.specs.BTreeMap.{is_at, UpdatesBy}
+use Rattle.std.specs.FinMap as finmap
+use Rattle.std.specs.FinMap.{get, find, gets, from_entries, get-empty, get-from_entries, get-remove}
+use Rattle.std.specs.Cmp.{eq_by_cmp_equiv}
+use Rattle.std.specs.HashMap as hash
+use Rattle.std.specs.HashMap.{UpdatesBy}
+use Rattle.std.specs.Str.{bytes_eq}
+use Rattle.std.specs.Cmp.Lexicographic.{texts_ties}
 use Rattle.std.specs.Map.{lookup}
 use Rattle.lt_ids.specs.declared.ticket.Through.{Through}
 use Rattle.lt_links.specs.declared.ids.Queue.{Queue}
@@ -20,45 +23,38 @@ use Rattle.lt_links.specs.declared.ids.QueueKind.TheVariants.{Writers, Readers, 
 use Rattle.lt_links.specs.Maps.{Maps, queue, stand, has_record, IsEmpty, AddsRecord, DropsRecord, IsSound, no_maps}
 use Rattle.lt_links.proofs.Rings.{is_itself}
 use Rattle.lt_links.proofs.Rings as rings
-use Rattle.lt_plain.specs.declared.queued.Holder.{Holder}
-use Rattle.lt_plain.specs.declared.call.Reply.{Reply}
-use Rattle.lt_plain.specs.declared.call.Reply.TheVariants.{Taken}
-use Rattle.lt_plain.specs.Rules.{Record, empty, is_empty, Outcome, unchanged, take_lock}
-use Rattle.lt_plain.specs.Table.{record_at, with_record, AreSound, IsKept, IsStep}
-use Rattle.lt_plain.specs.Lawful.{IsLawful}
-use Rattle.lt_plain.proofs.Rising.{keys-from_entries}
-use Rattle.lt_plain.proofs.Maps.{order, same_records, same_or_apart, is_apart, kept_record, others_dropped, sound_filled}
+use Rattle.lt_rules.specs.declared.queued.Holder.{Holder}
+use Rattle.lt_rules.specs.declared.call.Reply.{Reply}
+use Rattle.lt_rules.specs.declared.call.Reply.TheVariants.{Taken}
+use Rattle.lt_rules.specs.Rules.{Record, empty, is_empty, Outcome, unchanged, take_lock}
+use Rattle.lt_rules.specs.Table.{Records, record_at, with_record, AreSound, IsKept, IsStep}
+use Rattle.lt_rules.specs.Lawful.{IsLawful}
+use Rattle.lt_rules.specs.Memory.{how_many, HasRoom}
+use Rattle.lt_rules.proofs.Rooms.{room_stepped}
+use Rattle.lt_rules.proofs.Maps.{order, same_records, same_or_apart, is_apart, kept_record, here_dropped, others_dropped, sound_filled}
 use Rattle.lt_row.specs.declared.row.Row.{Row}
 use Rattle.lt_row.specs.Row.{request_of, writer_of, no_stand, stand_at, stands_at, line, queue_at, record_of, HasQueues}
 use Rattle.lt_row.specs.RowStepped.{KeepsOthers, IsRow, RowStepped}
 use Rattle.lt_row.proofs.Records.{new_linked, new_record}
 use Rattle.lt_lock.specs.Linked.{Rows, row_at, records_of, IsUsed, AreLinked, IsTable, IsEmptied, emptied_id}
 
+-- the test of a map's keys does not pass another key
+is_other : (q k : List ℕ) → q ≢ k → bytes_eq k q ≡ false
+is_other q k apart = texts_ties k q ∙ is_apart q k apart
+
 -- a lookup among mapped values finds the image of what it found before
-find_mapped : {V X : Type 0} (g : V → X) (k : List ℕ) (es : List (List ℕ × V)) → find order k (map (λ e. (e.0, g e.1)) es) ≡ option_map g (lookup (is_at (order k)) es)
+find_mapped : {V X : Type 0} (g : V → X) (k : List ℕ) (es : List (List ℕ × V)) → find order k (map (λ e. (e.0, g e.1)) es) ≡ option_map g (lookup (bytes_eq k) es)
 find_mapped g k [] = refl
-find_mapped g k (e ∷ es) = elim (is_at (order k) e.0) as (λ b. cond b (Some (g e.1)) (find order k (map (λ e. (e.0, g e.1)) es)) ≡ option_map g (cond b (Some e.1) (lookup (is_at (order k)) es))) [
-  | true ↦ refl
-  | false ↦ find_mapped g k es
-]
+find_mapped g k (e ∷ es) =
+    ap (λ b. cond b (Some (g e.1)) (find order k (map (λ e. (e.0, g e.1)) es))) (sym (texts_ties k e.0))
+    ∙ (elim (bytes_eq k e.0) as (λ b. cond b (Some (g e.1)) (find order k (map (λ e. (e.0, g e.1)) es)) ≡ option_map g (cond b (Some e.1) (lookup (bytes_eq k) es))) [
+      | true ↦ refl
+      | false ↦ find_mapped g k es
+    ])
 
 -- a key's record is the one that its row and the links give
 pub get_of : (m : Maps) (rows : Rows) (k : List ℕ) → get (records_of m rows) k ≡ option_map (record_of m) (row_at rows k)
 get_of m rows k = get-from_entries nat_list_cmp_total (map (λ e. (e.0, record_of m e.1)) rows.entries) k ∙ find_mapped (record_of m) k rows.entries
-
--- the keys that have a record are exactly those that have a row, in rising order
-pub keys_of : (m : Maps) (rows : Rows) → IsStrictlySortedBy order (tree.keys rows) → keys (records_of m rows) ≡ tree.keys rows
-keys_of m rows rising =
-    keys-from_entries (map (λ (e : List ℕ × Row). (e.0, record_of m e.1)) rows.entries) (subst (IsStrictlySortedBy order) (sym (firsts (record_of m) rows.entries)) rising)
-    ∙ firsts (record_of m) rows.entries
-  where
-    firsts : {V X : Type 0} (g : V → X) (es : List (List ℕ × V)) → map (λ (e : List ℕ × X). e.0) (map (λ (e : List ℕ × V). (e.0, g e.1)) es) ≡ map (λ (e : List ℕ × V). e.0) es
-    firsts g [] = refl
-    firsts g (e ∷ es) = ap (λ ks. e.0 ∷ ks) (firsts g es)
-
-pub keys_told : {A E : Type 0} (m : Maps) (rows : Rows) (items : A → List (List ℕ)) (r : Result A E) → IfOk r (λ all. items all ≡ tree.keys rows) → OnOk r (IsStrictlySortedBy order (tree.keys rows)) → IfOk r (λ all. items all ≡ keys (records_of m rows))
-keys_told m rows items (Ok all) are rising = are ∙ sym (keys_of m rows rising)
-keys_told m rows items (Err e) are rising = tt
 
 -- the record of a row that a lookup finds
 pub found : (m : Maps) (rows : Rows) (k : List ℕ) (r : Row) → Some r ≡ row_at rows k → record_at (records_of m rows) k ≡ record_of m r
@@ -71,7 +67,20 @@ nil_of : {X : Type 0} (xs : List X) → length xs ≡ 0 → xs ≡ []
 nil_of [] e = refl
 nil_of (x ∷ xs) e = absurd (omega arith)
 
--- a map without entries has no row
+-- a map of records without a record has no row
+rows_of_none : (m : Maps) (es : List (List ℕ × Row)) → from_entries {R = order} (map (λ e. (e.0, record_of m e.1)) es) ≡ finmap.empty → length es ≡ 0
+rows_of_none m [] none = refl
+rows_of_none m (e ∷ es) none =
+    let some : find order e.0 (map (λ x. (x.0, record_of m x.1)) (e ∷ es)) ≡ Some (record_of m e.1) = rw ((eq_by_cmp_equiv nat_list_cmp_total).refl e.0) refl in
+    let gone : None ≡ Some (record_of m e.1) = sym (get-empty order e.0) ∙ ap (λ x. get x e.0) (sym none) ∙ get-from_entries nat_list_cmp_total (map (λ x. (x.0, record_of m x.1)) (e ∷ es)) e.0 ∙ some in
+    absurd cc
+
+pub no_rows : (m : Maps) (rows : Rows) → records_of m rows ≡ finmap.empty → length rows.entries ≡ 0
+no_rows m rows none = rows_of_none m rows.entries none
+
+pub no_records : (m : Maps) (rows : Rows) → length rows.entries ≡ 0 → records_of m rows ≡ finmap.empty
+no_records m rows e = rw (nil_of rows.entries e) refl
+
 pub no_row : (rows : Rows) (k : List ℕ) → length rows.entries ≡ 0 → None ≡ row_at rows k
 no_row rows k e = rw (nil_of rows.entries e) refl
 
@@ -129,10 +138,10 @@ module _ (old new : Maps) (rows after : Rows) (same : (q : List ℕ) → row_at 
   }
 
 -- One key's row is replaced or dropped, and the other rows' queues are as before.
-module _ (old new : Maps) (rows after : Rows) (k : List ℕ) (w : Option Row) (u : UpdatesBy order (order k) rows after w) (stays : (q : List ℕ) (r : Row) → q ≢ k → row_at rows q ≡ Some r → Stays old new r.id) where
+module _ (old new : Maps) (rows after : Rows) (k : List ℕ) (w : Option Row) (u : UpdatesBy bytes_eq (bytes_eq k) rows after w) (stays : (q : List ℕ) (r : Row) → q ≢ k → row_at rows q ≡ Some r → Stays old new r.id) where
   -- the other keys' records are as before
   others_written : (q : List ℕ) → q ≢ k → get (records_of new after) q ≡ get (records_of old rows) q
-  others_written q apart = get_of new after q ∙ ap (option_map (record_of new)) (u.2 q (is_apart q k apart)) ∙ option_stays old new (row_at rows q) (λ r. stays q r apart) ∙ sym (get_of old rows q)
+  others_written q apart = get_of new after q ∙ ap (option_map (record_of new)) (u.2 q (is_other q k apart)) ∙ option_stays old new (row_at rows q) (λ r. stays q r apart) ∙ sym (get_of old rows q)
 
   here_written : get (records_of new after) k ≡ option_map (record_of new) w
   here_written = get_of new after k ∙ ap (option_map (record_of new)) u.1
@@ -162,11 +171,11 @@ module _ (old new : Maps) (rows after : Rows) (k : List ℕ) (w : Option Row) (u
       at_key q r s e = sym u.1 ∙ ap (row_at after) (sym s) ∙ e
 
       at_other : (q : List ℕ) (r : Row) → q ≢ k → row_at after q ≡ Some r → row_at rows q ≡ Some r
-      at_other q r d e = sym (u.2 q (is_apart q k d)) ∙ e
+      at_other q r d e = sym (u.2 q (is_other q k d)) ∙ e
 
 -- the row that uses these queues, if its key is a different one
-other_used : (rows after : Rows) (k : List ℕ) (w : Option Row) (u : UpdatesBy order (order k) rows after w) (id : ℕ) → (o : IsUsed rows id) → o.0 ≢ k → IsUsed after id
-other_used rows after k w u id o apart = (o.0, o.1, u.2 o.0 (is_apart o.0 k apart) ∙ o.2, o.3)
+other_used : (rows after : Rows) (k : List ℕ) (w : Option Row) (u : UpdatesBy bytes_eq (bytes_eq k) rows after w) (id : ℕ) → (o : IsUsed rows id) → o.0 ≢ k → IsUsed after id
+other_used rows after k w u id o apart = (o.0, o.1, u.2 o.0 (is_other o.0 k apart) ∙ o.2, o.3)
 
 -- the row's id at the key, if this row uses the queues
 used_here : (rows : Rows) (k : List ℕ) (r : Row) → Some r ≡ row_at rows k → (id : ℕ) (o : IsUsed rows id) → o.0 ≡ k → r.id ≡ id
@@ -176,7 +185,7 @@ used_here rows k r some id o s =
     same ∙ o.3
 
 -- The row at a key changed with an outcome.
-module _ (old new : Maps) (rows rows' : Rows) (k : List ℕ) (r after : Row) (linked : AreLinked old rows) (some : Some r ≡ row_at rows k) (u : UpdatesBy order (order k) rows rows' (Some after)) where
+module _ (old new : Maps) (rows rows' : Rows) (k : List ℕ) (r after : Row) (linked : AreLinked old rows) (some : Some r ≡ row_at rows k) (u : UpdatesBy bytes_eq (bytes_eq k) rows rows' (Some after)) where
   -- the other rows have other queues
   other_id : (q : List ℕ) (o : Row) → q ≢ k → row_at rows q ≡ Some o → o.id ≢ r.id
   other_id q o apart e same = apart (linked.apart q k o r e (sym some) same)
@@ -215,7 +224,7 @@ module _ (old new : Maps) (rows rows' : Rows) (k : List ℕ) (r after : Row) (li
   same_rows : after ≡ r → (q : List ℕ) → row_at rows' q ≡ row_at rows q
   same_rows same q = elim (same_or_apart q k) [
     | inl s ↦ ap (row_at rows') s.0 ∙ u.1 ∙ ap Some same ∙ some ∙ ap (row_at rows) (sym s.0)
-    | inr d ↦ u.2 q (is_apart q k d.0)
+    | inr d ↦ u.2 q (is_other q k d.0)
   ]
 
   all_stay : new ≡ old → (id : ℕ) → Stays old new id
@@ -250,8 +259,8 @@ nothing_stepped m rows rows' k act reply lets none same nothing no_lets =
     }
 
 -- The effect on the table of a call on the row that a lookup found, for a reply and for an error.
-module _ {E : Type 0} (old new : Maps) (rows rows' : Rows) (k : List ℕ) (r after : Row) (table : IsTable old rows) (some : Some r ≡ row_at rows k) (w : tree.WritesThrough order (order k) rows after rows') (act : Record → Outcome) (lets : List Through) (result : Result Reply E) where
-  updates : UpdatesBy order (order k) rows rows' (Some after)
+module _ {E : Type 0} (old new : Maps) (rows rows' : Rows) (k : List ℕ) (r after : Row) (table : IsTable old rows) (some : Some r ≡ row_at rows k) (w : hash.WritesThrough bytes_eq (bytes_eq k) rows after rows') (act : Record → Outcome) (lets : List Through) (result : Result Reply E) where
+  updates : UpdatesBy bytes_eq (bytes_eq k) rows rows' (Some after)
   updates = w.3 (subst IsSome some refl)
 
   abbrev goes : Reply → Type 0
@@ -270,6 +279,15 @@ module _ {E : Type 0} (old new : Maps) (rows rows' : Rows) (k : List ℕ) (r aft
     pub err_records : X → records_of new rows' ≡ records_of old rows
     err_records x = same_written old new rows rows' k r after table.linked some updates (same x).0 (same x).1
 
+    -- the list of lets keeps room for every key
+    pub either_room : (room more : ℕ) → room ≤ more → (how_many (record_of old r) ≤ room → how_many (record_of new after) ≤ more) → IfOk result goes → OnErr result X → HasRoom (records_of old rows) room → HasRoom (records_of new rows') more
+    either_room room more grown here ok err has = either_way result goes X (HasRoom (records_of new rows') more)
+        (λ reply went. room_stepped (records_of old rows) (records_of new rows') k act reply lets room more
+        (went_step old new rows rows' k r after table.linked some updates act reply lets went) grown
+        (λ few. subst (λ x. how_many x ≤ more) (went.is_outcome.moved ∙ ap (λ x. (act x).after) (sym (found old rows k r some))) (here (subst (λ x. how_many x ≤ room) (found old rows k r some) few))) has)
+        (λ x q. let few = subst (λ m. how_many (record_at m q) ≤ room) (sym (err_records x)) (has q) in omega (arith, few, grown))
+        ok err
+
     -- if the act leaves the record lawful and not empty, the table invariant holds
     pub either_table : ((q : Record) → IsLawful q → IsLawful (act q).after) → is_empty (act (record_of old r)).after ≡ false → IfOk result goes → OnErr result X → IsTable new rows'
     either_table keeps filled ok err = record {
@@ -281,7 +299,7 @@ module _ {E : Type 0} (old new : Maps) (rows rows' : Rows) (k : List ℕ) (r aft
     }
 
 -- The row was written back after a step of its own: the table made that step.
-pub stepped : (old new : Maps) (rows rows' : Rows) (k : List ℕ) (r after : Row) → IsTable old rows → (some : Some r ≡ row_at rows k) → tree.WritesThrough order (order k) rows after rows' → (act : Record → Outcome) (reply : Reply) (lets : List Through) → RowStepped old new after r.id (act (record_of old r)) reply lets → IsStep (records_of old rows) k act reply lets (records_of new rows')
+pub stepped : (old new : Maps) (rows rows' : Rows) (k : List ℕ) (r after : Row) → IsTable old rows → (some : Some r ≡ row_at rows k) → hash.WritesThrough bytes_eq (bytes_eq k) rows after rows' → (act : Record → Outcome) (reply : Reply) (lets : List Through) → RowStepped old new after r.id (act (record_of old r)) reply lets → IsStep (records_of old rows) k act reply lets (records_of new rows')
 stepped old new rows rows' k r after table some w = went_step old new rows rows' k r after table.linked some (w.3 (subst IsSome some refl))
 
 map_same : {A B : Type 0} (f g : A → B) → ((a : A) → f a ≡ g a) → (xs : List A) → map f xs ≡ map g xs
@@ -327,11 +345,11 @@ emptied_at m rows k r some = elim (is_empty (record_of m r)) as (λ b. is_empty 
 ] refl
 
 -- the same, of a row that is written back
-pub emptied_after : (m : Maps) (rows rows' : Rows) (k : List ℕ) (r after : Row) → Some r ≡ row_at rows k → tree.WritesThrough order (order k) rows after rows' → IsEmptied m rows' k (emptied_id m after)
+pub emptied_after : (m : Maps) (rows rows' : Rows) (k : List ℕ) (r after : Row) → Some r ≡ row_at rows k → hash.WritesThrough bytes_eq (bytes_eq k) rows after rows' → IsEmptied m rows' k (emptied_id m after)
 emptied_after m rows rows' k r after some w = emptied_at m rows' k after (sym (w.3 (subst IsSome some refl)).1)
 
 -- The row at a key is dropped, with its queues.
-module _ (old new : Maps) (rows rows' : Rows) (k : List ℕ) (r : Row) (linked : AreLinked old rows) (some : Some r ≡ row_at rows k) (u : UpdatesBy order (order k) rows rows' None) (drops : DropsRecord old new r.id) where
+module _ (old new : Maps) (rows rows' : Rows) (k : List ℕ) (r : Row) (linked : AreLinked old rows) (some : Some r ≡ row_at rows k) (u : UpdatesBy bytes_eq (bytes_eq k) rows rows' None) (drops : DropsRecord old new r.id) where
   left_stay : (q : List ℕ) (o : Row) → q ≢ k → row_at rows q ≡ Some o → Stays old new o.id
   left_stay q o apart e = record {
     lines = λ kind. lines_same old new drops.queues_are drops.stands_are (queue_at o.id kind);
@@ -373,7 +391,7 @@ no_row_at m rows k table none = elim (row_at rows k) as (λ o. row_at rows k ≡
 ] refl
 
 -- A key that has no record gets a row, with new queues.
-module _ (old new : Maps) (rows rows' : Rows) (k : List ℕ) (a : Row) (linked : AreLinked old rows) (u : UpdatesBy order (order k) rows rows' (Some a)) (fresh : has_record old a.id ≡ false) (adds : AddsRecord old new a.id) (no_nodes : IsEmpty new a.id) where
+module _ (old new : Maps) (rows rows' : Rows) (k : List ℕ) (a : Row) (linked : AreLinked old rows) (u : UpdatesBy bytes_eq (bytes_eq k) rows rows' (Some a)) (fresh : has_record old a.id ≡ false) (adds : AddsRecord old new a.id) (no_nodes : IsEmpty new a.id) where
   is_new : (q : List ℕ) (o : Row) → row_at rows q ≡ Some o → a.id ≢ o.id
   is_new q o e same = true≢false (sym (linked.each q o e).there ∙ ap (has_record old) (sym same) ∙ fresh)
 
@@ -427,10 +445,10 @@ module _ (old mid new : Maps) (rows rows' : Rows) (id : ℕ) (linked : AreLinked
   }
 
   pub refused_records : records_of new rows' ≡ records_of old rows
-  refused_records = records_stay old new rows rows' (λ q. ap (lookup (is_at (order q))) same) refused_stay
+  refused_records = records_stay old new rows rows' (λ q. ap (lookup (bytes_eq q)) same) refused_stay
 
   pub refused_linked : IsSound new → AreLinked new rows'
-  refused_linked sound = rows_stay old new rows rows' (λ q. ap (lookup (is_at (order q))) same) refused_stay
+  refused_linked sound = rows_stay old new rows rows' (λ q. ap (lookup (bytes_eq q)) same) refused_stay
       (λ i there. elim (rings.same_or_apart i id) [
         | inl s ↦ absurd (true≢false (sym there ∙ drops.records_are i ∙ rw s.1 refl))
         | inr d ↦ sym (drops.records_are i ∙ rw d.1 (adds.records_are i ∙ rw d.1 refl)) ∙ there
@@ -449,7 +467,58 @@ nothing_linked m rows blank sound none = record {
 }
   where
     at : (q : List ℕ) → row_at rows q ≡ None
-    at q = ap (lookup (is_at (order q))) none
+    at q = ap (lookup (bytes_eq q)) none
 
     no_row : (q : List ℕ) (r : Row) → row_at rows q ≡ Some r → ⊥
     no_row q r e = let p = sym (at q) ∙ e in cc
+
+-- A map with the same entries.
+module _ (m : Maps) (rows rows' : Rows) (same : rows'.entries ≡ rows.entries) where
+  kept_records : records_of m rows' ≡ records_of m rows
+  kept_records = records_stay m m rows rows' (λ q. ap (lookup (bytes_eq q)) same) (λ q r e. record { lines = λ kind. refl; there = refl })
+
+  pub kept_table : IsTable m rows → IsTable m rows'
+  kept_table table = record {
+    linked = rows_stay m m rows rows' (λ q. ap (lookup (bytes_eq q)) same) (λ q r e. record { lines = λ kind. refl; there = refl }) (λ id there. there) table.linked.sound table.linked;
+    records_sound = rw kept_records table.records_sound;
+  }
+
+-- The effect on the table of a call on the row of an entry, for a reply and for an error.
+module _ {E : Type 0} (old new : Maps) (rows rows' : Rows) (k : List ℕ) (r after : Row) (table : IsTable old rows) (some : Some r ≡ row_at rows k) (u : UpdatesBy bytes_eq (bytes_eq k) rows rows' (Some after)) (act : Record → Outcome) (lets : List Through) (result : Result Reply E) where
+  abbrev comes : Reply → Type 0
+  comes reply = RowStepped old new after r.id (act (record_of old r)) reply lets
+
+  pub entry_step : IfOk result comes → IfOk result (λ reply. IsStep (records_of old rows) k act reply lets (records_of new rows'))
+  entry_step ok = IfOk-weaker result comes _ (λ reply. went_step old new rows rows' k r after table.linked some u act reply lets) ok
+
+  module _ (X : Type 0) (same : X → (new ≡ old) × (after ≡ r)) where
+    pub entry_records : X → records_of new rows' ≡ records_of old rows
+    entry_records x = same_written old new rows rows' k r after table.linked some u (same x).0 (same x).1
+
+    pub entry_table : ((q : Record) → IsLawful q → IsLawful (act q).after) → is_empty (act (record_of old r)).after ≡ false → IfOk result comes → OnErr result X → IsTable new rows'
+    entry_table keeps filled ok err = record {
+      linked = either_way result comes X (AreLinked new rows')
+          (λ reply. went_linked old new rows rows' k r after table.linked some u (act (record_of old r)) reply lets)
+          (λ x. same_linked old new rows rows' k r after table.linked some u (same x).0 (same x).1)
+          ok err;
+      records_sound = either_way result comes X (AreSound (records_of new rows'))
+          (λ reply went. sound_filled (records_of old rows) (records_of new rows') k act reply lets keeps (went_step old new rows rows' k r after table.linked some u act reply lets went) (rw (found old rows k r some) filled) table.records_sound)
+          (λ x. rw (entry_records x) table.records_sound)
+          ok err;
+    }
+
+-- ---- the room for lets
+
+-- a call that brings no request to its key keeps the room
+pub room_of_call : {E : Type 0} (result : Result Reply E) (old new : Records) (k : List ℕ) (act : Record → Outcome) (lets : List Through) (room more : ℕ) → IfOk result (λ reply. IsStep old k act reply lets new) → OnErr result ((new ≡ old) × (lets ≡ [])) → room ≤ more → how_many (act (record_at old k)).after ≤ how_many (record_at old k) → HasRoom old room → HasRoom new more
+room_of_call (Ok reply) old new k act lets room more step failed grown few has q = room_stepped old new k act reply lets room more step grown (λ fits. omega (arith, few, fits, grown)) has q
+room_of_call (Err e) old new k act lets room more step failed grown few has q =
+    let here = subst (λ m. how_many (record_at m q) ≤ room) (sym failed.0) (has q) in
+    omega (arith, here, grown)
+
+-- a row that goes because it is empty takes no room
+pub room_dropped : (mid new : Records) (k : List ℕ) (more : ℕ) → new ≡ with_record mid k (record_at mid k) → HasRoom mid more → HasRoom new more
+room_dropped mid new k more is has q = subst (λ m. how_many (record_at m q) ≤ more) (sym is) (elim (same_or_apart q k) [
+  | inl s ↦ subst (λ x. how_many (record_at (with_record mid k (record_at mid k)) x) ≤ more) (sym s.0) (subst (λ r. how_many r ≤ more) (sym (here_dropped mid k)) (has k))
+  | inr d ↦ subst (λ r. how_many r ≤ more) (sym (ap (λ o. unwrap_or o empty) (others_dropped mid k (record_at mid k) q d.0))) (has q)
+])

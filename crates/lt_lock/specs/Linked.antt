@@ -1,24 +1,25 @@
 -- How the links and the map of keys are seen as a table of records, and the effect of a call on them.
 use Rattle.std.specs.Prelude.{◌≡◌, ℕ, true, Option, Some, None, List, [], map, if◌then◌else◌}
-use Rattle.std.specs.Ordering.{nat_cmp}
-use Rattle.std.specs.Cmp.Lexicographic.{slice_cmp}
+use Rattle.std.specs.Str.{bytes_eq}
 use Rattle.std.specs.FinMap.{from_entries}
-use Rattle.std.specs.BTreeMap as tree
-use Rattle.std.specs.BTreeMap.{BTreeMap}
+use Rattle.std.specs.HashMap as hash
+use Rattle.std.specs.HashMap.{HashMap}
 use Rattle.lt_ids.specs.declared.ticket.Through.{Through}
-use Rattle.lt_plain.specs.declared.call.Reply.{Reply}
-use Rattle.lt_plain.specs.Rules.{Record, Outcome, is_empty}
-use Rattle.lt_plain.specs.Table.{Records, AreSound, IsStep, without_empty}
+use Rattle.lt_rules.specs.declared.call.Reply.{Reply}
+use Rattle.lt_rules.specs.Rules.{Record, Outcome, is_empty}
+use Rattle.lt_rules.specs.Table.{Records, AreSound, IsStep, without_empty}
 use Rattle.lt_links.specs.Maps.{Maps, has_record, IsSound}
+use Rattle.lt_lock.specs.declared.hashing.KeyHashing.{KeyHashing}
+use Rattle.lt_lock.specs.declared.row_table.RowStep.{RowStep}
 use Rattle.lt_row.specs.declared.row.Row.{Row}
 use Rattle.lt_row.specs.Row.{record_of, HasQueues}
 
 abbrev pub Rows : Type 0
-Rows = BTreeMap (List ℕ) Row
+Rows = HashMap (List ℕ) Row KeyHashing
 
 -- the row of a key
 abbrev pub row_at : Rows → List ℕ → Option Row
-row_at rows key = tree.get (slice_cmp nat_cmp) rows key
+row_at rows key = hash.get bytes_eq rows key
 
 abbrev pub records_of : Maps → Rows → Records
 records_of m rows = from_entries (map (λ e. (e.0, record_of m e.1)) rows.entries)
@@ -58,3 +59,10 @@ abbrev pub IsEmptied : Maps → Rows → List ℕ → Option ℕ → Type 0
 IsEmptied m rows key (Some id) =
     (r : Row) × (Some r ≡ row_at rows key) × (r.id ≡ id) × (is_empty (record_of m r) ≡ true)
 IsEmptied m rows key None = records_of m rows ≡ without_empty (records_of m rows) key
+
+-- What a call at the row of a key came to: the act was applied to the key's record, and this tells whether the row is
+-- empty now. `None` if the key has no row; then nothing has changed.
+abbrev pub MakesAtRow : Maps → Maps → Rows → Rows → List ℕ → (Record → Outcome) → List Through → Option RowStep → Type 0
+MakesAtRow old new rows after key act lets None = (row_at rows key ≡ None) × (new ≡ old) × (after ≡ rows) × (lets ≡ [])
+MakesAtRow old new rows after key act lets (Some made) =
+    UpdatesRows old new rows after key act lets made.reply × IsEmptied new after key made.emptied

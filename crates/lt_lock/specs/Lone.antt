@@ -1,17 +1,23 @@
 -- A table with one lock, for which nobody waits.
-use Rattle.std.specs.Prelude.{◌≡◌, ℕ, Bool, true, false, ◌&&◌, ◌||◌, nat_eq, if◌then◌else◌, Option, Some, None, List, [], ◌∷◌, IsSome}
+use Rattle.std.specs.Prelude.{◌≡◌, ℕ, Bool, ◌||◌, Option, Some, None, List, [], ◌∷◌, IsSome}
 use Rattle.std.specs.FinMap as finmap
-use Rattle.std.specs.Str.{bytes_eq}
 use Rattle.lt_ids.specs.declared.timestamp.Timestamp.{Timestamp}
 use Rattle.lt_ids.specs.declared.request.Access.{Access}
 use Rattle.lt_ids.specs.declared.request.Access.TheVariants.{Read, Write}
 use Rattle.lt_ids.specs.declared.ticket.Through.{Through}
 use Rattle.lt_ids.specs.Ids.{is_below}
-use Rattle.lt_plain.specs.declared.queued.Holder.{Holder}
-use Rattle.lt_plain.specs.declared.call.Reply.{Reply}
-use Rattle.lt_plain.specs.Rules.{Record, Outcome, is_txn, record_with}
-use Rattle.lt_plain.specs.Table.{Records, AreSound, IsStep}
+use Rattle.lt_rules.specs.declared.queued.Holder.{Holder}
+use Rattle.lt_rules.specs.declared.call.Reply.{Reply}
+use Rattle.lt_rules.specs.Rules.{Record, Outcome, IsOutcome, TakesNoMemory, empty, is_txn, record_with}
+use Rattle.lt_rules.specs.Table.{Records, AreSound, IsStep, record_at}
+use Rattle.lt_rules.specs.declared.call.Call.{Call}
+use Rattle.lt_rules.specs.declared.call.Call.TheVariants.{Visit}
+use Rattle.lt_rules.specs.declared.call.Reply.TheVariants.{Freed, MustWait}
+use Rattle.lt_rules.specs.Step.{step}
+use Rattle.lt_rules.specs.Memory.{MayLack}
 use Rattle.lt_lock.specs.declared.lone.LoneLock.{LoneLock}
+use Rattle.lt_lock.specs.declared.lone.AtLone.{AtLone}
+use Rattle.lt_lock.specs.declared.lone.AtLone.TheVariants.{Answers, Frees, NeedsRow}
 
 -- the record of a key that this holder has locked, and for which nobody waits
 abbrev pub held : Holder → Record
@@ -36,22 +42,29 @@ StepsWithLone lone after old new key act lets = λ reply.
 abbrev pub KeepsWithLone : Option LoneLock → Option LoneLock → Records → Records → List Through → Type 0
 KeepsWithLone lone after old new lets = (with_lone after new ≡ with_lone lone old) × (lets ≡ [])
 
--- whether the lone lock is at this key
-abbrev pub is_lone_at : Option LoneLock → List ℕ → Bool
-is_lone_at None key = false
-is_lone_at (Some l) key = bytes_eq l.key key
-
--- whether this transaction has the lone lock, at this key
-abbrev pub is_lone_of : Option LoneLock → List ℕ → ℕ → Bool
-is_lone_of None key txn = false
-is_lone_of (Some l) key txn = bytes_eq l.key key && nat_eq l.holder.txn txn
-
 -- whether a visit by a request of this transaction passes a lock of this holder, for which nobody waits
 abbrev pub passes_held : Holder → Option ℕ → Timestamp → Access → Bool
 passes_held h txn ts Read = is_txn txn h.txn || is_below ts h.ts
 passes_held h txn ts Write = is_txn txn h.txn
 
--- whether there is a lone lock, and a visit passes: at another key, or past the lock
-abbrev pub passes_lone : Option LoneLock → List ℕ → Option ℕ → Timestamp → Access → Bool
-passes_lone None key txn ts access = false
-passes_lone (Some l) key txn ts access = if bytes_eq l.key key then passes_held l.holder txn ts access else true
+-- The call is a visit that has to wait at this record.
+abbrev pub MustQueue : Record → Call → Type 0
+MustQueue r (Visit ticket txn ts access longest) = (pass : ℕ) → (step r pass (Visit ticket txn ts access longest)).reply ≡ MustWait
+MustQueue r _ = ⊥
+
+-- what a call comes to at the key of a lone lock, which has one holder before and another after
+abbrev pub IsAtLone : Holder → Holder → Call → AtLone → Type 0
+IsAtLone old new call (Answers reply) = (pass : ℕ) → IsOutcome (step (held old) pass call) (held new) reply []
+IsAtLone old new call Frees = (new ≡ old) × ((pass : ℕ) → IsOutcome (step (held old) pass call) empty Freed [])
+IsAtLone old new call NeedsRow = (new ≡ old) × MustQueue (held old) call
+
+-- The call was made at the key, with this reply and no lets, while there was no row.
+abbrev pub StepsAlone : Option LoneLock → Option LoneLock → List ℕ → Call → Reply → Type 0
+StepsAlone lone after key call reply =
+    (pass : ℕ) → StepsWithLone lone after finmap.empty finmap.empty key (λ r. step r pass call) [] reply
+
+-- If there is a lone lock, the call at the key needs a row: it takes a second lock, or has to wait.
+abbrev pub NeedsRows : Option LoneLock → List ℕ → Call → Type 0
+NeedsRows lone key call =
+    IsSome lone → ((pass : ℕ) → TakesNoMemory (record_at (with_lone lone finmap.empty) key) (step (record_at (with_lone lone finmap.empty) key) pass call) → ⊥)
+    × ((room : ℕ) → MayLack (record_at (with_lone lone finmap.empty) key) call room)

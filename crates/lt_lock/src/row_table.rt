@@ -1,26 +1,28 @@
 //! How does the table keep many keys, and the requests that wait for them? [`RowTable`] has a row for each key that
-//! is held, reserved or waited for, over one set of links. A function `.._at` applies a call to the row of one key,
-//! if there is one. `lt_row` has the calls on a row.
-ghost use Rattle.std.specs.Prelude.{◌≡◌, [], true, IfOk, OnErr, OnOk, IsOk};
+//! is held, reserved or waited for, over one set of links. `lt_row` has what a call does to one row; here a call
+//! finds the row of its key, adds it, and drops it once it is empty.
+ghost use Rattle.std.specs.Prelude.{◌≡◌, ◌≢◌, ◌≤◌, ◌↔◌, [], true, length, vec_capacity, IfOk, OnOk, OnErr, IsOk};
+ghost use Rattle.std.specs.HashMap.{keys, IsUnique};
+ghost use Rattle.std.specs.Str.{bytes_eq};
 ghost use Rattle.std.specs.FinMap as map;
-ghost use Rattle.std.specs.BTreeMap.{keys};
-ghost use Rattle.std.specs.Cmp.Lexicographic.{slice_cmp};
-ghost use Rattle.std.specs.List.Sorted.{IsStrictlySortedBy};
-ghost use Rattle.std.specs.Ordering.{nat_cmp};
-ghost use Rattle.lt_plain.specs.Rules.{empty, acquire, update, finish, leave, take_lock};
-ghost use Rattle.lt_plain.specs.Step.{look};
-ghost use Rattle.lt_plain.specs.Table.{record_at, without_empty, UsesNoMemoryAt};
-ghost use Rattle.lt_row.specs.Row.{IsNamed, HasQueues};
-ghost use Rattle.lt_row.specs.RowStepped.{visit_by};
-ghost use Rattle.lt_lock.specs.Linked.{records_of, AreLinked, IsTable, IsEmptied, KeepsRows, UpdatesRows, emptied_id};
+ghost use Rattle.lt_rules.specs.declared.call.Call.TheVariants.{Acquire};
+ghost use Rattle.lt_rules.specs.declared.call.Reply.TheVariants.{Taken};
+ghost use Rattle.lt_rules.specs.Rules.{empty, acquire, take_lock};
+ghost use Rattle.lt_rules.specs.Step.{step, look};
+ghost use Rattle.lt_rules.specs.Table.{AreSound, MakesCall, IsStep, UsesNoMemoryAt, record_at, without_empty};
+ghost use Rattle.lt_rules.specs.Memory.{MayLack, HasRoom};
+ghost use Rattle.lt_row.specs.Row.{HasQueues};
+ghost use Rattle.lt_lock.specs.Linked.{records_of, AreLinked, IsTable, IsEmptied, KeepsRows, UpdatesRows, MakesAtRow, emptied_id};
 
-use lt_ids::{Access, Key, Request, Through, Timestamp, TxnId};
-use lt_links::{Links, RecordId, Stand};
-use lt_plain::{Holder, KeyState, KeyTable, Reply};
-use lt_row::visit::{stand_of, visit};
-use lt_row::{Row, row, state};
+use crate::hashing::KeyHashing;
+use lt_ids::{Key, Through, Timestamp, TxnId};
+use lt_links::{Links, RecordId};
+use lt_row::{Row, acquire, is_empty, lengths, look, state, step};
+use lt_rules::free_key::{AtFreeKey, at_free_key};
+use lt_rules::{Call, Holder, KeyState, QueueLengths, Reply};
 use std::alloc::{AllocError, Global};
-use std::collections::BTreeMap;
+use std::collections::HashMap;
+use std::collections::hash_map::Entry;
 use std::marker::Model;
 
 /// A lock table that keeps the queued requests of all keys in one [`Links`](lt_links::Links). In a contract, it is
@@ -28,52 +30,29 @@ use std::marker::Model;
 #[derive(Drop)]
 pub(crate) struct RowTable {
     links: Links,
-    rows: BTreeMap<Key, Row>,
+    rows: Rows,
 }
 
 impl Model for RowTable {
-    ghost use Rattle.lt_plain.specs.Codes.{records_code};
-    ghost use Rattle.lt_plain.specs.Table.{Records};
+    ghost use Rattle.lt_rules.specs.Codes.{records_code};
+    ghost use Rattle.lt_rules.specs.Table.{Records};
 
     ghost Value = { Records };
 
     ghost coded = { records_code };
 
-    ghost use Rattle.lt_row.specs.RowStepped.{visit_by};
-    ghost use Rattle.lt_lock.specs.Linked.{records_of, IsTable, KeepsRows, UpdatesRows};
+    ghost use Rattle.lt_lock.specs.Linked.{records_of, IsTable};
 
     ghost view = { λ t. records_of t.links t.rows };
 
     ghost invariant = { λ t. IsTable t.links t.rows };
 }
 
-impl RowTable {
-    /// A table without keys. This call allocates nothing; later calls allocate from this allocator.
-    pub fn new(alloc: Global) -> Self
-        ensures { result ≡ map.empty }
-    {
-        RowTable {
-            links: Links::new(alloc),
-            rows: BTreeMap::new(alloc),
-        }
-    }
-}
+type Rows = HashMap<Key, Row, KeyHashing, Global>;
 
-impl RowTable {
-    /// Whether no key is held, reserved or waited for.
-    pub fn has_no_row(&self) -> bool
-        ensures { result ≡ true → self.now ≡ map.empty }
-    {
-        self.rows.is_empty()
-    }
-}
-
-type Rows = BTreeMap<Key, Row>;
-
-/// What a finish or a leave comes to: its reply, and the queues of the key's row if the row has become empty. Only
-/// a lock that comes free or a request that stops waiting can leave a row empty.
+/// What a call at a key's row came to: its reply, and the queues of the row if it is now empty.
 #[derive(Clone, Copy)]
-struct RowReleased {
+struct RowStep {
     reply: Reply,
     emptied: Option<RecordId>,
 }
@@ -83,7 +62,7 @@ fn emptied(links: &Links, row: &Row) -> Option<RecordId>
     requires { HasQueues links.now row.now.id }
     ensures { result ≡ emptied_id links.now row.now }
 {
-    if row::is_empty(links, row) {
+    if is_empty(links, row) {
         Some(row.id)
     } else {
         None
@@ -103,159 +82,38 @@ fn drop_emptied(links: &mut Links, rows: &mut Rows, key: &Key, emptied: Option<R
     }
 }
 
-fn visit_at(
+/// A call at the row of a key, unless it is an acquire. A row that has become empty stays. `None` if the key has no
+/// row.
+fn step_row(
     links: &mut Links,
     rows: &mut Rows,
     key: &Key,
-    stand: &Stand,
-    longest: u32,
-    access: Access,
-) -> Result<Reply, AllocError>
-    requires table { IsTable links.old rows.old }
-    requires active { stand.now.active ≡ true }
-    requires named { IsNamed stand.now }
-    ensures ok { IfOk result (UpdatesRows links.old links.new rows.old rows.new key.now
-        (visit_by stand.now longest access) []) }
-    ensures table { IsTable links.new rows.new }
-    ensures err { OnErr result (records_of links.new rows.new ≡ records_of links.old rows.old) }
-    ensures no_memory { UsesNoMemoryAt (records_of links.old) rows.old key.now
-        (visit_by stand.now longest access) → IsOk result }
-{
-    let Some(row) = rows.get_mut(key) else {
-        return Ok(Reply::Passed);
-    };
-    visit(links, row, stand, longest, access)
-}
-
-/// [`visit_at`], without a search if no key has a row.
-fn visit_key(
-    links: &mut Links,
-    rows: &mut Rows,
-    key: &Key,
-    stand: &Stand,
-    longest: u32,
-    access: Access,
-) -> Result<Reply, AllocError>
-    requires table { IsTable links.old rows.old }
-    requires active { stand.now.active ≡ true }
-    requires named { IsNamed stand.now }
-    ensures ok { IfOk result (UpdatesRows links.old links.new rows.old rows.new key.now
-        (visit_by stand.now longest access) []) }
-    ensures table { IsTable links.new rows.new }
-    ensures err { OnErr result (records_of links.new rows.new ≡ records_of links.old rows.old) }
-    ensures no_memory { UsesNoMemoryAt (records_of links.old) rows.old key.now
-        (visit_by stand.now longest access) → IsOk result }
-{
-    if rows.is_empty() {
-        return Ok(Reply::Passed);
-    }
-    visit_at(links, rows, key, stand, longest, access)
-}
-
-fn update_at(
-    links: &mut Links,
-    rows: &mut Rows,
-    key: &Key,
-    txn: TxnId,
-    ts: Timestamp,
+    pass: u32,
+    call: &Call,
     lets: &mut Vec<Through>,
-) -> Result<Reply, AllocError>
+) -> Result<Option<RowStep>, AllocError>
     requires table { IsTable links.old rows.old }
     requires lets { lets.old.items ≡ [] }
-    ensures ok { IfOk result (UpdatesRows links.old links.new rows.old rows.new key.now
-        (λ r. update r txn ts) lets.new.items) }
-    ensures table { IsTable links.new rows.new }
-    ensures err { OnErr result (KeepsRows links.old links.new rows.old rows.new lets.new.items) }
-    ensures no_memory { UsesNoMemoryAt (records_of links.old) rows.old key.now (λ r. update r txn ts) → IsOk result }
-{
-    let Some(row) = rows.get_mut(key) else {
-        return Ok(Reply::Other);
-    };
-    row::update(links, row, txn, ts, lets)
-}
-
-fn finish_at(
-    links: &mut Links,
-    rows: &mut Rows,
-    key: &Key,
-    txn: TxnId,
-    lets: &mut Vec<Through>,
-) -> Result<RowReleased, AllocError>
-    requires table { IsTable links.old rows.old }
-    requires lets { lets.old.items ≡ [] }
-    ensures ok { IfOk result (λ done. UpdatesRows links.old links.new rows.old rows.new key.now
-        (λ r. finish r txn) lets.new.items done.reply) }
-    ensures emptied { IfOk result (λ done. IsEmptied links.new rows.new key.now done.emptied) }
+    requires low { 1 ≤ pass }
+    requires high { pass ≤ 1024 }
+    ensures ok { IfOk result (MakesAtRow links.old links.new rows.old rows.new key.now
+        (λ r. step r pass call.now) lets.new.items) }
     ensures linked { AreLinked links.new rows.new }
     ensures err { OnErr result (KeepsRows links.old links.new rows.old rows.new lets.new.items) }
-    ensures no_memory { UsesNoMemoryAt (records_of links.old) rows.old key.now (λ r. finish r txn) → IsOk result }
+    ensures no_memory { UsesNoMemoryAt (records_of links.old) rows.old key.now (λ r. step r pass call.now) → IsOk result }
+    ensures full { OnErr result (MayLack (record_at (records_of links.old rows.old) key.now) call.now
+        (vec_capacity lets.old)) }
+    ensures room { HasRoom (records_of links.old rows.old) (vec_capacity lets.old) →
+        HasRoom (records_of links.new rows.new) (vec_capacity lets.new) }
 {
     let Some(row) = rows.get_mut(key) else {
-        return Ok(RowReleased {
-            reply: Reply::Other,
-            emptied: None,
-        });
+        return Ok(None);
     };
-    let reply = row::finish(links, row, txn, lets)?;
-    Ok(RowReleased {
+    let reply = step(links, row, pass, call, lets)?;
+    Ok(Some(RowStep {
         reply,
         emptied: emptied(links, row),
-    })
-}
-
-fn leave_at(
-    links: &mut Links,
-    rows: &mut Rows,
-    key: &Key,
-    number: u64,
-    lets: &mut Vec<Through>,
-) -> Result<RowReleased, AllocError>
-    requires table { IsTable links.old rows.old }
-    requires lets { lets.old.items ≡ [] }
-    ensures ok { IfOk result (λ done. UpdatesRows links.old links.new rows.old rows.new key.now
-        (λ r. leave r number) lets.new.items done.reply) }
-    ensures emptied { IfOk result (λ done. IsEmptied links.new rows.new key.now done.emptied) }
-    ensures linked { AreLinked links.new rows.new }
-    ensures err { OnErr result (KeepsRows links.old links.new rows.old rows.new lets.new.items) }
-    ensures no_memory { UsesNoMemoryAt (records_of links.old) rows.old key.now (λ r. leave r number) → IsOk result }
-{
-    let Some(row) = rows.get_mut(key) else {
-        return Ok(RowReleased {
-            reply: Reply::Absent,
-            emptied: None,
-        });
-    };
-    let reply = row::leave(links, row, number, lets)?;
-    Ok(RowReleased {
-        reply,
-        emptied: emptied(links, row),
-    })
-}
-
-/// [`leave_at`], without a search if no key has a row.
-fn leave_key(
-    links: &mut Links,
-    rows: &mut Rows,
-    key: &Key,
-    number: u64,
-    lets: &mut Vec<Through>,
-) -> Result<RowReleased, AllocError>
-    requires table { IsTable links.old rows.old }
-    requires lets { lets.old.items ≡ [] }
-    ensures ok { IfOk result (λ done. UpdatesRows links.old links.new rows.old rows.new key.now
-        (λ r. leave r number) lets.new.items done.reply) }
-    ensures emptied { IfOk result (λ done. IsEmptied links.new rows.new key.now done.emptied) }
-    ensures linked { AreLinked links.new rows.new }
-    ensures err { OnErr result (KeepsRows links.old links.new rows.old rows.new lets.new.items) }
-    ensures no_memory { UsesNoMemoryAt (records_of links.old) rows.old key.now (λ r. leave r number) → IsOk result }
-{
-    if rows.is_empty() {
-        return Ok(RowReleased {
-            reply: Reply::Absent,
-            emptied: None,
-        });
-    }
-    leave_at(links, rows, key, number, lets)
+    }))
 }
 
 fn look_at(links: &Links, rows: &Rows, key: &Key, number: u64) -> Reply
@@ -264,7 +122,21 @@ fn look_at(links: &Links, rows: &Rows, key: &Key, number: u64) -> Reply
 {
     match rows.get(key) {
         None => Reply::Nothing,
-        Some(row) => row::look(links, row, number),
+        Some(row) => look(links, row, number),
+    }
+}
+
+fn lengths_at(links: &Links, rows: &Rows, key: &Key) -> QueueLengths
+    requires { IsTable links.now rows.now }
+    ensures writers { result.writers ≡ length (record_at (records_of links.now rows.now) key.now).writers }
+    ensures readers { result.readers ≡ length (record_at (records_of links.now rows.now) key.now).readers }
+{
+    match rows.get(key) {
+        None => QueueLengths {
+            writers: 0,
+            readers: 0,
+        },
+        Some(row) => lengths(links, row),
     }
 }
 
@@ -278,10 +150,10 @@ fn state_at(links: &Links, rows: &Rows, alloc: Global, key: &Key) -> Result<KeyS
     }
 }
 
-/// The keys that have a row, in byte order.
-fn all_keys(rows: &Rows, alloc: Global) -> Result<Vec<Key>, AllocError>
-    ensures keys { IfOk result (λ all. all.items ≡ keys rows.now) }
-    ensures rising { OnOk result (IsStrictlySortedBy (slice_cmp nat_cmp) (keys rows.now)) }
+/// The keys that have a row, in no order.
+fn copied_keys(rows: &Rows, alloc: Global) -> Result<Vec<Key>, AllocError>
+    ensures copied { IfOk result (λ all. all.items ≡ keys rows.now) }
+    ensures distinct { IsUnique bytes_eq rows.now }
 {
     let mut all = Vec::with_capacity(alloc, rows.len())?;
     for key in rows.keys() {
@@ -290,17 +162,26 @@ fn all_keys(rows: &Rows, alloc: Global) -> Result<Vec<Key>, AllocError>
     Ok(all)
 }
 
-/// Takes the lock of a key that has no row.
+/// The keys that have a row, in byte order.
+fn all_keys(links: &Links, rows: &Rows, alloc: Global) -> Result<Vec<Key>, AllocError>
+    ensures { IfOk result (λ all. all.items ≡ map.keys (records_of links.now rows.now)) }
+{
+    let mut all = copied_keys(rows, alloc)?;
+    all.sort_unstable();
+    Ok(all)
+}
+
+/// Gives a key that has no row one that this holder holds.
 fn insert_held(
     links: &mut Links,
     rows: &mut Rows,
     key: &Key,
     holder: &Holder,
-) -> Result<Reply, AllocError>
+) -> Result<(), AllocError>
     requires table { IsTable links.old rows.old }
     requires none { record_at (records_of links.old rows.old) key.now ≡ empty }
-    ensures ok { IfOk result (UpdatesRows links.old links.new rows.old rows.new key.now
-        (λ r. take_lock r holder.now) []) }
+    ensures ok { OnOk result (UpdatesRows links.old links.new rows.old rows.new key.now
+        (λ r. take_lock r holder.now) [] Taken) }
     ensures linked { AreLinked links.new rows.new }
     ensures err { OnErr result (records_of links.new rows.new ≡ records_of links.old rows.old) }
 {
@@ -315,28 +196,48 @@ fn insert_held(
         links.drop_record(queues);
         return Err(refused.into());
     }
-    Ok(Reply::Taken)
+    Ok(())
 }
 
-/// A transaction acquires a key that has no row.
-fn acquire_free(
+/// A transaction acquires the key, by one search of the map.
+fn acquire_entry(
     links: &mut Links,
     rows: &mut Rows,
-    key: &Key,
+    key: Key,
     txn: TxnId,
     ts: Timestamp,
+    lets: &mut Vec<Through>,
 ) -> Result<Reply, AllocError>
     requires table { IsTable links.old rows.old }
-    requires none { record_at (records_of links.old rows.old) key.now ≡ empty }
-    ensures ok { IfOk result (UpdatesRows links.old links.new rows.old rows.new key.now (λ r. acquire r txn ts) []) }
+    requires lets { lets.old.items ≡ [] }
+    ensures ok { IfOk result (UpdatesRows links.old links.new rows.old rows.new key
+        (λ r. acquire r txn ts) lets.new.items) }
     ensures table { IsTable links.new rows.new }
-    ensures err { OnErr result (records_of links.new rows.new ≡ records_of links.old rows.old) }
-    ensures no_memory { UsesNoMemoryAt (records_of links.old) rows.old key.now (λ r. acquire r txn ts) → IsOk result }
+    ensures err { OnErr result (KeepsRows links.old links.new rows.old rows.new lets.new.items) }
+    ensures no_memory { UsesNoMemoryAt (records_of links.old) rows.old key (λ r. acquire r txn ts) → IsOk result }
+    ensures full { OnErr result (MayLack (record_at (records_of links.old rows.old) key) (Acquire txn ts)
+        (vec_capacity lets.old)) }
+    ensures kept { vec_capacity lets.old ≤ vec_capacity lets.new }
 {
-    insert_held(links, rows, key, &Holder { txn, ts })
+    match rows.entry(key)? {
+        Entry::Occupied(found) => acquire(links, found.into_mut(), txn, ts, lets),
+        Entry::Vacant(place) => {
+            let Ok(id) = links.add_record() else {
+                let _key = place.into_key();
+                return Err(AllocError);
+            };
+            place.insert(Row {
+                id,
+                holder: Some(Holder { txn, ts }),
+                distinguished: None,
+            });
+            Ok(Reply::Taken)
+        }
+    }
 }
 
-fn acquire_at(
+/// A transaction acquires the key. If the key has no row, the answer is the error for memory.
+fn acquire_found(
     links: &mut Links,
     rows: &mut Rows,
     key: &Key,
@@ -351,14 +252,18 @@ fn acquire_at(
     ensures table { IsTable links.new rows.new }
     ensures err { OnErr result (KeepsRows links.old links.new rows.old rows.new lets.new.items) }
     ensures no_memory { UsesNoMemoryAt (records_of links.old) rows.old key.now (λ r. acquire r txn ts) → IsOk result }
+    ensures full { OnErr result (MayLack (record_at (records_of links.old rows.old) key.now) (Acquire txn ts)
+        (vec_capacity lets.old)) }
+    ensures kept { vec_capacity lets.old ≤ vec_capacity lets.new }
 {
     let Some(row) = rows.get_mut(key) else {
-        return acquire_free(links, rows, key, txn, ts);
+        return Err(AllocError);
     };
-    row::acquire(links, row, txn, ts, lets)
+    acquire(links, row, txn, ts, lets)
 }
 
-/// [`acquire_at`], without a search if no key has a row.
+/// A transaction acquires the key. A key of up to 22 bytes is copied without memory, so this finds its place in the
+/// map by one search. A longer key may have a row, and then needs no copy.
 fn acquire_key(
     links: &mut Links,
     rows: &mut Rows,
@@ -374,86 +279,110 @@ fn acquire_key(
     ensures table { IsTable links.new rows.new }
     ensures err { OnErr result (KeepsRows links.old links.new rows.old rows.new lets.new.items) }
     ensures no_memory { UsesNoMemoryAt (records_of links.old) rows.old key.now (λ r. acquire r txn ts) → IsOk result }
+    ensures full { OnErr result (MayLack (record_at (records_of links.old rows.old) key.now) (Acquire txn ts)
+        (vec_capacity lets.old)) }
+    ensures kept { vec_capacity lets.old ≤ vec_capacity lets.new }
 {
-    if rows.is_empty() {
-        return acquire_free(links, rows, key, txn, ts);
-    }
-    acquire_at(links, rows, key, txn, ts, lets)
+    let Ok(copy) = key.copy() else {
+        return acquire_found(links, rows, key, txn, ts, lets);
+    };
+    acquire_entry(links, rows, copy, txn, ts, lets)
 }
 
-impl KeyTable for RowTable {
-    ghost records = { λ t. t };
-
-    fn visit(
-        &mut self,
-        key: &Key,
-        request: &Request,
-        access: Access,
-        wait: u32,
-        lets: &mut Vec<Through>,
-    ) -> Result<Reply, AllocError> {
-        let stand = stand_of(request, wait);
-        visit_key(
-            &mut self.links,
-            &mut self.rows,
-            key,
-            &stand,
-            request.longest,
-            access,
-        )
+impl RowTable {
+    /// A table without keys, whose keys are hashed from this start. This call allocates nothing; later calls allocate
+    /// from this allocator.
+    pub fn new(alloc: Global, start: u64) -> Self
+        ensures { result ≡ map.empty }
+    {
+        RowTable {
+            links: Links::new(alloc),
+            rows: HashMap::with_hasher(alloc, KeyHashing::new(start)),
+        }
     }
 
-    fn acquire(
-        &mut self,
-        key: &Key,
-        txn: TxnId,
-        ts: Timestamp,
-        lets: &mut Vec<Through>,
-    ) -> Result<Reply, AllocError> {
-        acquire_key(&mut self.links, &mut self.rows, key, txn, ts, lets)
+    /// Whether no key is held, reserved or waited for.
+    #[inline(always)]
+    pub fn has_no_row(&self) -> bool
+        ensures { result ≡ true ↔ self.now ≡ map.empty }
+    {
+        self.rows.is_empty()
     }
 
-    fn update(
-        &mut self,
-        key: &Key,
-        txn: TxnId,
-        ts: Timestamp,
-        lets: &mut Vec<Through>,
-    ) -> Result<Reply, AllocError> {
-        update_at(&mut self.links, &mut self.rows, key, txn, ts, lets)
+    /// Gives the first key a row that this holder holds.
+    pub fn add_held(&mut self, key: &Key, holder: &Holder) -> Result<(), AllocError>
+        requires { self.old ≡ map.empty }
+        ensures ok { OnOk result (IsStep self.old key.now (λ r. take_lock r holder.now) Taken [] self.new) }
+        ensures err { OnErr result (self.new ≡ self.old) }
+        ensures sound { AreSound self.new }
+    {
+        insert_held(&mut self.links, &mut self.rows, key, holder)
     }
 
-    fn finish(
+    /// Makes the call at the key, for the pass with this number, as [`KeyTable::step`](lt_rules::KeyTable::step) does.
+    pub fn step(
         &mut self,
         key: &Key,
-        txn: TxnId,
+        pass: u32,
+        call: &Call,
         lets: &mut Vec<Through>,
-    ) -> Result<Reply, AllocError> {
-        let done = finish_at(&mut self.links, &mut self.rows, key, txn, lets)?;
-        drop_emptied(&mut self.links, &mut self.rows, key, done.emptied);
-        Ok(done.reply)
+    ) -> Result<Reply, AllocError>
+        requires lets { lets.old.items ≡ [] }
+        requires low { 1 ≤ pass }
+        requires high { pass ≤ 1024 }
+        ensures ok { IfOk result (MakesCall (λ t. t) self.old self.new key.now pass call.now lets.new.items) }
+        ensures err { OnErr result ((self.new ≡ self.old) × (lets.new.items ≡ [])) }
+        ensures sound { AreSound self.new }
+        ensures no_memory { UsesNoMemoryAt (λ t. t) self.old key.now (λ r. step r pass call.now) → IsOk result }
+        ensures full { OnErr result (MayLack (record_at self.old key.now) call.now (vec_capacity lets.old)) }
+        ensures room { HasRoom self.old (vec_capacity lets.old) → HasRoom self.new (vec_capacity lets.new) }
+    {
+        match at_free_key(call) {
+            AtFreeKey::Takes(holder) => acquire_key(
+                &mut self.links,
+                &mut self.rows,
+                key,
+                holder.txn,
+                holder.ts,
+                lets,
+            ),
+            AtFreeKey::Answers(reply) => {
+                let Some(made) = step_row(&mut self.links, &mut self.rows, key, pass, call, lets)?
+                else {
+                    return Ok(reply);
+                };
+                drop_emptied(&mut self.links, &mut self.rows, key, made.emptied);
+                Ok(made.reply)
+            }
+        }
     }
 
-    fn leave(
-        &mut self,
-        key: &Key,
-        number: u64,
-        lets: &mut Vec<Through>,
-    ) -> Result<Reply, AllocError> {
-        let done = leave_key(&mut self.links, &mut self.rows, key, number, lets)?;
-        drop_emptied(&mut self.links, &mut self.rows, key, done.emptied);
-        Ok(done.reply)
-    }
-
-    fn look(&self, key: &Key, number: u64) -> Reply {
+    /// What the request with this number finds at the key.
+    pub fn look(&self, key: &Key, number: u64) -> Reply
+        ensures { result ≡ look (record_at self.now key.now) number }
+    {
         look_at(&self.links, &self.rows, key, number)
     }
 
-    fn state(&self, alloc: Global, key: &Key) -> Result<KeyState, AllocError> {
+    /// How many requests are queued at the key.
+    pub fn lengths(&self, key: &Key) -> QueueLengths
+        ensures writers { result.writers ≡ length (record_at self.now key.now).writers }
+        ensures readers { result.readers ≡ length (record_at self.now key.now).readers }
+    {
+        lengths_at(&self.links, &self.rows, key)
+    }
+
+    /// A copy of the key's record.
+    pub fn state(&self, alloc: Global, key: &Key) -> Result<KeyState, AllocError>
+        ensures { IfOk result (λ state. state ≡ record_at self.now key.now) }
+    {
         state_at(&self.links, &self.rows, alloc, key)
     }
 
-    fn keys(&self, alloc: Global) -> Result<Vec<Key>, AllocError> {
-        all_keys(&self.rows, alloc)
+    /// The keys that have a record, in byte order.
+    pub fn keys(&self, alloc: Global) -> Result<Vec<Key>, AllocError>
+        ensures { IfOk result (λ all. all.items ≡ map.keys self.now) }
+    {
+        all_keys(&self.links, &self.rows, alloc)
     }
 }

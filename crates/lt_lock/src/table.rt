@@ -1,19 +1,19 @@
 //! How does the linked table keep its locks? In one of two ways. While it has a single lock and nobody waits, it
 //! keeps a lone lock. Once a second key is locked or somebody has to wait, the lock gets a row, and the table keeps
-//! rows until the last of them is dropped. A function `.._with` applies a call to whichever of the two the table
-//! keeps. Read `lone.rt` and `row_table.rt` next, which have the two.
-ghost use Rattle.std.specs.Prelude.{◌≡◌, ◌∷◌, [], true, false, IfOk, IfSome, IfNone, OnOk, OnErr, IsOk, IsSome, None};
+//! rows until the last of them is dropped. Read `lone.rt` and `row_table.rt` next, which have the two.
+ghost use Rattle.std.specs.Prelude.{◌≡◌, ◌∷◌, ◌≤◌, ◌↔◌, ℕ, [], true, length, vec_capacity, IfOk, OnOk, OnErr, IsOk, None};
 ghost use Rattle.std.specs.FinMap as finmap;
-ghost use Rattle.lt_plain.specs.Rules.{acquire, update, finish, leave};
-ghost use Rattle.lt_plain.specs.declared.call.Reply.TheVariants.{Freed};
-ghost use Rattle.lt_plain.specs.Step.{look};
-ghost use Rattle.lt_plain.specs.Table.{Records, record_at, UsesNoMemoryAt};
-ghost use Rattle.lt_lock.specs.Lone.{held, with_lone, is_lone_at, is_lone_of, IsWithLone, StepsWithLone, KeepsWithLone};
+ghost use Rattle.lt_rules.specs.Rules.{TakesNoMemory, empty};
+ghost use Rattle.lt_rules.specs.Step.{step, look};
+ghost use Rattle.lt_rules.specs.Table.{UsesNoMemoryAt, record_at};
+ghost use Rattle.lt_rules.specs.Memory.{MayLack, HasRoom};
+ghost use Rattle.lt_lock.specs.Lone.{held, with_lone, IsWithLone, StepsWithLone, StepsAlone, KeepsWithLone, NeedsRows};
 
-use crate::lone::{LoneLock, is_lone_of, passes_lone, raise, taken};
+use crate::lone::{LoneLock, step_alone, taken};
 use crate::row_table::RowTable;
-use lt_ids::{Access, Key, Request, Through, Timestamp, TxnId};
-use lt_plain::{Holder, KeyState, KeyTable, Reply};
+use lt_ids::{Key, Through};
+use lt_rules::free_key::{AtFreeKey, at_free_key};
+use lt_rules::{Call, Holder, KeyState, KeyTable, QueueLengths, Reply};
 use std::alloc::{AllocError, Global};
 use std::marker::Model;
 
@@ -26,8 +26,8 @@ pub struct LinkedTable {
 }
 
 impl Model for LinkedTable {
-    ghost use Rattle.lt_plain.specs.Codes.{records_code};
-    ghost use Rattle.lt_plain.specs.Table.{Records};
+    ghost use Rattle.lt_rules.specs.Codes.{records_code};
+    ghost use Rattle.lt_rules.specs.Table.{Records};
     ghost use Rattle.lt_lock.specs.Lone.{with_lone, IsWithLone};
 
     ghost Value = { Records };
@@ -40,197 +40,99 @@ impl Model for LinkedTable {
 }
 
 impl LinkedTable {
-    /// A table without keys. This call allocates nothing; later calls allocate from this allocator.
-    pub fn new(alloc: Global) -> Self
+    /// A table without keys, whose keys are hashed from this start. This call allocates nothing; later calls allocate
+    /// from this allocator.
+    ///
+    /// Whoever chooses the keys can make the table slow if he knows the start. So draw it, for each table, where
+    /// nobody can guess it: `std::random::RandomSource` of the runtime does. What a table answers does not depend on
+    /// its start.
+    pub fn new(alloc: Global, start: u64) -> Self
         ensures { result ≡ finmap.empty }
     {
         LinkedTable {
             lone: None,
-            rows: RowTable::new(alloc),
+            rows: RowTable::new(alloc, start),
         }
     }
 }
 
 /// Gives the lone lock a row, if there is one.
-fn add_row(
-    lone: &mut Option<LoneLock>,
-    rows: &mut RowTable,
-    lets: &mut Vec<Through>,
-) -> Result<(), AllocError>
+fn add_row(lone: &mut Option<LoneLock>, rows: &mut RowTable) -> Result<(), AllocError>
     requires with_lone { IsWithLone lone.old rows.old }
-    requires lets { lets.old.items ≡ [] }
     ensures none { OnOk result (lone.new ≡ None) }
     ensures with_lone { IsWithLone lone.new rows.new }
     ensures same { with_lone lone.new rows.new ≡ with_lone lone.old rows.old }
-    ensures lets { lets.new.items ≡ [] }
     ensures no_lock { lone.old ≡ None → IsOk result }
 {
     let Some(alone) = lone else {
         return Ok(());
     };
-    rows.acquire(&alone.key, alone.holder.txn, alone.holder.ts, lets)?;
+    rows.add_held(&alone.key, &alone.holder)?;
     *lone = None;
     Ok(())
 }
 
 /// Whether the table has neither a lone lock nor a row.
+#[inline(always)]
 fn has_no_lock(lone: &Option<LoneLock>, rows: &RowTable) -> bool
-    ensures { result ≡ true → (lone.now ≡ None) × (rows.now ≡ finmap.empty) }
+    ensures { result ≡ true ↔ (lone.now ≡ None) × (rows.now ≡ finmap.empty) }
 {
     lone.is_none() && rows.has_no_row()
 }
 
-/// Takes the first lock of a table.
-fn take_alone(
-    lone: &mut Option<LoneLock>,
-    key: &Key,
-    txn: TxnId,
-    ts: Timestamp,
-) -> Result<Reply, AllocError>
+/// Makes a call in a table without a lock.
+#[inline(always)]
+fn step_first(lone: &mut Option<LoneLock>, key: &Key, call: &Call) -> Result<Reply, AllocError>
     requires { lone.old ≡ None }
-    ensures ok { IfOk result (StepsWithLone lone.old lone.new finmap.empty finmap.empty key.now
-        (λ r. acquire r txn ts) []) }
+    ensures ok { IfOk result (StepsAlone lone.old lone.new key.now call.now) }
     ensures err { OnErr result (lone.new ≡ None) }
+    ensures no_memory { (pass : ℕ) → TakesNoMemory empty (step empty pass call.now) → IsOk result }
+    ensures full { OnErr result ((room : ℕ) → MayLack empty call.now room) }
 {
-    *lone = Some(taken(key, txn, ts)?);
-    Ok(Reply::Taken)
-}
-
-/// An acquire or an update at the key of the lone lock. `None` if the lone lock is not at this key.
-fn raise_at(lone: &mut Option<LoneLock>, key: &Key, txn: TxnId, ts: Timestamp) -> Option<Reply>
-    ensures acquired { IfSome result (λ reply. (records : Records) →
-        StepsWithLone lone.old lone.new records records key.now (λ r. acquire r txn ts) [] reply) }
-    ensures updated { IfSome result (λ reply. (records : Records) →
-        StepsWithLone lone.old lone.new records records key.now (λ r. update r txn ts) [] reply) }
-    ensures none { IfNone result ((is_lone_at lone.old key.now ≡ false) × (lone.new ≡ lone.old)) }
-    ensures some { IsSome lone.new → IsSome lone.old }
-{
-    let Some(alone) = lone else {
-        return None;
-    };
-    if alone.key != *key {
-        return None;
+    match at_free_key(call) {
+        AtFreeKey::Answers(reply) => Ok(reply),
+        AtFreeKey::Takes(holder) => {
+            *lone = Some(taken(key, holder)?);
+            Ok(Reply::Taken)
+        }
     }
-    Some(raise(alone, txn, ts))
 }
 
-/// A transaction acquires the key: as the lone lock, if the table has no lock, and in the rows otherwise.
-#[inline(always)]
-fn acquire_with(
+/// Makes a call that needs a row, or that finds the table with rows.
+fn step_rows(
     lone: &mut Option<LoneLock>,
     rows: &mut RowTable,
     key: &Key,
-    txn: TxnId,
-    ts: Timestamp,
+    pass: u32,
+    call: &Call,
     lets: &mut Vec<Through>,
 ) -> Result<Reply, AllocError>
     requires with_lone { IsWithLone lone.old rows.old }
+    requires needs { NeedsRows lone.old key.now call.now }
     requires lets { lets.old.items ≡ [] }
+    requires low { 1 ≤ pass }
+    requires high { pass ≤ 1024 }
     ensures ok { IfOk result (StepsWithLone lone.old lone.new rows.old rows.new key.now
-        (λ r. acquire r txn ts) lets.new.items) }
+        (λ r. step r pass call.now) lets.new.items) }
     ensures with_lone { IsWithLone lone.new rows.new }
     ensures err { OnErr result (KeepsWithLone lone.old lone.new rows.old rows.new lets.new.items) }
-    ensures no_memory { UsesNoMemoryAt (with_lone lone.old) rows.old key.now (λ r. acquire r txn ts) → IsOk result }
+    ensures no_memory { UsesNoMemoryAt (with_lone lone.old) rows.old key.now (λ r. step r pass call.now) → IsOk result }
+    ensures full { OnErr result (MayLack (record_at (with_lone lone.old rows.old) key.now) call.now
+        (vec_capacity lets.old)) }
+    ensures room { HasRoom (with_lone lone.old rows.old) (vec_capacity lets.old) →
+        HasRoom (with_lone lone.new rows.new) (vec_capacity lets.new) }
 {
-    if let Some(reply) = raise_at(lone, key, txn, ts) {
-        return Ok(reply);
-    }
-    if has_no_lock(lone, rows) {
-        return take_alone(lone, key, txn, ts);
-    }
-    add_row(lone, rows, lets)?;
-    rows.acquire(key, txn, ts, lets)
+    add_row(lone, rows)?;
+    rows.step(key, pass, call, lets)
 }
 
-/// The holder raises its timestamp, in the lone lock or in the rows.
-#[inline(always)]
-fn update_with(
-    lone: &mut Option<LoneLock>,
-    rows: &mut RowTable,
-    key: &Key,
-    txn: TxnId,
-    ts: Timestamp,
-    lets: &mut Vec<Through>,
-) -> Result<Reply, AllocError>
-    requires with_lone { IsWithLone lone.old rows.old }
-    requires lets { lets.old.items ≡ [] }
-    ensures ok { IfOk result (StepsWithLone lone.old lone.new rows.old rows.new key.now
-        (λ r. update r txn ts) lets.new.items) }
-    ensures with_lone { IsWithLone lone.new rows.new }
-    ensures err { OnErr result (KeepsWithLone lone.old lone.new rows.old rows.new lets.new.items) }
-    ensures no_memory { UsesNoMemoryAt (with_lone lone.old) rows.old key.now (λ r. update r txn ts) → IsOk result }
+/// The state of a key that this holder has locked, and for which nobody waits.
+fn held_state(alloc: Global, holder: &Holder) -> KeyState
+    ensures { result ≡ held holder.now }
 {
-    if let Some(reply) = raise_at(lone, key, txn, ts) {
-        return Ok(reply);
-    }
-    if lone.is_some() {
-        return Ok(Reply::Other);
-    }
-    rows.update(key, txn, ts, lets)
-}
-
-/// Frees the lone lock, if the transaction has it at this key. Says whether it has.
-fn free_at(lone: &mut Option<LoneLock>, key: &Key, txn: TxnId) -> bool
-    ensures freed { result ≡ true → (records : Records) →
-        StepsWithLone lone.old lone.new records finmap.empty key.now (λ r. finish r txn) [] Freed }
-    ensures gone { result ≡ true → lone.new ≡ None }
-    ensures other { result ≡ false → (is_lone_of lone.old key.now txn ≡ false) × (lone.new ≡ lone.old) }
-    ensures some { IsSome lone.new → IsSome lone.old }
-{
-    if !is_lone_of(lone, key, txn) {
-        return false;
-    }
-    *lone = None;
-    true
-}
-
-/// The holder releases the lone lock, or a lock in the rows.
-#[inline(always)]
-fn finish_with(
-    lone: &mut Option<LoneLock>,
-    rows: &mut RowTable,
-    key: &Key,
-    txn: TxnId,
-    lets: &mut Vec<Through>,
-) -> Result<Reply, AllocError>
-    requires with_lone { IsWithLone lone.old rows.old }
-    requires lets { lets.old.items ≡ [] }
-    ensures ok { IfOk result (StepsWithLone lone.old lone.new rows.old rows.new key.now
-        (λ r. finish r txn) lets.new.items) }
-    ensures with_lone { IsWithLone lone.new rows.new }
-    ensures err { OnErr result (KeepsWithLone lone.old lone.new rows.old rows.new lets.new.items) }
-    ensures no_memory { UsesNoMemoryAt (with_lone lone.old) rows.old key.now (λ r. finish r txn) → IsOk result }
-{
-    if lone.is_none() {
-        return rows.finish(key, txn, lets);
-    }
-    if free_at(lone, key, txn) {
-        return Ok(Reply::Freed);
-    }
-    Ok(Reply::Other)
-}
-
-/// A request leaves the key. Nobody waits for a lone lock.
-#[inline(always)]
-fn leave_with(
-    lone: &Option<LoneLock>,
-    rows: &mut RowTable,
-    key: &Key,
-    number: u64,
-    lets: &mut Vec<Through>,
-) -> Result<Reply, AllocError>
-    requires with_lone { IsWithLone lone.now rows.old }
-    requires lets { lets.old.items ≡ [] }
-    ensures ok { IfOk result (StepsWithLone lone.now lone.now rows.old rows.new key.now
-        (λ r. leave r number) lets.new.items) }
-    ensures with_lone { IsWithLone lone.now rows.new }
-    ensures err { OnErr result (KeepsWithLone lone.now lone.now rows.old rows.new lets.new.items) }
-    ensures no_memory { UsesNoMemoryAt (with_lone lone.now) rows.old key.now (λ r. leave r number) → IsOk result }
-{
-    if lone.is_some() {
-        return Ok(Reply::Absent);
-    }
-    rows.leave(key, number, lets)
+    let mut state = KeyState::empty(alloc);
+    state.holder = Some(*holder);
+    state
 }
 
 /// What the request with this number finds at the key. Nobody waits for a lone lock.
@@ -245,13 +147,19 @@ fn look_with(lone: &Option<LoneLock>, rows: &RowTable, key: &Key, number: u64) -
     rows.look(key, number)
 }
 
-/// The state of a key that this holder has locked, and for which nobody waits.
-fn held_state(alloc: Global, holder: &Holder) -> KeyState
-    ensures { result ≡ held holder.now }
+/// How many requests are queued at the key. Nobody waits for a lone lock.
+fn lengths_with(lone: &Option<LoneLock>, rows: &RowTable, key: &Key) -> QueueLengths
+    requires { IsWithLone lone.now rows.now }
+    ensures writers { result.writers ≡ length (record_at (with_lone lone.now rows.now) key.now).writers }
+    ensures readers { result.readers ≡ length (record_at (with_lone lone.now rows.now) key.now).readers }
 {
-    let mut state = KeyState::empty(alloc);
-    state.holder = Some(*holder);
-    state
+    if lone.is_some() {
+        return QueueLengths {
+            writers: 0,
+            readers: 0,
+        };
+    }
+    rows.lengths(key)
 }
 
 /// A copy of the key's record.
@@ -298,65 +206,28 @@ impl KeyTable for LinkedTable {
     ghost records = { λ t. t };
 
     #[inline(always)]
-    fn visit(
+    fn step(
         &mut self,
         key: &Key,
-        request: &Request,
-        access: Access,
-        wait: u32,
+        pass: u32,
+        call: &Call,
         lets: &mut Vec<Through>,
     ) -> Result<Reply, AllocError> {
-        if passes_lone(&self.lone, key, request, access) {
-            return Ok(Reply::Passed);
+        if let Some(reply) = step_alone(&mut self.lone, key, call) {
+            return Ok(reply);
         }
-        add_row(&mut self.lone, &mut self.rows, lets)?;
-        self.rows.visit(key, request, access, wait, lets)
-    }
-
-    #[inline(always)]
-    fn acquire(
-        &mut self,
-        key: &Key,
-        txn: TxnId,
-        ts: Timestamp,
-        lets: &mut Vec<Through>,
-    ) -> Result<Reply, AllocError> {
-        acquire_with(&mut self.lone, &mut self.rows, key, txn, ts, lets)
-    }
-
-    #[inline(always)]
-    fn update(
-        &mut self,
-        key: &Key,
-        txn: TxnId,
-        ts: Timestamp,
-        lets: &mut Vec<Through>,
-    ) -> Result<Reply, AllocError> {
-        update_with(&mut self.lone, &mut self.rows, key, txn, ts, lets)
-    }
-
-    #[inline(always)]
-    fn finish(
-        &mut self,
-        key: &Key,
-        txn: TxnId,
-        lets: &mut Vec<Through>,
-    ) -> Result<Reply, AllocError> {
-        finish_with(&mut self.lone, &mut self.rows, key, txn, lets)
-    }
-
-    #[inline(always)]
-    fn leave(
-        &mut self,
-        key: &Key,
-        number: u64,
-        lets: &mut Vec<Through>,
-    ) -> Result<Reply, AllocError> {
-        leave_with(&self.lone, &mut self.rows, key, number, lets)
+        if has_no_lock(&self.lone, &self.rows) {
+            return step_first(&mut self.lone, key, call);
+        }
+        step_rows(&mut self.lone, &mut self.rows, key, pass, call, lets)
     }
 
     fn look(&self, key: &Key, number: u64) -> Reply {
         look_with(&self.lone, &self.rows, key, number)
+    }
+
+    fn lengths(&self, key: &Key) -> QueueLengths {
+        lengths_with(&self.lone, &self.rows, key)
     }
 
     fn state(&self, alloc: Global, key: &Key) -> Result<KeyState, AllocError> {

@@ -1,12 +1,12 @@
 -- Where a request or a transaction stands in a state of the key, and after each step.
 use Rattle.std.specs.Prelude.{ℕ, Bool, true, false, nat_eq, if◌then◌else◌, Option, Some, None, List, ◌∷◌, map}
 use Rattle.std.specs.List.{find}
-use Rattle.lt_plain.specs.declared.call.Call.{Call}
-use Rattle.lt_plain.specs.declared.call.Call.TheVariants.{Visit, Acquire, Update, Finish, Leave, Look}
-use Rattle.lt_plain.specs.declared.queued.Holder.{Holder}
-use Rattle.lt_plain.specs.declared.queued.QueuedRequest.{QueuedRequest}
-use Rattle.lt_plain.specs.declared.queued.QueuedWriter.{QueuedWriter}
-use Rattle.lt_plain.specs.Rules.{Record, number_of, writer_number}
+use Rattle.lt_rules.specs.declared.call.Call.{Call}
+use Rattle.lt_rules.specs.declared.call.Call.TheVariants.{Visit, Acquire, Update, Finish, Leave, Look}
+use Rattle.lt_rules.specs.declared.queued.Holder.{Holder}
+use Rattle.lt_rules.specs.declared.queued.QueuedRequest.{QueuedRequest}
+use Rattle.lt_rules.specs.declared.queued.QueuedWriter.{QueuedWriter}
+use Rattle.lt_rules.specs.Rules.{Record, number_of, writer_number}
 use Rattle.lt_picture.specs.declared.step.ShownStep.{ShownStep}
 use Rattle.lt_picture.specs.declared.timeline.Lane.{Lane}
 use Rattle.lt_picture.specs.declared.timeline.Lane.TheVariants.{Txn, Request}

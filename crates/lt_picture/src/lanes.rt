@@ -9,7 +9,7 @@ use crate::error::PictureError;
 use crate::step::ShownStep;
 use crate::timeline::{Lane, Phase, is_out, lane_of, run_end, timeline};
 use lt_ids::Ticket;
-use lt_plain::KeyState;
+use lt_rules::KeyState;
 use std::alloc::{AllocError, Global};
 
 /// How many steps a picture has at most.

@@ -1,6 +1,6 @@
 //! What is drawn? The steps of one key, each with the key's state after it.
 use lt_ids::Ticket;
-use lt_plain::{Call, KeyState, Reply};
+use lt_rules::{Call, KeyState, Reply};
 
 /// A step of a key.
 #[derive(Drop)]

@@ -16,7 +16,7 @@ use crate::step::ShownStep;
 use crate::timeline::{Lane, Phase, lane_of};
 use crate::words::put_step_words;
 use lt_ids::{Access, Key};
-use lt_plain::{Call, Reply};
+use lt_rules::{Call, Reply};
 use lt_text::put::put_number;
 use std::alloc::{AllocError, Global};
 

@@ -2,11 +2,11 @@
 //! them before the first step. [`run_end`] finds where a phase ends. `specs/Phases.antt` defines both.
 ghost use Rattle.std.specs.Prelude.{ℕ, ◌≡◌, ◌≢◌, ◌≤◌, ◌<◌, IfOk, length, nat_eq, slice_get};
 ghost use Rattle.std.specs.List.{find};
-ghost use Rattle.lt_plain.specs.Rules.{number_of, writer_number};
+ghost use Rattle.lt_rules.specs.Rules.{number_of, writer_number};
 ghost use Rattle.lt_picture.specs.Phases.{holder_phase, queued_phase, request_phase, phase_of, timeline_of, is_out, caller_of};
 
 use crate::step::ShownStep;
-use lt_plain::{Call, Holder, KeyState, QueuedRequest, QueuedWriter};
+use lt_rules::{Call, Holder, KeyState, QueuedRequest, QueuedWriter};
 use std::alloc::{AllocError, Global};
 
 /// Whose life a row of the picture shows.

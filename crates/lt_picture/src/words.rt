@@ -2,7 +2,7 @@
 //! page of HTML has the same cells.
 use crate::step::ShownStep;
 use lt_ids::Ticket;
-use lt_plain::{Holder, KeyState, QueuedRequest, QueuedWriter};
+use lt_rules::{Holder, KeyState, QueuedRequest, QueuedWriter};
 use lt_text::put::{
     put_call, put_number, put_number_word, put_reply, put_ticket, put_time, put_word,
 };

@@ -9,8 +9,8 @@ use Rattle.std.specs.Option.{option_map}
 use Rattle.std.proofs.lemmas.List.{map-append}
 use Rattle.std.proofs.lemmas.List.Elements.{filter-append}
 use Rattle.lt_links.specs.declared.ids.Queue.{Queue}
-use Rattle.lt_plain.specs.Rules.{Record, through_of, is_txn, has_txn, active_requests, is_of, leading, set_back}
-use Rattle.lt_plain.proofs.Orderly.{all_filter}
+use Rattle.lt_rules.specs.Rules.{Record, through_of, is_txn, has_txn, active_requests, is_of, leading, set_back}
+use Rattle.lt_rules.proofs.Orderly.{all_filter}
 use Rattle.lt_links.specs.declared.stand.Stand.{Stand}
 use Rattle.lt_links.specs.declared.ids.QueueKind.{QueueKind}
 use Rattle.lt_links.specs.declared.ids.QueueKind.TheVariants.{Writers, Readers, Reservation}

@@ -11,12 +11,12 @@ use Rattle.lt_links.specs.declared.stand.Stand.{Stand}
 use Rattle.lt_links.specs.declared.ids.Queue.{Queue}
 use Rattle.lt_links.specs.Ring.{has}
 use Rattle.lt_links.specs.Maps.{Maps, queue, HasNode, IsSound}
-use Rattle.lt_plain.specs.declared.queued.QueuedRequest.{QueuedRequest}
-use Rattle.lt_plain.specs.declared.queued.QueuedWriter.{QueuedWriter}
-use Rattle.lt_plain.specs.Rules.{number_of, writer_number}
-use Rattle.lt_plain.specs.Lawful.{Rises}
-use Rattle.lt_plain.specs.Visit.{enqueue, waiting}
-use Rattle.lt_plain.proofs.Cases.{all_weaker, all_map, all_append, all_front, all_back, all_both}
+use Rattle.lt_rules.specs.declared.queued.QueuedRequest.{QueuedRequest}
+use Rattle.lt_rules.specs.declared.queued.QueuedWriter.{QueuedWriter}
+use Rattle.lt_rules.specs.Rules.{number_of, writer_number}
+use Rattle.lt_rules.specs.Lawful.{Rises}
+use Rattle.lt_rules.specs.Visit.{enqueue, waiting}
+use Rattle.lt_rules.proofs.Cases.{all_weaker, all_map, all_append, all_front, all_back, all_both}
 use Rattle.lt_row.specs.Row.{line, stand_at, stands_at, request_of, writer_of, IsNamed}
 use Rattle.lt_row.specs.Found.{WritesQueue, IsPosition, KeepsNodes, PutsWriter}
 use Rattle.lt_row.proofs.Places.{has_cut, ends, last_end}

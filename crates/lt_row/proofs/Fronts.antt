@@ -6,7 +6,7 @@ use Rattle.std.specs.List.{AllByRecursion, find}
 use Rattle.std.proofs.lemmas.List.{append-nil}
 use Rattle.std.proofs.lemmas.Bool.Decides.{nat_tests}
 use Rattle.lt_ids.specs.declared.ticket.Through.{Through}
-use Rattle.lt_plain.specs.Rules.{has_txn, through_of, active_requests, leading}
+use Rattle.lt_rules.specs.Rules.{has_txn, through_of, active_requests, leading}
 use Rattle.lt_links.specs.declared.stand.Stand.{Stand}
 use Rattle.lt_links.specs.declared.ids.Queue.{Queue}
 use Rattle.lt_links.specs.Maps.{Maps, queue, stand, has_record, IsSound, Removes}
@@ -83,6 +83,13 @@ front_more m done n s rest is none =
     append_assoc done (waiting_lets (s ∷ [])) (waiting_lets (leading_writers (stands_at m rest)))
     ∙ ap (λ l. done ++ l) (sym (waiting_cons s (leading_writers (stands_at m rest))))
     ∙ ap (λ l. done ++ waiting_lets l) (sym (ap (λ t. leading_writers (t ∷ stands_at m rest)) (stand_is m n s is) ∙ ap (λ b. cond b (s ∷ []) (s ∷ leading_writers (stands_at m rest))) none))
+
+-- the lets of the rest begin with that of the next writer
+pub front_part : (m : Maps) (done : List Through) (n : ℕ) (s : Stand) (rest : List ℕ) → stand m n ≡ Some s → (extra : List Through) × ((done ++ waiting_lets (s ∷ [])) ++ extra ≡ front_and m done (n ∷ rest))
+front_part m done n s rest is = elim (is_some s.txn) as (λ b. is_some s.txn ≡ b → (extra : List Through) × ((done ++ waiting_lets (s ∷ [])) ++ extra ≡ front_and m done (n ∷ rest))) [
+  | true ↦ λ e. ([], append-nil (done ++ waiting_lets (s ∷ [])) ∙ ap (λ k. done ++ waiting_lets k) (sym (ap (λ t. leading_writers (t ∷ stands_at m rest)) (stand_is m n s is) ∙ ap (λ b. cond b (s ∷ []) (s ∷ leading_writers (stands_at m rest))) e)))
+  | false ↦ λ e. (waiting_lets (leading_writers (stands_at m rest)), front_more m done n s rest is e)
+] refl
 
 -- and it ends at a writer with a transaction
 pub front_end : (m : Maps) (l : List ℕ) (done : List Through) (n : ℕ) (s : Stand) (x : List Through) → IsWalk l (Some n) (front_and m done) x → stand m n ≡ Some s → is_some s.txn ≡ true → done ++ waiting_lets (s ∷ []) ≡ x

@@ -4,14 +4,14 @@ use Rattle.std.specs.List.{AllByRecursion, IsDistinct, list_any, find}
 use Rattle.std.specs.Option.{option_map}
 use Rattle.std.proofs.lemmas.Bool.Decides.{nat_tests}
 use Rattle.lt_ids.specs.declared.timestamp.Timestamp.{Timestamp}
-use Rattle.lt_plain.specs.declared.queued.Holder.{Holder}
-use Rattle.lt_plain.specs.declared.call.Call.TheVariants.{Acquire, Update, Finish, Leave}
-use Rattle.lt_plain.specs.declared.call.Reply.TheVariants.{Freed, Left, Absent, Nothing, Other}
-use Rattle.lt_plain.specs.Rules.{Record, number_of, writer_number, Outcome, free, raise, take_lock, acquire_from, update_from, finish_from, leave, unchanged, is_reserved_by, is_waiting, without_reader, without_writer, settle}
-use Rattle.lt_plain.specs.Step.{look, look_reader, look_waiter}
-use Rattle.lt_plain.specs.Lawful.{IsLawful, numbers}
-use Rattle.lt_plain.proofs.Lawfulness.{step_keeps_lawful}
-use Rattle.lt_plain.proofs.Cases.{all_append, all_front, all_back}
+use Rattle.lt_rules.specs.declared.queued.Holder.{Holder}
+use Rattle.lt_rules.specs.declared.call.Call.TheVariants.{Acquire, Update, Finish, Leave}
+use Rattle.lt_rules.specs.declared.call.Reply.TheVariants.{Freed, Left, Absent, Nothing, Other}
+use Rattle.lt_rules.specs.Rules.{Record, number_of, writer_number, Outcome, free, raise, take_lock, acquire_from, update_from, finish_from, leave, unchanged, is_reserved_by, is_waiting, without_reader, without_writer, settle}
+use Rattle.lt_rules.specs.Step.{look, look_reader, look_waiter}
+use Rattle.lt_rules.specs.Lawful.{IsLawful, numbers}
+use Rattle.lt_rules.proofs.Lawfulness.{step_keeps_lawful}
+use Rattle.lt_rules.proofs.Cases.{all_append, all_front, all_back}
 use Rattle.lt_links.specs.declared.stand.Stand.{Stand}
 use Rattle.lt_links.specs.declared.ids.QueueKind.{QueueKind}
 use Rattle.lt_links.specs.declared.ids.QueueKind.TheVariants.{Writers, Readers, Reservation}

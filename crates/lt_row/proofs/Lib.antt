@@ -11,3 +11,5 @@ pub mod Waits
 pub mod Visits
 pub mod Copies
 pub mod Records
+pub mod Rooms
+pub mod Grows

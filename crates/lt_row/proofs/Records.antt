@@ -7,12 +7,12 @@ use Rattle.lt_ids.specs.declared.ticket.Through.{Through}
 use Rattle.lt_links.specs.declared.ids.QueueKind.{QueueKind}
 use Rattle.lt_links.specs.declared.ids.QueueKind.TheVariants.{Writers, Readers, Reservation}
 use Rattle.lt_links.specs.Maps.{Maps, has_record, IsEmpty, IsSound}
-use Rattle.lt_plain.specs.declared.call.Call.{Call}
-use Rattle.lt_plain.specs.declared.call.Reply.{Reply}
-use Rattle.lt_plain.specs.Rules.{empty}
-use Rattle.lt_plain.specs.Step.{step}
-use Rattle.lt_plain.specs.Lawful.{IsLawful}
-use Rattle.lt_plain.proofs.Lawfulness.{step_keeps_lawful, empty_is_lawful}
+use Rattle.lt_rules.specs.declared.call.Call.{Call}
+use Rattle.lt_rules.specs.declared.call.Reply.{Reply}
+use Rattle.lt_rules.specs.Rules.{empty}
+use Rattle.lt_rules.specs.Step.{step}
+use Rattle.lt_rules.specs.Lawful.{IsLawful}
+use Rattle.lt_rules.proofs.Lawfulness.{step_keeps_lawful, empty_is_lawful}
 use Rattle.lt_row.specs.declared.row.Row.{Row}
 use Rattle.lt_row.specs.Row.{stands_at, line, queue_at, record_of, HasQueues}
 use Rattle.lt_row.specs.RowStepped.{IsRow, UpdatesRow}

@@ -5,11 +5,11 @@ use Rattle.std.specs.List.{AllByRecursion, IsDistinct, list_any, find}
 use Rattle.std.specs.Option.{option_map}
 use Rattle.std.proofs.lemmas.List.{map-append}
 use Rattle.std.proofs.lemmas.Bool.Decides.{nat_tests}
-use Rattle.lt_plain.specs.declared.queued.QueuedRequest.{QueuedRequest}
-use Rattle.lt_plain.specs.Rules.{Record, number_of, writer_number, is_eligible, eligible}
-use Rattle.lt_plain.proofs.Queue.{any_eligible, first_without_readers, first_of_readers}
-use Rattle.lt_plain.specs.Lawful.{numbers}
-use Rattle.lt_plain.proofs.Cases.{all_front, all_back, all_unmap, all_weaker}
+use Rattle.lt_rules.specs.declared.queued.QueuedRequest.{QueuedRequest}
+use Rattle.lt_rules.specs.Rules.{Record, number_of, writer_number, is_eligible, eligible}
+use Rattle.lt_rules.proofs.Queue.{any_eligible, first_without_readers, first_of_readers}
+use Rattle.lt_rules.specs.Lawful.{numbers}
+use Rattle.lt_rules.proofs.Cases.{all_front, all_back, all_unmap, all_weaker}
 use Rattle.lt_links.specs.declared.stand.Stand.{Stand}
 use Rattle.lt_links.specs.declared.ids.Queue.{Queue}
 use Rattle.lt_links.specs.declared.ids.QueueKind.{QueueKind}

@@ -2,13 +2,13 @@
 use Rattle.std.proofs.Common.{◌≡◌, ◌≢◌, ◌≤◌, ℕ, false, List, [], ◌∷◌, ◌++◌, length, Some, None, slice_get, refl, sym, ap, ◌∙◌, subst, arith, nat_eq, is_some}
 use Rattle.std.specs.List.{AllByRecursion, IsDistinct, last_or}
 use Rattle.lt_ids.specs.declared.request.Access.{Access}
-use Rattle.lt_plain.specs.declared.call.Call.TheVariants.{Visit}
-use Rattle.lt_plain.specs.declared.call.Reply.{Reply}
-use Rattle.lt_plain.specs.declared.call.Reply.TheVariants.{Passed}
-use Rattle.lt_plain.specs.Rules.{Record, set_back, stop_reading, without_reader}
-use Rattle.lt_plain.specs.Visit.{pass, visit_lock}
-use Rattle.lt_plain.specs.Lawful.{numbers}
-use Rattle.lt_plain.proofs.Lawfulness.{step_keeps_lawful}
+use Rattle.lt_rules.specs.declared.call.Call.TheVariants.{Visit}
+use Rattle.lt_rules.specs.declared.call.Reply.{Reply}
+use Rattle.lt_rules.specs.declared.call.Reply.TheVariants.{Passed}
+use Rattle.lt_rules.specs.Rules.{Record, set_back, stop_reading, without_reader}
+use Rattle.lt_rules.specs.Visit.{pass, visit_lock}
+use Rattle.lt_rules.specs.Lawful.{numbers}
+use Rattle.lt_rules.proofs.Lawfulness.{step_keeps_lawful}
 use Rattle.lt_links.specs.declared.stand.Stand.{Stand}
 use Rattle.lt_links.specs.declared.ids.Queue.{Queue}
 use Rattle.lt_links.specs.declared.ids.QueueKind.TheVariants.{Writers, Readers, Reservation}

@@ -3,14 +3,14 @@ use Rattle.std.proofs.Common.{◌≡◌, ◌≢◌, ◌<◌, ℕ, true, false, L
 use Rattle.std.specs.List.{AllByRecursion, IsDistinct, list_any}
 use Rattle.std.proofs.lemmas.List.{map-append}
 use Rattle.std.proofs.lemmas.Bool.Decides.{nat_tests}
-use Rattle.lt_plain.specs.declared.queued.QueuedRequest.{QueuedRequest}
-use Rattle.lt_plain.specs.declared.queued.QueuedWriter.{QueuedWriter}
-use Rattle.lt_plain.specs.declared.call.Reply.{Reply}
-use Rattle.lt_plain.specs.declared.call.Reply.TheVariants.{MustWait}
-use Rattle.lt_plain.specs.Rules.{Record, number_of, writer_number, unchanged, stop_reading, without_reader}
-use Rattle.lt_plain.specs.Visit.{enqueue, waiting, is_queued, wait_to_write, wait_to_read}
-use Rattle.lt_plain.specs.Lawful.{Rises, numbers}
-use Rattle.lt_plain.proofs.Cases.{all_append, all_front, all_back}
+use Rattle.lt_rules.specs.declared.queued.QueuedRequest.{QueuedRequest}
+use Rattle.lt_rules.specs.declared.queued.QueuedWriter.{QueuedWriter}
+use Rattle.lt_rules.specs.declared.call.Reply.{Reply}
+use Rattle.lt_rules.specs.declared.call.Reply.TheVariants.{MustWait}
+use Rattle.lt_rules.specs.Rules.{Record, number_of, writer_number, unchanged, stop_reading, without_reader}
+use Rattle.lt_rules.specs.Visit.{enqueue, waiting, is_queued, wait_to_write, wait_to_read}
+use Rattle.lt_rules.specs.Lawful.{Rises, numbers}
+use Rattle.lt_rules.proofs.Cases.{all_append, all_front, all_back}
 use Rattle.lt_links.specs.declared.stand.Stand.{Stand}
 use Rattle.lt_links.specs.declared.ids.Queue.{Queue}
 use Rattle.lt_links.specs.declared.ids.QueueKind.{QueueKind}

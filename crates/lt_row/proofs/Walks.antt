@@ -11,7 +11,7 @@ use Rattle.lt_links.specs.declared.ids.Queue.{Queue}
 use Rattle.lt_links.specs.Ring.{has, is_in, Distinct}
 use Rattle.lt_links.specs.Maps.{Maps, queue, stand, has_record, IsSound, Removes}
 use Rattle.lt_links.proofs.Rings.{same_or_apart}
-use Rattle.lt_plain.specs.Rules.{through_of}
+use Rattle.lt_rules.specs.Rules.{through_of}
 use Rattle.lt_row.specs.declared.queue_walk.Selection.{Selection}
 use Rattle.lt_row.specs.Row.{line, stand_at, stands_at, request_of}
 use Rattle.lt_row.specs.Found.{WritesQueue, IsPosition, leaves, goes_on}

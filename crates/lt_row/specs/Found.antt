@@ -8,8 +8,8 @@ use Rattle.lt_links.specs.declared.stand.Stand.{Stand}
 use Rattle.lt_links.specs.declared.ids.Queue.{Queue}
 use Rattle.lt_links.specs.declared.ids.QueueKind.{QueueKind}
 use Rattle.lt_links.specs.Maps.{Maps, queue, stand, has_record, HasNode, IsSound}
-use Rattle.lt_plain.specs.Rules.{is_txn, is_eligible, through_of}
-use Rattle.lt_plain.specs.Visit.{enqueue}
+use Rattle.lt_rules.specs.Rules.{is_txn, is_eligible, through_of}
+use Rattle.lt_rules.specs.Visit.{enqueue}
 use Rattle.lt_row.specs.Row.{stand_at, stands_at, line, queue_at, request_of, writer_of, IsNamed}
 use Rattle.lt_row.specs.declared.find.Found.{Found}
 use Rattle.lt_row.specs.declared.queue_walk.Selection.{Selection}

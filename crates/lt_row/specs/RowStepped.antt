@@ -3,12 +3,13 @@ use Rattle.std.specs.Prelude.{◌≡◌, ◌≢◌, ℕ, Bool, Some, None, List,
 use Rattle.std.specs.List.{find}
 use Rattle.std.specs.Option.{option_map}
 use Rattle.lt_ids.specs.declared.ticket.Through.{Through}
-use Rattle.lt_plain.specs.declared.call.Reply.{Reply}
+use Rattle.lt_rules.specs.declared.call.Reply.{Reply}
 use Rattle.lt_ids.specs.declared.request.Access.{Access}
-use Rattle.lt_plain.specs.declared.queued.QueuedRequest.{QueuedRequest}
-use Rattle.lt_plain.specs.Rules.{Record, Outcome, IsOutcome, TakesNoMemory, has_txn, is_of, leading, set_back, stop_reading}
-use Rattle.lt_plain.specs.Visit.{pass, visit}
-use Rattle.lt_plain.specs.Lawful.{IsLawful}
+use Rattle.lt_rules.specs.declared.queued.QueuedRequest.{QueuedRequest}
+use Rattle.lt_rules.specs.Rules.{Record, Outcome, IsOutcome, TakesNoMemory, has_txn, is_of, leading, set_back, stop_reading}
+use Rattle.lt_rules.specs.Visit.{pass, visit}
+use Rattle.lt_rules.specs.Memory.{GrowsRoom}
+use Rattle.lt_rules.specs.Lawful.{IsLawful}
 use Rattle.lt_links.specs.declared.ids.Queue.{Queue}
 use Rattle.lt_links.specs.Maps.{Maps, has_record}
 use Rattle.lt_links.specs.declared.stand.Stand.{Stand}
@@ -88,3 +89,7 @@ with_set_back txn r =
 -- whether nobody is queued at the key or has its reservation
 abbrev pub has_nobody : Record → Bool
 has_nobody r = is_none r.reservation && nat_eq (length r.writers) 0 && nat_eq (length r.readers) 0
+
+-- No more requests are at the key than before, or there is room for more lets than there were requests.
+abbrev pub MakesRoom : Maps → Maps → Row → ℕ → Type 0
+MakesRoom old new row room = GrowsRoom (record_of old row) (record_of new row) room

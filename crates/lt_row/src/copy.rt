@@ -9,7 +9,7 @@ use crate::row::{Row, queue};
 use crate::settle::reserved;
 use lt_ids::Ticket;
 use lt_links::{Links, Queue, QueueKind, Stand};
-use lt_plain::{KeyState, QueuedRequest, QueuedWriter};
+use lt_rules::{KeyState, QueuedRequest, QueuedWriter};
 use std::alloc::{AllocError, Global};
 
 fn request_of(stand: &Stand) -> QueuedRequest

@@ -7,28 +7,33 @@
 //!
 //! What is promised: each call is the step of the rules on the row's record, with the reply and the lets of the
 //! rules, and no other row's queues change (`UpdatesRow` in `specs/RowStepped.antt`). A call makes all its
-//! allocations, lets included, before its first change. So after an error, the row and the links are the old ones.
+//! allocations, lets included, before its first change. So after an error, the row and the links are the old ones. A
+//! visit that brings one more request to the key makes room for its let, so that the call which lets it through needs
+//! no memory.
 //!
 //! A request's entry at a key is found in the list of the request's own entries, without walking a queue. A new
-//! writer is inserted from the end of the queue, where it usually belongs. A check against a bound looks at no
-//! more nodes than the bound. A queue is walked only if each of its entries must be looked at.
+//! writer is inserted from the end of the queue, where it usually belongs. A check against a bound asks
+//! the links for the length of the queue. A queue is walked only if each of its entries must be looked at.
 //!
 //! Read next: `specs/Row.antt` says which record a row and its queues stand for. In `src/`, `record` has the record
-//! of one key, over `row` and `visit`, which have the calls on a row. Below them, `settle` elects the distinguished
+//! of one key, over `one_call`, which makes a call that is given as a value, and
+//! `row` and `visit`, which have the calls. Below them, `settle` elects the distinguished
 //! waiter, `queue_walk` walks queues, `queue_edit` changes them, `find` finds a request's queue entry, `txn`
 //! compares transactions, and `copy` copies the state of a key.
 #![tactic(auto)]
 
 mod copy;
 mod find;
+mod one_call;
 mod queue_edit;
 mod queue_walk;
 mod record;
-pub mod row;
+mod row;
 mod settle;
 mod txn;
-pub mod visit;
+mod visit;
 
 pub use copy::state;
+pub use one_call::step;
 pub use record::LinkedRecord;
-pub use row::Row;
+pub use row::{Row, acquire, is_empty, lengths, look};

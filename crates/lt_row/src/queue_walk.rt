@@ -1,11 +1,11 @@
 //! What must look at the entries of a queue one by one? These functions collect lets, drop entries that leave, and
 //! search a queue in order. `row.rt` uses them when a lock comes free, is raised or is taken, `settle.rt` to elect
 //! the distinguished waiter, and `visit.rt` to insert a writer.
-ghost use Rattle.std.specs.Prelude.{◌≡◌, ◌∷◌, ◌++◌, [], true, length, nat_le, OnOk, OnErr};
+ghost use Rattle.std.specs.Prelude.{◌≡◌, ◌∷◌, ◌++◌, ◌<◌, ◌≤◌, [], true, length, nat_le, OnOk, OnErr, vec_capacity};
 ghost use Rattle.std.specs.List.{AllByRecursion};
 ghost use Rattle.std.specs.Option.{option_map};
 ghost use Rattle.lt_links.specs.Maps.{has_record, IsSound};
-ghost use Rattle.lt_plain.specs.Rules.{through_of, is_eligible};
+ghost use Rattle.lt_rules.specs.Rules.{through_of, is_eligible};
 ghost use Rattle.lt_row.specs.Row.{line, request_of, writer_of, IsNamed};
 ghost use Rattle.lt_row.specs.Found.{leaves, goes_on, waiting_lets, selected_lets, leading_lets, without_selected, first_eligible_number, from_txn, WritesQueue, IsPosition};
 
@@ -63,6 +63,8 @@ fn push_selected(
     requires there { has_record links.now queue.now.id ≡ true }
     requires named { AllByRecursion IsNamed (line links.now queue.now) }
     ensures ok { OnOk result (lets.new.items ≡ lets.old.items ++ selected_lets who.now (line links.now queue.now)) }
+    ensures full { OnErr result (vec_capacity lets.old < length (lets.old.items ++ selected_lets who.now (line links.now queue.now))) }
+    ensures kept { vec_capacity lets.old ≤ vec_capacity lets.new }
 {
     let mut at = links.first(*queue);
     while let Some(node) = at {
@@ -86,6 +88,8 @@ pub(crate) fn collect_selected(
     requires named { AllByRecursion IsNamed (line links.now queue.now) }
     ensures ok { OnOk result (lets.new.items ≡ lets.old.items ++ selected_lets who.now (line links.now queue.now)) }
     ensures err { OnErr result (lets.new.items ≡ []) }
+    ensures full { OnErr result (vec_capacity lets.old < length (lets.old.items ++ selected_lets who.now (line links.now queue.now))) }
+    ensures kept { vec_capacity lets.old ≤ vec_capacity lets.new }
 {
     let done = push_selected(links, queue, who, lets);
     if done.is_err() {
@@ -97,7 +101,9 @@ pub(crate) fn collect_selected(
 /// Appends to `lets` the let of a queue entry, if it is waiting.
 fn push_let(stand: &Stand, lets: &mut Vec<Through>) -> Result<(), AllocError>
     requires { IsNamed stand.now }
-    ensures { OnOk result (lets.new.items ≡ lets.old.items ++ waiting_lets (stand.now ∷ [])) }
+    ensures ok { OnOk result (lets.new.items ≡ lets.old.items ++ waiting_lets (stand.now ∷ [])) }
+    ensures full { OnErr result (vec_capacity lets.old < length (lets.old.items ++ waiting_lets (stand.now ∷ []))) }
+    ensures kept { vec_capacity lets.old ≤ vec_capacity lets.new }
 {
     if stand.active {
         lets.push(through(stand))?;
@@ -111,6 +117,8 @@ fn push_front_lets(links: &Links, queue: &Queue, lets: &mut Vec<Through>) -> Res
     requires there { has_record links.now queue.now.id ≡ true }
     requires named { AllByRecursion IsNamed (line links.now queue.now) }
     ensures ok { OnOk result (lets.new.items ≡ lets.old.items ++ leading_lets (line links.now queue.now)) }
+    ensures full { OnErr result (vec_capacity lets.old < length (lets.old.items ++ leading_lets (line links.now queue.now))) }
+    ensures kept { vec_capacity lets.old ≤ vec_capacity lets.new }
 {
     let mut at = links.first(*queue);
     while let Some(node) = at {
@@ -135,6 +143,8 @@ pub(crate) fn collect_front_lets(
     requires named { AllByRecursion IsNamed (line links.now queue.now) }
     ensures ok { OnOk result (lets.new.items ≡ lets.old.items ++ leading_lets (line links.now queue.now)) }
     ensures err { OnErr result (lets.new.items ≡ []) }
+    ensures full { OnErr result (vec_capacity lets.old < length (lets.old.items ++ leading_lets (line links.now queue.now))) }
+    ensures kept { vec_capacity lets.old ≤ vec_capacity lets.new }
 {
     let done = push_front_lets(links, queue, lets);
     if done.is_err() {
@@ -217,19 +227,10 @@ pub(crate) fn position_of(links: &Links, queue: &Queue, number: u64) -> Option<N
     None
 }
 
-/// Whether the queue has at least this many entries. It looks at no more of them.
+/// Whether the queue has at least this many entries.
 pub(crate) fn has_at_least(links: &Links, queue: &Queue, count: u32) -> bool
     requires there { has_record links.now queue.now.id ≡ true }
     ensures { result ≡ nat_le count (length (line links.now queue.now)) }
 {
-    let mut left = count;
-    let mut at = links.first(*queue);
-    while left > 0 {
-        let Some(node) = at else {
-            return false;
-        };
-        left -= 1;
-        at = links.next(node);
-    }
-    true
+    count as usize <= links.len(*queue)
 }

@@ -1,17 +1,17 @@
 //! How does a caller keep the record of one key, without a table? [`LinkedRecord`] is a row with links of its own,
-//! and makes a call that is given as a value. Read `row.rt` and `visit.rt` next, which have the calls on a row.
+//! and makes a call that is given as a value. Read `one_call.rt` next, which makes a call on a row.
 ghost use Rattle.std.specs.Prelude.{◌≡◌, ◌≤◌, [], false, IfOk, OnErr, IsOk, IsTrue};
-ghost use Rattle.lt_plain.specs.Rules.{empty, IsOutcome, TakesNoMemory};
-ghost use Rattle.lt_plain.specs.Step.{step};
+ghost use Rattle.lt_rules.specs.Rules.{empty, IsOutcome, TakesNoMemory};
+ghost use Rattle.lt_rules.specs.Step.{step};
 ghost use Rattle.lt_row.specs.Row.{record_of};
-ghost use Rattle.lt_row.specs.RowStepped.{IsRow, UpdatesRow, RowUsesNoMemory, has_nobody};
+ghost use Rattle.lt_row.specs.RowStepped.{IsRow, has_nobody};
 
 use crate::copy::state;
-use crate::row::{self, Row, has_nobody};
-use crate::visit::{stand_of, visit};
-use lt_ids::{Request, Through};
+use crate::one_call::step;
+use crate::row::{Row, has_nobody};
+use lt_ids::Through;
 use lt_links::Links;
-use lt_plain::{Call, KeyState, Reply};
+use lt_rules::{Call, KeyState, Reply};
 use std::alloc::{AllocError, Global};
 use std::marker::Model;
 
@@ -23,8 +23,8 @@ pub struct LinkedRecord {
 }
 
 impl Model for LinkedRecord {
-    ghost use Rattle.lt_plain.specs.Codes.{record_code};
-    ghost use Rattle.lt_plain.specs.Rules.{Record};
+    ghost use Rattle.lt_rules.specs.Codes.{record_code};
+    ghost use Rattle.lt_rules.specs.Rules.{Record};
 
     ghost Value = { Record };
 
@@ -48,48 +48,6 @@ fn add_row(links: &mut Links) -> Result<Row, AllocError>
         holder: None,
         distinguished: None,
     })
-}
-
-/// Makes the call on a row, for the pass with this number.
-fn make_on_row(
-    links: &mut Links,
-    row: &mut Row,
-    pass: u32,
-    call: &Call,
-    lets: &mut Vec<Through>,
-) -> Result<Reply, AllocError>
-    requires row { IsRow links.old row.old }
-    requires lets { lets.old.items ≡ [] }
-    requires pass_low { 1 ≤ pass }
-    requires pass_high { pass ≤ 1024 }
-    ensures ok { IfOk result (UpdatesRow links.old links.new row.old row.new
-        (λ r. step r pass call.now) lets.new.items) }
-    ensures err { OnErr result ((links.new ≡ links.old) × (row.new ≡ row.old) × (lets.new.items ≡ [])) }
-    ensures no_memory { RowUsesNoMemory links.old row.old (λ r. step r pass call.now) → IsOk result }
-{
-    match *call {
-        Call::Visit {
-            ticket,
-            txn,
-            ts,
-            access,
-            longest,
-        } => {
-            let request = Request::new(ticket.number(), txn, ts, pass, longest).unwrap();
-            visit(
-                links,
-                row,
-                &stand_of(&request, ticket.wait()),
-                longest,
-                access,
-            )
-        }
-        Call::Acquire { txn, ts } => row::acquire(links, row, txn, ts, lets),
-        Call::Update { txn, ts } => row::update(links, row, txn, ts, lets),
-        Call::Finish { txn } => row::finish(links, row, txn, lets),
-        Call::Leave { number } => row::leave(links, row, number, lets),
-        Call::Look { number } => Ok(row::look(links, row, number)),
-    }
 }
 
 impl LinkedRecord {
@@ -133,7 +91,7 @@ impl LinkedRecord {
         ensures err { OnErr result ((self.new ≡ self.old) × (lets.new.items ≡ [])) }
         ensures no_memory { TakesNoMemory self.old (step self.old pass call.now) → IsOk result }
     {
-        make_on_row(&mut self.links, &mut self.row, pass, call, lets)
+        step(&mut self.links, &mut self.row, pass, call, lets)
     }
 
     /// A copy of the record. It fails only when an allocation fails.

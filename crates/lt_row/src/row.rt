@@ -1,14 +1,14 @@
 //! What is kept for one key beside its queues, and how do acquire, update, finish, leave and look work there? A
 //! [`Row`] has the holder, the distinguished waiter and the id of the key's queues. The contracts cite the
-//! definitions of the same names in `lt_plain/specs/Rules.antt` and `Step.antt`. Visits are in `visit.rt`.
+//! definitions of the same names in `lt_rules/specs/Rules.antt` and `Step.antt`. Visits are in `visit.rt`.
 //!
 //! The only error of a call is that memory ran out. A call makes all its allocations, lets included, before it
 //! changes the row or the links. So after an error, nothing has changed.
-ghost use Rattle.std.specs.Prelude.{◌≡◌, [], IfOk, OnOk, OnErr, IsOk, None, Some};
-ghost use Rattle.lt_plain.specs.declared.call.Reply.TheVariants.{Freed};
-ghost use Rattle.lt_plain.specs.Rules.{is_empty, free, free_with, raise, raise_to, take_lock, acquire, update, finish, leave};
-ghost use Rattle.lt_plain.specs.Step.{look, look_waiter, reserved_txn};
-ghost use Rattle.lt_plain.specs.Lawful.{IsLawful};
+ghost use Rattle.std.specs.Prelude.{◌≡◌, ◌<◌, ◌≤◌, [], length, vec_capacity, IfOk, OnOk, OnErr, IsOk, None, Some};
+ghost use Rattle.lt_rules.specs.declared.call.Reply.TheVariants.{Freed};
+ghost use Rattle.lt_rules.specs.Rules.{is_empty, free, free_with, raise, raise_to, take_lock, acquire, update, finish, leave};
+ghost use Rattle.lt_rules.specs.Step.{look, look_waiter, reserved_txn};
+ghost use Rattle.lt_rules.specs.Lawful.{IsLawful};
 ghost use Rattle.lt_row.specs.Row.{queue_at, record_of, writer_of, HasQueues};
 ghost use Rattle.lt_row.specs.RowStepped.{IsRow, IsRewritten, UpdatesRow, RowUsesNoMemory, with_first_reserved, with_next_reserved, with_set_back, has_nobody};
 
@@ -21,8 +21,8 @@ use crate::settle::{reserved, settle};
 use crate::txn::is_of;
 use lt_ids::{Through, Timestamp, TxnId};
 use lt_links::{Links, Queue, QueueKind, RecordId, Stand};
-use lt_plain::look::{look_reader, look_writer};
-use lt_plain::{Holder, Reply};
+use lt_rules::look::{look_reader, look_writer};
+use lt_rules::{Holder, QueueLengths, Reply};
 use std::alloc::AllocError;
 
 /// What is kept for one key. The key's queued requests are in the links.
@@ -46,6 +46,8 @@ fn collect_lets(links: &Links, row: &Row, lets: &mut Vec<Through>) -> Result<(),
     requires lets { lets.old.items ≡ [] }
     ensures ok { OnOk result (lets.new.items ≡ (free (record_of links.now row.now) Freed).lets) }
     ensures err { OnErr result (lets.new.items ≡ []) }
+    ensures full { OnErr result (vec_capacity lets.old < length (free (record_of links.now row.now) Freed).lets) }
+    ensures kept { vec_capacity lets.old ≤ vec_capacity lets.new }
 {
     collect_selected(
         links,
@@ -102,6 +104,8 @@ fn free_to_next(
     ensures ok { OnOk result (UpdatesRow links.old links.new row.old row.new
         (λ r. free_with r holder) lets.new.items Freed) }
     ensures err { OnErr result ((links.new ≡ links.old) × (row.new ≡ row.old) × (lets.new.items ≡ [])) }
+    ensures full { OnErr result (vec_capacity lets.old < length (free_with (record_of links.old row.old) holder).lets) }
+    ensures kept { vec_capacity lets.old ≤ vec_capacity lets.new }
 {
     collect_lets(links, row, lets)?;
     release_to_next(links, row);
@@ -124,6 +128,8 @@ fn free(
     ensures ok { OnOk result (UpdatesRow links.old links.new row.old row.new
         (λ r. free_with r holder) lets.new.items Freed) }
     ensures err { OnErr result ((links.new ≡ links.old) × (row.new ≡ row.old) × (lets.new.items ≡ [])) }
+    ensures full { OnErr result (vec_capacity lets.old < length (free_with (record_of links.old row.old) holder).lets) }
+    ensures kept { vec_capacity lets.old ≤ vec_capacity lets.new }
 {
     if !has_nobody(links, row) {
         return free_to_next(links, row, holder, lets);
@@ -146,6 +152,8 @@ fn raise_to(
     ensures ok { IfOk result (UpdatesRow links.old links.new row.old row.new
         (λ r. raise_to r holder.now ts) lets.new.items) }
     ensures err { OnErr result ((links.new ≡ links.old) × (row.new ≡ row.old) × (lets.new.items ≡ [])) }
+    ensures full { OnErr result (vec_capacity lets.old < length (raise_to (record_of links.old row.old) holder.now ts).lets) }
+    ensures kept { vec_capacity lets.old ≤ vec_capacity lets.new }
 {
     let readers = queue(row, QueueKind::Readers);
     collect_selected(links, &readers, &Selection::Below(ts), lets)?;
@@ -172,6 +180,8 @@ fn raise(
     ensures ok { IfOk result (UpdatesRow links.old links.new row.old row.new
         (λ r. raise r holder.now ts) lets.new.items) }
     ensures err { OnErr result ((links.new ≡ links.old) × (row.new ≡ row.old) × (lets.new.items ≡ [])) }
+    ensures full { OnErr result (vec_capacity lets.old < length (raise (record_of links.old row.old) holder.now ts).lets) }
+    ensures kept { vec_capacity lets.old ≤ vec_capacity lets.new }
     ensures no_memory { RowUsesNoMemory links.old row.old (λ r. raise r holder.now ts) → IsOk result }
 {
     if holder.ts < ts {
@@ -213,6 +223,8 @@ fn take_among_others(
     ensures ok { IfOk result (UpdatesRow links.old links.new row.old row.new
         (λ r. take_lock r holder.now) lets.new.items) }
     ensures err { OnErr result ((links.new ≡ links.old) × (row.new ≡ row.old) × (lets.new.items ≡ [])) }
+    ensures full { OnErr result (vec_capacity lets.old < length (take_lock (record_of links.old row.old) holder.now).lets) }
+    ensures kept { vec_capacity lets.old ≤ vec_capacity lets.new }
 {
     let writers = queue(row, QueueKind::Writers);
     collect_selected(links, &writers, &Selection::Of(holder.txn), lets)?;
@@ -236,6 +248,8 @@ fn take_lock(
     ensures ok { IfOk result (UpdatesRow links.old links.new row.old row.new
         (λ r. take_lock r holder.now) lets.new.items) }
     ensures err { OnErr result ((links.new ≡ links.old) × (row.new ≡ row.old) × (lets.new.items ≡ [])) }
+    ensures full { OnErr result (vec_capacity lets.old < length (take_lock (record_of links.old row.old) holder.now).lets) }
+    ensures kept { vec_capacity lets.old ≤ vec_capacity lets.new }
 {
     if !has_nobody(links, row) {
         return take_among_others(links, row, holder, lets);
@@ -257,6 +271,8 @@ pub fn acquire(
     requires lets { lets.old.items ≡ [] }
     ensures ok { IfOk result (UpdatesRow links.old links.new row.old row.new (λ r. acquire r txn ts) lets.new.items) }
     ensures err { OnErr result ((links.new ≡ links.old) × (row.new ≡ row.old) × (lets.new.items ≡ [])) }
+    ensures full { OnErr result (vec_capacity lets.old < length (acquire (record_of links.old row.old) txn ts).lets) }
+    ensures kept { vec_capacity lets.old ≤ vec_capacity lets.new }
     ensures no_memory { RowUsesNoMemory links.old row.old (λ r. acquire r txn ts) → IsOk result }
 {
     let held_by = row.holder;
@@ -268,7 +284,7 @@ pub fn acquire(
 }
 
 /// The holder raises its timestamp.
-pub fn update(
+pub(crate) fn update(
     links: &mut Links,
     row: &mut Row,
     txn: TxnId,
@@ -279,6 +295,8 @@ pub fn update(
     requires lets { lets.old.items ≡ [] }
     ensures ok { IfOk result (UpdatesRow links.old links.new row.old row.new (λ r. update r txn ts) lets.new.items) }
     ensures err { OnErr result ((links.new ≡ links.old) × (row.new ≡ row.old) × (lets.new.items ≡ [])) }
+    ensures full { OnErr result (vec_capacity lets.old < length (update (record_of links.old row.old) txn ts).lets) }
+    ensures kept { vec_capacity lets.old ≤ vec_capacity lets.new }
     ensures no_memory { RowUsesNoMemory links.old row.old (λ r. update r txn ts) → IsOk result }
 {
     let held_by = row.holder;
@@ -289,7 +307,7 @@ pub fn update(
 }
 
 /// The holder releases the lock.
-pub fn finish(
+pub(crate) fn finish(
     links: &mut Links,
     row: &mut Row,
     txn: TxnId,
@@ -299,6 +317,8 @@ pub fn finish(
     requires lets { lets.old.items ≡ [] }
     ensures ok { IfOk result (UpdatesRow links.old links.new row.old row.new (λ r. finish r txn) lets.new.items) }
     ensures err { OnErr result ((links.new ≡ links.old) × (row.new ≡ row.old) × (lets.new.items ≡ [])) }
+    ensures full { OnErr result (vec_capacity lets.old < length (finish (record_of links.old row.old) txn).lets) }
+    ensures kept { vec_capacity lets.old ≤ vec_capacity lets.new }
     ensures no_memory { RowUsesNoMemory links.old row.old (λ r. finish r txn) → IsOk result }
 {
     let held_by = row.holder;
@@ -312,7 +332,7 @@ pub fn finish(
 }
 
 /// A request stops waiting, or gives up its reservation.
-pub fn leave(
+pub(crate) fn leave(
     links: &mut Links,
     row: &mut Row,
     number: u64,
@@ -322,6 +342,8 @@ pub fn leave(
     requires lets { lets.old.items ≡ [] }
     ensures ok { IfOk result (UpdatesRow links.old links.new row.old row.new (λ r. leave r number) lets.new.items) }
     ensures err { OnErr result ((links.new ≡ links.old) × (row.new ≡ row.old) × (lets.new.items ≡ [])) }
+    ensures full { OnErr result (vec_capacity lets.old < length (leave (record_of links.old row.old) number).lets) }
+    ensures kept { vec_capacity lets.old ≤ vec_capacity lets.new }
     ensures no_memory { RowUsesNoMemory links.old row.old (λ r. leave r number) → IsOk result }
 {
     let Some(found) = find(links, row.id, number) else {
@@ -384,6 +406,18 @@ pub fn look(links: &Links, row: &Row, number: u64) -> Reply
             reserved_txn(links, row),
         ),
         QueueKind::Writers => look_waiting(links, row, &links.stand(found.node)),
+    }
+}
+
+/// How many requests are queued at the key.
+pub fn lengths(links: &Links, row: &Row) -> QueueLengths
+    requires { HasQueues links.now row.now.id }
+    ensures writers { result.writers ≡ length (record_of links.now row.now).writers }
+    ensures readers { result.readers ≡ length (record_of links.now row.now).readers }
+{
+    QueueLengths {
+        writers: links.len(queue(row, QueueKind::Writers)),
+        readers: links.len(queue(row, QueueKind::Readers)),
     }
 }
 

@@ -4,8 +4,8 @@ ghost use Rattle.std.specs.List.{list_any, IsDistinct};
 ghost use Rattle.std.specs.Option.{option_map};
 ghost use Rattle.lt_links.specs.Maps.{IsSound};
 ghost use Rattle.lt_links.specs.declared.ids.QueueKind.TheVariants.{Reservation};
-ghost use Rattle.lt_plain.specs.Rules.{distinguished_of, settle};
-ghost use Rattle.lt_plain.specs.Lawful.{numbers};
+ghost use Rattle.lt_rules.specs.Rules.{distinguished_of, settle};
+ghost use Rattle.lt_rules.specs.Lawful.{numbers};
 ghost use Rattle.lt_row.specs.Row.{line, queue_at, record_of, request_of, eligible_at, HasQueues};
 
 use crate::find::find;

@@ -1,6 +1,6 @@
 //! Compares the transactions of queue entries. An entry without a transaction belongs to none.
 ghost use Rattle.std.specs.Prelude.{◌≡◌};
-ghost use Rattle.lt_plain.specs.Rules.{is_txn, is_same_txn};
+ghost use Rattle.lt_rules.specs.Rules.{is_txn, is_same_txn};
 
 use lt_ids::TxnId;
 use lt_links::Stand;

@@ -1,18 +1,18 @@
 //! What does a visit do to a row and its queues? The functions follow the definitions of the same names in
-//! `lt_plain/specs/Visit.antt`, case by case. `docs/RULES.md` has these cases as a table; the other calls are in
+//! `lt_rules/specs/Visit.antt`, case by case. `docs/RULES.md` has these cases as a table; the other calls are in
 //! `row.rt`.
-ghost use Rattle.std.specs.Prelude.{◌≡◌, ◌≢◌, ◌<◌, ◌++◌, [], true, map, slice_get, None, Some, IfOk, OnOk, OnErr, IsOk};
+ghost use Rattle.std.specs.Prelude.{ℕ, ◌≡◌, ◌≢◌, ◌<◌, ◌≤◌, ◌++◌, [], true, map, slice_get, vec_capacity, None, Some, IfSome, IfOk, OnOk, OnErr, IsOk};
 ghost use Rattle.std.specs.List.{AllByRecursion};
 ghost use Rattle.lt_links.specs.declared.ids.QueueKind.TheVariants.{Reservation};
-ghost use Rattle.lt_ids.specs.Ids.{IsWaitNumber};
-ghost use Rattle.lt_plain.specs.Rules.{stop_reading};
-ghost use Rattle.lt_plain.specs.Table.{queued_of};
-ghost use Rattle.lt_plain.specs.Lawful.{Rises};
-ghost use Rattle.lt_plain.specs.Visit.{pass, is_queued, is_too_long, wait_to_write, join_writers, wait_to_read, displace, visit_held, visit_reserved, visit_case};
+ghost use Rattle.lt_ids.specs.declared.request.Access.TheVariants.{Read, Write};
+ghost use Rattle.lt_rules.specs.Rules.{stop_reading};
+ghost use Rattle.lt_rules.specs.Memory.{how_many};
+ghost use Rattle.lt_rules.specs.Lawful.{Rises};
+ghost use Rattle.lt_rules.specs.Visit.{pass, is_queued, is_too_long, wait_to_write, join_writers, wait_to_read, displace, visit_case};
 ghost use Rattle.lt_links.specs.Maps.{has_record, IsSound};
-ghost use Rattle.lt_row.specs.Row.{line, queue_at, record_of, request_of, writer_of, IsNamed};
+ghost use Rattle.lt_row.specs.Row.{line, queue_at, record_of, request_of, writer_of, HasQueues, IsNamed};
 ghost use Rattle.lt_row.specs.Found.{Finds, PutsWriter};
-ghost use Rattle.lt_row.specs.RowStepped.{IsRow, IsRewritten, UpdatesRow, RowUsesNoMemory, VisitsRow, RowVisitUsesNoMemory, taken_over, visit_by};
+ghost use Rattle.lt_row.specs.RowStepped.{IsRow, IsRewritten, UpdatesRow, RowUsesNoMemory, VisitsRow, RowVisitUsesNoMemory, MakesRoom, taken_over, visit_by};
 
 use crate::find::{Found, find};
 use crate::queue_edit::{insert_behind, insert_first, move_to_front, replace_stand, take_out};
@@ -20,34 +20,54 @@ use crate::queue_walk::{has_at_least, position_of};
 use crate::row::{Row, queue};
 use crate::settle::{reserved, settle};
 use crate::txn::is_of;
-use lt_ids::{Access, Request};
+use lt_ids::{Access, Through, Ticket, Timestamp, TxnId};
 use lt_links::{Links, Queue, QueueKind, Stand};
-use lt_plain::{Holder, Reply};
+use lt_rules::Reply;
 use std::alloc::AllocError;
 use std::cmp::Ordering;
 
-/// The queue entry with which a request visits a key. `wait` is the number of the request's wait there.
-pub fn stand_of(request: &Request, wait: u32) -> Stand
-    requires { IsWaitNumber wait }
-    ensures request { request_of result ≡ queued_of request.now wait }
+/// The queue entry with which a request visits a key.
+pub(crate) fn stand_of(pass: u32, ticket: Ticket, txn: Option<TxnId>, ts: Timestamp) -> Stand
+    ensures request { request_of result ≡ record { ticket = ticket; txn = txn; ts = ts; pass = pass } }
     ensures active { result.active ≡ true }
     ensures named { IsNamed result }
 {
     Stand {
-        number: request.number,
-        txn: request.txn,
-        ts: request.ts,
-        pass: request.pass,
-        wait,
+        number: ticket.number(),
+        txn,
+        ts,
+        pass,
+        wait: ticket.wait(),
         active: true,
     }
 }
 
-/// The access of a visit, and the bound of its request.
-#[derive(Clone, Copy)]
-struct VisitTerms {
-    longest: u32,
-    access: Access,
+/// How many nodes the three queues of a row have. `None` if that is more than a `usize` can count.
+fn count(links: &Links, row: &Row) -> Option<usize>
+    requires { HasQueues links.now row.now.id }
+    ensures { IfSome result (λ n. how_many (record_of links.now row.now) ≤ n) }
+{
+    let writers = links.len(queue(row, QueueKind::Writers));
+    let readers = links.len(queue(row, QueueKind::Readers));
+    let reserved = links.len(queue(row, QueueKind::Reservation));
+    writers.checked_add(readers)?.checked_add(reserved)
+}
+
+/// Gives `lets` room for a let of each request at the key, and for one more.
+fn make_room(links: &Links, row: &Row, lets: &mut Vec<Through>) -> Result<(), AllocError>
+    requires linked { HasQueues links.now row.now.id }
+    requires lets { lets.old.items ≡ [] }
+    ensures lets { lets.new.items ≡ [] }
+    ensures room { OnOk result (how_many (record_of links.now row.now) < vec_capacity lets.new) }
+    ensures kept { vec_capacity lets.old ≤ vec_capacity lets.new }
+{
+    let Some(requests) = count(links, row) else {
+        return Err(AllocError);
+    };
+    let Some(most) = requests.checked_add(1) else {
+        return Err(AllocError);
+    };
+    lets.reserve(most)
 }
 
 /// Inserts a new request at its position among the writers.
@@ -158,20 +178,26 @@ fn join_writers(
     found: &Option<Found>,
     stand: &Stand,
     longest: u32,
+    lets: &mut Vec<Through>,
 ) -> Result<Reply, AllocError>
     requires row { IsRow links.old row.now }
     requires found { Finds links.old row.now.id stand.now.number found.now }
     requires active { stand.now.active ≡ true }
     requires named { IsNamed stand.now }
+    requires lets { lets.old.items ≡ [] }
     ensures ok { IfOk result (VisitsRow links.old links.new row.now stand.now (λ r q. join_writers r q longest)) }
     ensures err { OnErr result (links.new ≡ links.old) }
     ensures no_memory { RowVisitUsesNoMemory links.old row.now stand.now
         (λ r q. join_writers r q longest) → IsOk result }
+    ensures lets { lets.new.items ≡ [] }
+    ensures kept { vec_capacity lets.old ≤ vec_capacity lets.new }
+    ensures room { OnOk result (MakesRoom links.old links.new row.now (vec_capacity lets.new)) }
 {
     if is_too_long(links, row, found, stand, longest) {
         stop_reading(links, row, found, stand);
         return Ok(Reply::TooLong);
     }
+    make_room(links, row, lets)?;
     wait_to_write(links, row, found, stand)
 }
 
@@ -204,31 +230,6 @@ fn wait_to_read(
         return Ok(Reply::MustWait);
     }
     Ok(Reply::MustWait)
-}
-
-fn visit_held(
-    links: &mut Links,
-    row: &Row,
-    holder: &Holder,
-    found: &Option<Found>,
-    stand: &Stand,
-    asked: VisitTerms,
-) -> Result<Reply, AllocError>
-    requires row { IsRow links.old row.now }
-    requires found { Finds links.old row.now.id stand.now.number found.now }
-    requires active { stand.now.active ≡ true }
-    requires named { IsNamed stand.now }
-    ensures ok { IfOk result (VisitsRow links.old links.new row.now stand.now
-        (λ r q. visit_held r holder.now q asked.longest asked.access)) }
-    ensures err { OnErr result (links.new ≡ links.old) }
-    ensures no_memory { RowVisitUsesNoMemory links.old row.now stand.now
-        (λ r q. visit_held r holder.now q asked.longest asked.access) → IsOk result }
-{
-    match asked.access {
-        Access::Read if stand.ts < holder.ts => Ok(pass(links, row, found, stand)),
-        Access::Read => wait_to_read(links, row, found, stand),
-        Access::Write => join_writers(links, row, found, stand, asked.longest),
-    }
 }
 
 /// The request takes over the reservation. The request that held it becomes the first writer, inactive.
@@ -265,6 +266,7 @@ fn displace(
     reservation: &Stand,
     found: &Option<Found>,
     stand: &Stand,
+    lets: &mut Vec<Through>,
 ) -> Result<Reply, AllocError>
     requires row { IsRow links.old row.now }
     requires unheld { row.now.holder ≡ None }
@@ -272,94 +274,129 @@ fn displace(
     requires less { stand.now.number < reservation.now.number }
     requires found { Finds links.old row.now.id stand.now.number found.now }
     requires named { IsNamed stand.now }
+    requires lets { lets.old.items ≡ [] }
     ensures ok { IfOk result (VisitsRow links.old links.new row.now stand.now
         (λ r q. displace q.txn r (request_of reservation.now) q)) }
     ensures err { OnErr result (links.new ≡ links.old) }
     ensures no_memory { RowVisitUsesNoMemory links.old row.now stand.now
         (λ r q. displace q.txn r (request_of reservation.now) q) → IsOk result }
+    ensures lets { lets.new.items ≡ [] }
+    ensures kept { vec_capacity lets.old ≤ vec_capacity lets.new }
+    ensures room { OnOk result (MakesRoom links.old links.new row.now (vec_capacity lets.new)) }
 {
     match stand.txn {
         None => Ok(pass(links, row, found, stand)),
-        Some(_) => take_reservation(links, row, reservation, stand),
+        Some(_) => {
+            make_room(links, row, lets)?;
+            take_reservation(links, row, reservation, stand)
+        }
     }
 }
 
-fn visit_reserved(
+/// A visit to read. Only a lock that another transaction holds, at the request's timestamp or below, makes the
+/// request wait.
+fn visit_to_read(
     links: &mut Links,
     row: &Row,
-    reservation: &Stand,
     found: &Option<Found>,
     stand: &Stand,
-    asked: VisitTerms,
+    lets: &mut Vec<Through>,
 ) -> Result<Reply, AllocError>
     requires row { IsRow links.old row.now }
-    requires unheld { row.now.holder ≡ None }
-    requires reserved { slice_get (line links.old (queue_at row.now.id Reservation)) 0 ≡ Some reservation.now }
     requires found { Finds links.old row.now.id stand.now.number found.now }
     requires active { stand.now.active ≡ true }
     requires named { IsNamed stand.now }
-    ensures ok { IfOk result (VisitsRow links.old links.new row.now stand.now
-        (λ r q. visit_reserved r (request_of reservation.now) q asked.longest asked.access)) }
+    requires lets { lets.old.items ≡ [] }
+    ensures ok { (longest : ℕ) → IfOk result (VisitsRow links.old links.new row.now stand.now
+        (λ r q. visit_case r q longest Read)) }
     ensures err { OnErr result (links.new ≡ links.old) }
-    ensures no_memory { RowVisitUsesNoMemory links.old row.now stand.now
-        (λ r q. visit_reserved r (request_of reservation.now) q asked.longest asked.access) → IsOk result }
+    ensures no_memory { (longest : ℕ) → RowVisitUsesNoMemory links.old row.now stand.now
+        (λ r q. visit_case r q longest Read) → IsOk result }
+    ensures lets { lets.new.items ≡ [] }
+    ensures kept { vec_capacity lets.old ≤ vec_capacity lets.new }
+    ensures room { OnOk result (MakesRoom links.old links.new row.now (vec_capacity lets.new)) }
 {
-    if asked.access == Access::Read {
+    let Some(holder) = &row.holder else {
+        return Ok(pass(links, row, found, stand));
+    };
+    if is_of(stand, holder.txn) {
         return Ok(pass(links, row, found, stand));
     }
-    match stand.number.cmp(&reservation.number) {
-        Ordering::Less => displace(links, row, reservation, found, stand),
-        Ordering::Equal => Ok(pass(links, row, found, stand)),
-        Ordering::Greater => join_writers(links, row, found, stand, asked.longest),
+    if stand.ts < holder.ts {
+        return Ok(pass(links, row, found, stand));
     }
+    make_room(links, row, lets)?;
+    wait_to_read(links, row, found, stand)
 }
 
-fn visit_lock(
+/// A visit to write.
+fn visit_to_write(
     links: &mut Links,
     row: &Row,
     found: &Option<Found>,
     stand: &Stand,
-    asked: VisitTerms,
+    longest: u32,
+    lets: &mut Vec<Through>,
 ) -> Result<Reply, AllocError>
     requires row { IsRow links.old row.now }
     requires found { Finds links.old row.now.id stand.now.number found.now }
     requires active { stand.now.active ≡ true }
     requires named { IsNamed stand.now }
+    requires lets { lets.old.items ≡ [] }
     ensures ok { IfOk result (VisitsRow links.old links.new row.now stand.now
-        (λ r q. visit_case r q asked.longest asked.access)) }
+        (λ r q. visit_case r q longest Write)) }
     ensures err { OnErr result (links.new ≡ links.old) }
     ensures no_memory { RowVisitUsesNoMemory links.old row.now stand.now
-        (λ r q. visit_case r q asked.longest asked.access) → IsOk result }
+        (λ r q. visit_case r q longest Write) → IsOk result }
+    ensures lets { lets.new.items ≡ [] }
+    ensures kept { vec_capacity lets.old ≤ vec_capacity lets.new }
+    ensures room { OnOk result (MakesRoom links.old links.new row.now (vec_capacity lets.new)) }
 {
-    match (&row.holder, &reserved(links, row)) {
-        (Some(holder), _) if !is_of(stand, holder.txn) => {
-            visit_held(links, row, holder, found, stand, asked)
+    if let Some(holder) = &row.holder {
+        if is_of(stand, holder.txn) {
+            return Ok(pass(links, row, found, stand));
         }
-        (None, Some(reservation)) => {
-            visit_reserved(links, row, reservation, found, stand, asked)
-        }
-        _ => Ok(pass(links, row, found, stand)),
+        return join_writers(links, row, found, stand, longest, lets);
+    }
+    let Some(reservation) = reserved(links, row) else {
+        return Ok(pass(links, row, found, stand));
+    };
+    match stand.number.cmp(&reservation.number) {
+        Ordering::Less => displace(links, row, &reservation, found, stand, lets),
+        Ordering::Equal => Ok(pass(links, row, found, stand)),
+        Ordering::Greater => join_writers(links, row, found, stand, longest, lets),
     }
 }
 
 /// A request visits the key, with the queue entry that it gets if it has to wait. It joins the writers only if they
 /// are fewer than `longest`; 0 means no bound. If memory runs out, nothing has changed.
-pub fn visit(
+///
+/// If one more request is at the key afterwards, `lets` has room for a let of each.
+pub(crate) fn visit(
     links: &mut Links,
     row: &mut Row,
     stand: &Stand,
     longest: u32,
     access: Access,
+    lets: &mut Vec<Through>,
 ) -> Result<Reply, AllocError>
     requires row { IsRow links.old row.old }
     requires active { stand.now.active ≡ true }
     requires named { IsNamed stand.now }
+    requires lets { lets.old.items ≡ [] }
     ensures ok { IfOk result (UpdatesRow links.old links.new row.old row.new (visit_by stand.now longest access) []) }
     ensures err { OnErr result ((links.new ≡ links.old) × (row.new ≡ row.old)) }
     ensures no_memory { RowUsesNoMemory links.old row.old (visit_by stand.now longest access) → IsOk result }
+    ensures lets { lets.new.items ≡ [] }
+    ensures kept { vec_capacity lets.old ≤ vec_capacity lets.new }
+    ensures room { how_many (record_of links.old row.old) ≤ vec_capacity lets.old →
+        how_many (record_of links.new row.new) ≤ vec_capacity lets.new }
 {
     let found = find(links, row.id, stand.number);
-    let reply = visit_lock(links, row, &found, stand, VisitTerms { longest, access })?;
+    let reply = match access {
+        Access::Read => visit_to_read(links, row, &found, stand, lets)?,
+        Access::Write => visit_to_write(links, row, &found, stand, longest, lets)?,
+    };
     settle(links, row);
     Ok(reply)
 }

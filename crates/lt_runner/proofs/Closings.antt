@@ -12,7 +12,7 @@ use Rattle.lt_entry.specs.Legal.{AreLegalKeys, event_of}
 use Rattle.lt_entry.specs.Ranges.{IsInRange}
 use Rattle.lt_entry.specs.Legal.{key_part}
 use Rattle.lt_entry.proofs.SameKeys.{same_key}
-use Rattle.lt_plain.specs.Step.{IsLegal}
+use Rattle.lt_rules.specs.Step.{IsLegal}
 use Rattle.lt_words.specs.declared.event.Event.{Event}
 use Rattle.lt_words.specs.History.{part, shard_of, draws_of}
 use Rattle.lt_words.specs.Row.{Opening, PassState, fresh, fresh_passes}

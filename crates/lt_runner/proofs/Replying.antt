@@ -3,9 +3,9 @@ use Rattle.std.proofs.Common.{◌≡◌, ◌≢◌, ℕ, List, [], ◌∷◌, Op
 use Rattle.std.specs.Prelude.{slice_get}
 use Rattle.lt_ids.specs.Ids.{Wait}
 use Rattle.lt_ids.specs.declared.request.Access.{Access}
-use Rattle.lt_plain.specs.declared.call.Call.{Call}
-use Rattle.lt_plain.specs.declared.call.Call.TheVariants as calls
-use Rattle.lt_plain.specs.declared.call.Reply.{Reply}
+use Rattle.lt_rules.specs.declared.call.Call.{Call}
+use Rattle.lt_rules.specs.declared.call.Call.TheVariants as calls
+use Rattle.lt_rules.specs.declared.call.Reply.{Reply}
 use Rattle.lt_table_core.specs.Machine.{Step, after_status, polled, polled_in, WalkState}
 use Rattle.lt_table_core.specs.declared.walk_progress.Mode.{Mode}
 use Rattle.lt_table_core.specs.declared.walk_progress.Mode.TheVariants as modes

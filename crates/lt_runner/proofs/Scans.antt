@@ -4,7 +4,7 @@ use Rattle.std.specs.Prelude.{slice_get}
 use Rattle.std.specs.List.{AllByRecursion}
 use Rattle.lt_ids.specs.Ids.{Wait, value_of}
 use Rattle.lt_ids.specs.declared.request.Access.{Access}
-use Rattle.lt_plain.specs.declared.call.Call.{Call}
+use Rattle.lt_rules.specs.declared.call.Call.{Call}
 use Rattle.lt_words.specs.History.{LetIn}
 use Rattle.lt_shard.specs.declared.answer.StepError.{StepError}
 use Rattle.lt_shard.specs.declared.answer.StepError.TheVariants as steps

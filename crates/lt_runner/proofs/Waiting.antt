@@ -3,9 +3,9 @@ use Rattle.std.proofs.Common.{◌≡◌, ℕ, ◌+◌, Bool, true, false, cond, 
 use Rattle.std.specs.Prelude.{slice_get}
 use Rattle.std.specs.Option.{option_map}
 use Rattle.lt_ids.specs.declared.request.Access.{Access}
-use Rattle.lt_plain.specs.declared.call.Call.{Call}
-use Rattle.lt_plain.specs.declared.call.Reply.{Reply}
-use Rattle.lt_plain.specs.declared.call.Reply.TheVariants as replies
+use Rattle.lt_rules.specs.declared.call.Call.{Call}
+use Rattle.lt_rules.specs.declared.call.Reply.{Reply}
+use Rattle.lt_rules.specs.declared.call.Reply.TheVariants as replies
 use Rattle.lt_table_core.specs.Machine.{Step, Asked, after_status, scan_start, scan_start_in, restarted, is_free, is_awaiting, is_stopped, may_visit, met, met_as, is_wait, is_long, visit_call, next_visit, scan_end, WalkState, Visits, Ends, IsScanBegun, of_step}
 use Rattle.lt_table_core.specs.declared.walk_progress.Mode.{Mode}
 use Rattle.lt_table_core.specs.declared.walk_progress.Mode.TheVariants.{Free, Awaiting, Let, Stopped, Leaving}

@@ -4,7 +4,7 @@
 //! result of its call into the answer of the line. Read next: `specs/Machine.antt`, which defines each answer and
 //! its steps, and `specs/Execution.antt`.
 ghost use Rattle.std.specs.Prelude.{◌≡◌, ◌<◌, ℕ, IfOk, length, Ok};
-ghost use Rattle.lt_plain.specs.declared.call.Call.TheVariants.{Acquire, Update, Finish};
+ghost use Rattle.lt_rules.specs.declared.call.Call.TheVariants.{Acquire, Update, Finish};
 ghost use Rattle.lt_table_core.specs.declared.scan_results.Scan.TheVariants.{Waiting, TooLong};
 ghost use Rattle.lt_runner.specs.Sessions.{session_pass};
 ghost use Rattle.lt_runner.specs.Machine.{IsOpenAnswered, IsScanned, IsScanAnswer, IsAwaited, IsLooked, IsCallAnswered, IsLeaveAnswered, rules_of, let_read, let_gone_on, poll_answer};
@@ -16,7 +16,7 @@ use crate::outcome::OutOfMemory;
 use crate::plan::Host;
 use crate::session::{LineOutcome, Session};
 use lt_ids::{Access, Key, Timestamp, TxnId};
-use lt_plain::KeyTable;
+use lt_rules::KeyTable;
 use lt_script::Action;
 use lt_table_core::{
     Answer, EnterError, EnterRefused, Guard, LeaveStopped, Left, Poll, Scan, ScanError, StepError,

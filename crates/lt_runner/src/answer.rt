@@ -1,6 +1,6 @@
 //! The answers that a line of a script can have.
 use lt_ids::Key;
-use lt_plain::Reply;
+use lt_rules::Reply;
 
 /// Why a call was refused. The contract of the call says in which state this leaves the request. Running out of
 /// memory is never the answer of a line.

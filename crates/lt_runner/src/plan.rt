@@ -1,6 +1,6 @@
 //! What all passes of a run share.
 use crate::gate::Gate;
-use lt_plain::KeyTable;
+use lt_rules::KeyTable;
 use lt_script::Command;
 use lt_table_core::Table;
 use lt_words::Name;

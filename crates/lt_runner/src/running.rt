@@ -12,7 +12,7 @@ use crate::gate::Gate;
 use crate::outcome::{OutOfMemory, StartingPass, Work};
 use crate::plan::{Host, Plan};
 use crate::worker::{begin, lines_by_pass, lines_of_pass, next_line, work};
-use lt_plain::KeyTable;
+use lt_rules::KeyTable;
 use lt_script::Command;
 use lt_words::{Front, Name, Pass, abandon_all};
 use std::alloc::Global;

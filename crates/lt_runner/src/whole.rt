@@ -18,7 +18,7 @@ use crate::outcome::{Finish, OutOfMemory, Ran, RunFault, Work};
 use crate::plan::{Host, Plan};
 use crate::running::{run_in_turn, run_on_threads, seats_of};
 use crate::session::Session;
-use lt_plain::KeyTable;
+use lt_rules::KeyTable;
 use lt_script::Command;
 use lt_table_core::{CloseError, Config, Guard, Ready, open_with, prepare};
 use lt_words::{Name, Pass, abandon_all};

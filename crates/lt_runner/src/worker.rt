@@ -13,7 +13,7 @@ use crate::gate::Gate;
 use crate::outcome::{Finish, OutOfMemory, Work};
 use crate::plan::{Host, Plan};
 use crate::session::{LineOutcome, Session};
-use lt_plain::KeyTable;
+use lt_rules::KeyTable;
 use lt_script::Command;
 use lt_words::{Name, Pass};
 use std::alloc::Global;

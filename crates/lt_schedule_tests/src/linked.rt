@@ -19,7 +19,7 @@ fn run_named<N: Name, R: Wait>(
 ) -> Result<TableRun, TableCall>
     requires { ready.of ≡ N.of }
 {
-    match open::<N>(alloc, ready) {
+    match open::<N>(alloc, ready, 0) {
         Ok((table, passes)) => {
             play_all(rt, alloc, table, passes, rows, questions).ok_or(TableCall::Beside)
         }

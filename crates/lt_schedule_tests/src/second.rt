@@ -1,11 +1,11 @@
 //! What do the rules of one key say, evaluated a second time? [`Second`] is written from the tables of
 //! `docs/RULES.md`.
 //!
-//! It shares no code and no definition with `lt_plain`; only the type of a reply is the same. It works on plain
+//! It shares no code and no definition with `lt_rules`; only the type of a reply is the same. It works on plain
 //! numbers, and simple lists instead of linked queues. A mistake in the definitions that the proofs use shows up
 //! when a test compares the two, as the random schedules do. Read it alongside the tables of `docs/RULES.md`.
 use lt_ids::TxnId;
-use lt_plain::Reply;
+use lt_rules::Reply;
 use std::alloc::{AllocError, Global};
 
 /// A timestamp: its wall part and its logical part.

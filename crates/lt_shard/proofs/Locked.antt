@@ -13,9 +13,9 @@ use Rattle.std.specs.FinMap.{get, keys, entries, entries_sorted, is_sorted, cont
 use Rattle.std.specs.FinMap.Entries.{below_all}
 use Rattle.std.proofs.lemmas.Map.Lookups.{exact_bytes}
 use Rattle.std.proofs.lemmas.Map.Views.{tells_apart, list_any-from_Contains, Contains-from_any}
-use Rattle.lt_plain.specs.Rules.{Record, empty, is_empty}
-use Rattle.lt_plain.specs.Table.{Records, record_at, AreSound, IsKept}
-use Rattle.lt_plain.proofs.Maps.{order}
+use Rattle.lt_rules.specs.Rules.{Record, empty, is_empty}
+use Rattle.lt_rules.specs.Table.{Records, record_at, AreSound, IsKept}
+use Rattle.lt_rules.proofs.Maps.{order}
 use Rattle.lt_entry.specs.declared.entry.Entry.{Entry}
 use Rattle.lt_words.specs.History.{key_record}
 use Rattle.lt_shard.specs.Shards.{AreLockedKeys}

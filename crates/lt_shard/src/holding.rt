@@ -1,5 +1,5 @@
 //! Which steps does a shard store?
-ghost use Rattle.std.specs.Prelude.{◌≡◌, ◌+◌, ◌<◌, ◌^◌, false, IsTrue, IsSome, IfOk, IsOk, OnOk, vec_len, vec_capacity};
+ghost use Rattle.std.specs.Prelude.{◌≡◌, ◌+◌, ◌<◌, ◌^◌, [], false, IsTrue, IsSome, IsNone, IfOk, IsOk, OnOk, vec_len, vec_capacity};
 ghost use Rattle.lt_shard.specs.Shards.{is_recorded, IsSpare, KeepsBy};
 
 use crate::making::MadeStep;
@@ -67,36 +67,68 @@ pub(crate) fn make_room(
     Ok(Some(Spare { alloc, key, lets }))
 }
 
-/// The lets as an entry takes them, and the room for lets that is left.
+/// What is left for the next step once a step has been stored or counted.
+#[derive(Drop)]
+pub(crate) struct Remainder {
+    /// Room for the lets of an entry.
+    pub room: Option<LetsRoom>,
+    /// The list that takes the lets of the next step, empty.
+    pub lets: Vec<Through>,
+}
+
+/// The lets as an entry keeps them: a list that is much too long for them is cut.
+fn cut(mut lets: Vec<Through>) -> Vec<Through>
+    ensures { result.items ≡ lets.items }
+{
+    if lets.capacity() / 4 > lets.len() {
+        lets.shrink_to_fit();
+    }
+    lets
+}
+
+/// The lets as an entry takes them, and what is left.
 #[inline(always)]
-fn stored(alloc: Global, lets: Vec<Through>, room: LetsRoom) -> (Lets, Option<LetsRoom>)
-    ensures { result.0 ≡ lets.items }
+fn stored(alloc: Global, lets: Vec<Through>, room: LetsRoom) -> (Lets, Remainder)
+    ensures lets { result.0 ≡ lets.items }
+    ensures empty { result.1.lets.items ≡ [] }
 {
     if lets.is_empty() {
-        (Lets::none(alloc), Some(room))
+        (
+            Lets::none(alloc),
+            Remainder {
+                room: Some(room),
+                lets,
+            },
+        )
     } else {
-        (room.fill(lets), None)
+        let left = Remainder {
+            room: None,
+            lets: Vec::new(alloc),
+        };
+        (room.fill(cut(lets)), left)
     }
 }
 
-/// Stores one more step if there is a key for its entry. Otherwise counts it among those that are not held. Returns
-/// the room for lets that is left.
+/// Stores one more step if there is a key for its entry. Otherwise counts it among those that are not held.
 #[inline(always)]
 pub(crate) fn keep(
     spare: Option<Spare>,
     before: &mut u64,
     held: &mut Vec<Entry>,
     step: MadeStep<'_>,
-) -> Option<LetsRoom>
+) -> Remainder
     requires room { IsSome spare → vec_len held.old < vec_capacity held.old }
     requires few { before.old + 1 < 2 ^ 64 }
-    ensures { KeepsBy spare step.entry.entry before.old held.old.items before.new held.new.items }
+    ensures keeps { KeepsBy spare step.entry.entry before.old held.old.items before.new held.new.items }
+    ensures empty { result.lets.items ≡ [] }
+    // A list whose lets are not stored keeps its room.
+    ensures kept { IsNone spare → vec_capacity result.lets ≡ vec_capacity step.entry.lets }
 {
     let MadeStep {
         entry,
         call,
         reply,
-        lets,
+        mut lets,
         ..
     } = step;
     let Some(
@@ -108,7 +140,8 @@ pub(crate) fn keep(
     ) = spare
     else {
         *before += 1;
-        return None;
+        lets.clear();
+        return Remainder { room: None, lets };
     };
     let (lets, left) = stored(alloc, lets, room);
     held.push_reserved(Entry::new(key, entry.pass(), call, reply, lets));

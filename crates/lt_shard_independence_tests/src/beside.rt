@@ -10,7 +10,8 @@ ghost use Rattle.std.specs.FinMap as finmap;
 
 use crate::watched::{Stop, Stopping, Watched};
 use lt_ids::{Access, Key, Timestamp, TxnId};
-use lt_plain::{KeyTable, PlainTable, Reply};
+use lt_plain::PlainTable;
+use lt_rules::{KeyTable, Reply};
 use lt_table_core::{
     Config, EnterRefused, Poll, Ready, Scan, Table, Waker, empty_tables, open_waking_with,
     open_with, prepare,

@@ -10,7 +10,7 @@ ghost use Rattle.std.specs.FinMap as finmap;
 
 use crate::scarce::Scarce;
 use lt_ids::Access;
-use lt_plain::{KeyState, KeyTable, Reply};
+use lt_rules::{KeyState, KeyTable, Reply};
 use lt_table_core::{
     Config, Histories, Ready, Scan, ScanError, StepError, Table, empty_tables, open_with, prepare,
 };
@@ -205,29 +205,21 @@ fn rows(alloc: Global) -> Result<Vec<ScarceRow>, AllocError> {
     Ok(rows)
 }
 
-/// The row of the call that runs out of memory: the acquire if `before` is 0, the scan if it is 1, and otherwise
-/// the leave. The key keeps the state from before the call.
+/// The row of the call that runs out of memory: the acquire if `before` is 0, and otherwise the scan. The key keeps the
+/// state from before the call.
 fn failure(before: u32) -> ScarceRow {
     match before {
         0 => (
             (1, take(), CallOutcome::NotStepped(StepError::Memory)),
             EMPTY,
         ),
-        1 => (
+        _ => (
             (
                 0,
                 TableCommand::Scan,
                 CallOutcome::NotScanned(ScanError::Memory),
             ),
             HELD,
-        ),
-        _ => (
-            (
-                0,
-                TableCommand::Leave,
-                CallOutcome::NotLeft(StepError::Memory),
-            ),
-            RESERVED,
         ),
     }
 }
@@ -244,7 +236,7 @@ fn with_failure(mut rows: Vec<ScarceRow>, index: usize, before: u32) -> Option<V
 /// A call that runs out of memory reports that and changes nothing. The same call then succeeds.
 #[test]
 fn out_of_memory_is_reported_and_changes_nothing(rt: HostRuntime) -> Result<(), Fail> {
-    for (index, before) in [(0, 0), (2, 1), (4, 2)] {
+    for (index, before) in [(0, 0), (2, 1)] {
         let rows = with_failure(rows(rt.alloc())?, index, before).ok_or("the rows")?;
         come_out(&rt, rt.alloc(), 4, before, &rows, 4)?;
     }
@@ -254,9 +246,9 @@ fn out_of_memory_is_reported_and_changes_nothing(rt: HostRuntime) -> Result<(), 
 /// A full shard answers `HistoryFull` even if the call would run out of memory.
 #[test]
 fn a_full_history_is_reported_before_out_of_memory(rt: HostRuntime) -> Result<(), Fail> {
-    let full = CallOutcome::NotLeft(StepError::HistoryFull);
+    let full = CallOutcome::NotScanned(ScanError::HistoryFull);
     let mut rows = rows(rt.alloc())?;
-    rows.pop().ok_or("the leave")?;
-    rows.push(((0, TableCommand::Leave, full), RESERVED))?;
-    come_out(&rt, rt.alloc(), 3, 2, &rows, 3)
+    rows.truncate(2);
+    rows.push(((0, TableCommand::Scan, full), HELD))?;
+    come_out(&rt, rt.alloc(), 1, 1, &rows, 1)
 }

@@ -1,17 +1,16 @@
 //! How does a test make a chosen call run out of memory? [`Scarce`] is a plain table that fails one call that
 //! allocates.
 //!
-//! The contract of a key table says which calls never fail for memory. So this table fails only calls that may
-//! allocate: an acquire that takes the lock, a write without a bound that waits,
-//! and a leave that gives up a reservation. [`crate::out_of_memory`] plays rows on it.
-ghost use Rattle.std.specs.Prelude.{◌≡◌, IsTrue, None};
-ghost use Rattle.lt_plain.specs.Rules.{is_txn, leave};
-ghost use Rattle.lt_plain.specs.Table.{AreSound, record_at};
-ghost use Rattle.lt_plain.specs.declared.call.Reply.TheVariants.{Left};
-ghost use Rattle.lt_shard_independence_tests.specs.Scarce.{IsKeptOut};
+//! The contract of a key table says which calls may fail for memory. This table fails two of them: an acquire of a key
+//! that has no record, and a write without a bound that waits. [`crate::out_of_memory`] plays rows on it.
+ghost use Rattle.std.specs.Prelude.{◌≡◌, IsTrue, true};
+ghost use Rattle.lt_rules.specs.Rules.{is_empty, is_txn};
+ghost use Rattle.lt_rules.specs.Table.{AreSound, record_at};
+ghost use Rattle.lt_shard_independence_tests.specs.Scarce.{MayFail, WaitsToWrite};
 
-use lt_ids::{Access, Key, Request, Through, Timestamp, TxnId};
-use lt_plain::{KeyState, KeyTable, PlainTable, Reply};
+use lt_ids::{Access, Key, Through, TxnId};
+use lt_plain::PlainTable;
+use lt_rules::{Call, KeyState, KeyTable, QueueLengths, Reply};
 use std::alloc::{AllocError, Global};
 
 /// Whether a request's transaction is `txn`.
@@ -24,33 +23,40 @@ fn is_txn(own: Option<TxnId>, txn: TxnId) -> bool
     }
 }
 
-/// Whether the lock has no holder, so that an acquire takes it.
-fn is_free(state: &KeyState) -> bool
-    ensures { IsTrue result → state.now.holder ≡ None }
+/// Whether the key has no record.
+fn is_empty(state: &KeyState) -> bool
+    ensures { IsTrue result → is_empty state.now ≡ true }
 {
     state.holder.is_none()
+        && state.reservation.is_none()
+        && state.writers.is_empty()
+        && state.readers.is_empty()
+        && state.distinguished.is_none()
 }
 
-/// Whether the visit is to write, has no bound, and finds the lock held by another transaction, so that it waits.
-fn is_kept_out(state: &KeyState, request: &Request, access: &Access) -> bool
-    ensures { IsKeptOut result state.now request.now access.now }
+/// Whether another transaction holds the lock, so that a write of transaction `own` without a bound waits.
+fn is_kept_out(state: &KeyState, own: Option<TxnId>) -> bool
+    ensures { IsTrue result → WaitsToWrite state.now own }
 {
     let Some(holder) = state.holder else {
         return false;
     };
-    match access {
-        Access::Read => false,
-        Access::Write => request.longest == 0 && !is_txn(request.txn, holder.txn),
-    }
+    !is_txn(own, holder.txn)
 }
 
-/// Whether the lock is reserved for the request with this number.
-fn is_reserved(state: &KeyState, number: u64) -> bool
-    ensures { IsTrue result → (leave state.now number).reply ≡ Left }
+/// Whether this table may fail the call at a key in this state.
+fn may_fail(state: &KeyState, call: &Call) -> bool
+    ensures { IsTrue result → MayFail state.now call.now }
 {
-    match state.reservation {
-        None => false,
-        Some(request) => request.ticket.number() == number,
+    match *call {
+        Call::Acquire { .. } => is_empty(state),
+        Call::Visit {
+            txn,
+            access: Access::Write,
+            longest: 0,
+            ..
+        } => is_kept_out(state, txn),
+        _ => false,
     }
 }
 
@@ -96,29 +102,11 @@ impl Scarce {
         is_last
     }
 
-    fn is_free(&self, key: &Key) -> bool
-        ensures { IsTrue result → (record_at self.now.table key.now).holder ≡ None }
+    fn may_fail(&self, key: &Key, call: &Call) -> bool
+        ensures { IsTrue result → MayFail (record_at self.now.table key.now) call.now }
     {
         match self.table.state(self.alloc, key) {
-            Ok(state) => is_free(&state),
-            Err(_) => false,
-        }
-    }
-
-    fn is_kept_out(&self, key: &Key, request: &Request, access: &Access) -> bool
-        ensures { IsKeptOut result (record_at self.now.table key.now) request.now access.now }
-    {
-        match self.table.state(self.alloc, key) {
-            Ok(state) => is_kept_out(&state, request, access),
-            Err(_) => false,
-        }
-    }
-
-    fn is_reserved(&self, key: &Key, number: u64) -> bool
-        ensures { IsTrue result → (leave (record_at self.now.table key.now) number).reply ≡ Left }
-    {
-        match self.table.state(self.alloc, key) {
-            Ok(state) => is_reserved(&state, number),
+            Ok(state) => may_fail(&state, call),
             Err(_) => false,
         }
     }
@@ -127,69 +115,26 @@ impl Scarce {
 impl KeyTable for Scarce {
     ghost records = { λ t. t.table };
 
-    fn visit(
+    fn step(
         &mut self,
         key: &Key,
-        request: &Request,
-        access: Access,
-        wait: u32,
+        pass: u32,
+        call: &Call,
         lets: &mut Vec<Through>,
     ) -> Result<Reply, AllocError> {
-        let allocates = self.is_kept_out(key, request, &access);
+        let allocates = self.may_fail(key, call);
         if self.fails(allocates, key) {
             return Err(AllocError);
         }
-        self.table.visit(key, request, access, wait, lets)
-    }
-
-    fn acquire(
-        &mut self,
-        key: &Key,
-        txn: TxnId,
-        ts: Timestamp,
-        lets: &mut Vec<Through>,
-    ) -> Result<Reply, AllocError> {
-        let allocates = self.is_free(key);
-        if self.fails(allocates, key) {
-            return Err(AllocError);
-        }
-        self.table.acquire(key, txn, ts, lets)
-    }
-
-    fn update(
-        &mut self,
-        key: &Key,
-        txn: TxnId,
-        ts: Timestamp,
-        lets: &mut Vec<Through>,
-    ) -> Result<Reply, AllocError> {
-        self.table.update(key, txn, ts, lets)
-    }
-
-    fn finish(
-        &mut self,
-        key: &Key,
-        txn: TxnId,
-        lets: &mut Vec<Through>,
-    ) -> Result<Reply, AllocError> {
-        self.table.finish(key, txn, lets)
-    }
-
-    fn leave(
-        &mut self,
-        key: &Key,
-        number: u64,
-        lets: &mut Vec<Through>,
-    ) -> Result<Reply, AllocError> {
-        let allocates = self.is_reserved(key, number);
-        if self.fails(allocates, key) {
-            return Err(AllocError);
-        }
-        self.table.leave(key, number, lets)
+        self.table.step(key, pass, call, lets)
     }
 
     fn look(&self, key: &Key, number: u64) -> Reply {
         self.table.look(key, number)
+    }
+
+    fn lengths(&self, key: &Key) -> QueueLengths {
+        self.table.lengths(key)
     }
 
     fn state(&self, alloc: Global, key: &Key) -> Result<KeyState, AllocError> {

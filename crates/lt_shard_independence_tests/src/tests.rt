@@ -1,7 +1,7 @@
 //! The tests of what works while a thread is inside a shard, or while a waker runs. [`crate::beside`] has the
 //! runs.
 use crate::beside::{Apart, Polled, Woken, poll, two_acquires, wake};
-use lt_plain::Reply;
+use lt_rules::Reply;
 use lt_table_core::{Poll, Scan};
 use std::test::Fail;
 

@@ -4,8 +4,9 @@
 //! [`Watched`] is a shard's table whose acquire of one key stops, while the shard's lock is held. [`Stopping`] is
 //! a waker that stops. [`crate::beside`] runs another thread during each stop.
 use crate::flag::Flag;
-use lt_ids::{Access, Key, Request, Through, Ticket, Timestamp, TxnId};
-use lt_plain::{KeyState, KeyTable, PlainTable, Reply};
+use lt_ids::{Key, Through, Ticket};
+use lt_plain::PlainTable;
+use lt_rules::{Call, KeyState, KeyTable, QueueLengths, Reply};
 use lt_table_core::Waker;
 use std::alloc::{AllocError, Global};
 
@@ -84,58 +85,25 @@ impl<'a> Watched<'a> {
 impl<'a> KeyTable for Watched<'a> {
     ghost records = { λ t. t.table };
 
-    fn visit(
+    fn step(
         &mut self,
         key: &Key,
-        request: &Request,
-        access: Access,
-        wait: u32,
+        pass: u32,
+        call: &Call,
         lets: &mut Vec<Through>,
     ) -> Result<Reply, AllocError> {
-        self.table.visit(key, request, access, wait, lets)
-    }
-
-    fn acquire(
-        &mut self,
-        key: &Key,
-        txn: TxnId,
-        ts: Timestamp,
-        lets: &mut Vec<Through>,
-    ) -> Result<Reply, AllocError> {
-        self.stop.pass(key);
-        self.table.acquire(key, txn, ts, lets)
-    }
-
-    fn update(
-        &mut self,
-        key: &Key,
-        txn: TxnId,
-        ts: Timestamp,
-        lets: &mut Vec<Through>,
-    ) -> Result<Reply, AllocError> {
-        self.table.update(key, txn, ts, lets)
-    }
-
-    fn finish(
-        &mut self,
-        key: &Key,
-        txn: TxnId,
-        lets: &mut Vec<Through>,
-    ) -> Result<Reply, AllocError> {
-        self.table.finish(key, txn, lets)
-    }
-
-    fn leave(
-        &mut self,
-        key: &Key,
-        number: u64,
-        lets: &mut Vec<Through>,
-    ) -> Result<Reply, AllocError> {
-        self.table.leave(key, number, lets)
+        if matches!(call, Call::Acquire { .. }) {
+            self.stop.pass(key);
+        }
+        self.table.step(key, pass, call, lets)
     }
 
     fn look(&self, key: &Key, number: u64) -> Reply {
         self.table.look(key, number)
+    }
+
+    fn lengths(&self, key: &Key) -> QueueLengths {
+        self.table.lengths(key)
     }
 
     fn state(&self, alloc: Global, key: &Key) -> Result<KeyState, AllocError> {

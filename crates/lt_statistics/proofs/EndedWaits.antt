@@ -8,9 +8,9 @@ use Rattle.std.proofs.lemmas.Slice.Eq.{bytes_eq-Decides}
 use Rattle.std.proofs.lemmas.Bool.{false≢true}
 use Rattle.std.proofs.lemmas.Bool.Decides.{nat_tests}
 use Rattle.lt_ids.specs.Ids.{Wait, same_wait}
-use Rattle.lt_plain.specs.declared.call.Call.{Call}
-use Rattle.lt_plain.specs.declared.call.Call.TheVariants.{Visit, Acquire, Update, Finish, Leave, Look}
-use Rattle.lt_plain.specs.declared.call.Reply.{Reply}
+use Rattle.lt_rules.specs.declared.call.Call.{Call}
+use Rattle.lt_rules.specs.declared.call.Call.TheVariants.{Visit, Acquire, Update, Finish, Leave, Look}
+use Rattle.lt_rules.specs.declared.call.Reply.{Reply}
 use Rattle.lt_statistics.specs.declared.summary.HotKey.{HotKey}
 use Rattle.lt_statistics.specs.declared.summary.LongestWait.{LongestWait}
 use Rattle.lt_statistics.specs.declared.waits.OpenWait.{OpenWait}

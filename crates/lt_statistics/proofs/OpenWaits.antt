@@ -5,8 +5,8 @@ use Rattle.std.proofs.lemmas.List.{append_assoc, append-nil}
 use Rattle.std.proofs.lemmas.Slice.Eq.{bytes_eq-Decides}
 use Rattle.std.proofs.lemmas.Bool.{false≢true}
 use Rattle.std.proofs.lemmas.Bool.Decides.{nat_tests}
-use Rattle.lt_plain.specs.declared.call.Call.{Call}
-use Rattle.lt_plain.specs.declared.call.Call.TheVariants.{Visit, Acquire, Update, Finish, Leave, Look}
+use Rattle.lt_rules.specs.declared.call.Call.{Call}
+use Rattle.lt_rules.specs.declared.call.Call.TheVariants.{Visit, Acquire, Update, Finish, Leave, Look}
 use Rattle.lt_statistics.specs.declared.summary.HotKey.{HotKey}
 use Rattle.lt_statistics.specs.declared.waits.OpenWait.{OpenWait}
 use Rattle.lt_statistics.specs.Findings.{TracedStep, Findings, is_must_wait, mover_of, without_mover, is_let_through, without_ended, begun_waits, pending_at, pending_after, is_key_of, with_key, with_step, after_step, no_findings, findings_of}

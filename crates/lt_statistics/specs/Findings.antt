@@ -5,10 +5,10 @@ use Rattle.std.specs.Option.{option_map}
 use Rattle.std.specs.Ordering.{nat_cmp, is_lt}
 use Rattle.std.specs.Cmp.Lexicographic.{slice_cmp, pointwise}
 use Rattle.lt_ids.specs.Ids.{Wait, same_wait}
-use Rattle.lt_plain.specs.declared.call.Call.{Call}
-use Rattle.lt_plain.specs.declared.call.Call.TheVariants.{Visit, Acquire, Update, Finish, Leave, Look}
-use Rattle.lt_plain.specs.declared.call.Reply.{Reply}
-use Rattle.lt_plain.specs.declared.call.Reply.TheVariants.{MustWait}
+use Rattle.lt_rules.specs.declared.call.Call.{Call}
+use Rattle.lt_rules.specs.declared.call.Call.TheVariants.{Visit, Acquire, Update, Finish, Leave, Look}
+use Rattle.lt_rules.specs.declared.call.Reply.{Reply}
+use Rattle.lt_rules.specs.declared.call.Reply.TheVariants.{MustWait}
 use Rattle.lt_statistics.specs.declared.step.StepFacts.{StepFacts}
 use Rattle.lt_statistics.specs.declared.summary.HotKey.{HotKey}
 use Rattle.lt_statistics.specs.declared.summary.LongestQueue.{LongestQueue}

@@ -1,6 +1,6 @@
 //! What do the statistics need to know of a step?
 use lt_ids::Ticket;
-use lt_plain::{Call, Reply};
+use lt_rules::{Call, Reply};
 
 /// A step of a key, as the statistics need it.
 #[derive(Drop)]

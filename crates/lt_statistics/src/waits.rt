@@ -10,7 +10,7 @@ ghost use Rattle.lt_statistics.specs.Findings.{is_must_wait, wait_count, mover_o
 use crate::step::StepFacts;
 use crate::summary::LongestWait;
 use lt_ids::{Key, Ticket};
-use lt_plain::{Call, Reply};
+use lt_rules::{Call, Reply};
 use std::alloc::AllocError;
 
 /// An open wait.

@@ -23,7 +23,7 @@
 //! fn serve<N: Name + Send + Sync, R: Threads + Wait + Sync>(rt: &R, alloc: Global, ready: Ready) -> Option<Histories>
 //!     requires { ready.of ≡ N.of }
 //! {
-//!     let (table, passes) = open::<N>(alloc, ready).ok()?;
+//!     let (table, passes) = open::<N>(alloc, ready, random_start(rt).ok()?).ok()?;
 //!     let (passes, guards) = work_on(rt, alloc, &table, passes);           // each thread has a pass
 //!     match table.close(rt, alloc, passes, guards) {                       // all passes are back
 //!         Ok(histories) => Some(histories),
@@ -127,8 +127,8 @@
 //!
 //! A table that [`prepare`] makes ready holds each step until it is closed, up to `max_steps` steps of a shard.
 //! [`prepare_with`] makes a table ready that streams its steps, which [`Table::take_history`] and
-//! [`Table::take_next`] take out while it runs, or a table that records none. The promises are the same in all
-//! three ways. [`Table::close_rest`] gives what is left.
+//! [`Table::take_next`] take out while it runs, or a table that records none. The promises of each
+//! call are the same in all three ways. [`Table::close_rest`] gives what is left.
 //!
 //! # Asking a running table
 //!
@@ -171,6 +171,7 @@
 #![tactic(auto)]
 
 mod linked;
+mod start;
 
 pub use linked::{linked_tables, open, open_waking};
 pub use lt_lock::LinkedTable;
@@ -180,3 +181,4 @@ pub use lt_table_core::{
     Rests, Scan, ScanError, StepError, Table, Waker, abandon_guards, empty_tables, laws,
     open_waking_with, open_with, prepare, prepare_with,
 };
+pub use start::random_start;

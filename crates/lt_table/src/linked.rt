@@ -9,8 +9,13 @@ use lt_table_core::{Ready, Table, empty_tables, open_waking_with, open_with};
 use lt_words::{Name, Pass, Waker};
 use std::alloc::{AllocError, Global};
 
-/// Makes `count` empty tables over linked queues: one for each shard of a table that [`open_with`] opens.
-pub fn linked_tables(alloc: Global, count: usize) -> Result<Vec<LinkedTable>, AllocError>
+/// Makes `count` empty tables over linked queues, whose keys are hashed from this start: one for each shard of a table
+/// that [`open_with`] opens.
+pub fn linked_tables(
+    alloc: Global,
+    count: usize,
+    start: u64,
+) -> Result<Vec<LinkedTable>, AllocError>
     ensures many { IfOk result (λ tables. length tables.items ≡ count) }
     ensures empty { IfOk result (λ tables. All (λ t. t ≡ finmap.empty) tables.items) }
 {
@@ -19,22 +24,26 @@ pub fn linked_tables(alloc: Global, count: usize) -> Result<Vec<LinkedTable>, Al
         count,
         || -> LinkedTable
             ensures { result ≡ finmap.empty }
-        { LinkedTable::new(alloc) },
+        { LinkedTable::new(alloc, start) },
     )
 }
 
 /// Opens the table of a prepared book over linked queues. The passes have seen nothing and made no step. `N` names
 /// the book that was prepared. If an allocation fails, the passes are given up with the book.
+///
+/// The keys of each shard are hashed from this start. Draw it with [`random_start`](crate::random_start), for each table:
+/// whoever chooses the keys and knows the start can make the table slow. What the table answers does not depend on it.
 pub fn open<N: Name>(
     alloc: Global,
     ready: Ready,
+    start: u64,
 ) -> Result<(Table<N, LinkedTable>, Vec<Pass>), AllocError>
     requires { ready.of ≡ N.of }
     ensures config { IfOk result (λ r. r.0 ≡ ready.config) }
     ensures passes { IfOk result (λ r. r.1.items ≡ fresh_passes N.of N.of.passes) }
     ensures of { IfOk result (λ r. All (λ p. p.of ≡ N.of) r.1.items) }
 {
-    let Ok(tables) = linked_tables(alloc, ready.config().shards) else {
+    let Ok(tables) = linked_tables(alloc, ready.config().shards, start) else {
         ready.abandon();
         return Err(AllocError);
     };
@@ -45,6 +54,7 @@ pub fn open<N: Name>(
 pub fn open_waking<N: Name, W: Waker + Drop>(
     alloc: Global,
     ready: Ready,
+    start: u64,
     waker: W,
 ) -> Result<(Table<N, LinkedTable, W>, Vec<Pass>), AllocError>
     requires { ready.of ≡ N.of }
@@ -52,7 +62,7 @@ pub fn open_waking<N: Name, W: Waker + Drop>(
     ensures passes { IfOk result (λ r. r.1.items ≡ fresh_passes N.of N.of.passes) }
     ensures of { IfOk result (λ r. All (λ p. p.of ≡ N.of) r.1.items) }
 {
-    let Ok(tables) = linked_tables(alloc, ready.config().shards) else {
+    let Ok(tables) = linked_tables(alloc, ready.config().shards, start) else {
         ready.abandon();
         return Err(AllocError);
     };

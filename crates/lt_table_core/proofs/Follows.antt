@@ -9,16 +9,16 @@ use Rattle.std.proofs.lemmas.List.{drop-map}
 use Rattle.lt_ids.specs.Ids.{is_below, Wait}
 use Rattle.lt_ids.specs.declared.request.Access.{Access}
 use Rattle.lt_ids.specs.declared.request.Access.TheVariants.{Read, Write}
-use Rattle.lt_plain.specs.declared.queued.Holder.{Holder}
-use Rattle.lt_plain.specs.declared.queued.QueuedRequest.{QueuedRequest}
-use Rattle.lt_plain.specs.declared.call.Call.{Call}
-use Rattle.lt_plain.specs.declared.call.Call.TheVariants.{Visit}
-use Rattle.lt_plain.specs.declared.call.Reply.{Reply}
-use Rattle.lt_plain.specs.declared.call.Reply.TheVariants.{Passed, MustWait, TooLong}
-use Rattle.lt_plain.specs.Step.{step}
+use Rattle.lt_rules.specs.declared.queued.Holder.{Holder}
+use Rattle.lt_rules.specs.declared.queued.QueuedRequest.{QueuedRequest}
+use Rattle.lt_rules.specs.declared.call.Call.{Call}
+use Rattle.lt_rules.specs.declared.call.Call.TheVariants.{Visit}
+use Rattle.lt_rules.specs.declared.call.Reply.{Reply}
+use Rattle.lt_rules.specs.declared.call.Reply.TheVariants.{Passed, MustWait, TooLong}
+use Rattle.lt_rules.specs.Step.{step}
 use Rattle.lt_ids.specs.declared.timestamp.Timestamp.{Timestamp}
-use Rattle.lt_plain.specs.Rules.{Record, number_of, is_txn, Outcome, stop_reading}
-use Rattle.lt_plain.specs.Visit.{visit_lock, displace, join_writers, is_too_long, is_queued}
+use Rattle.lt_rules.specs.Rules.{Record, number_of, is_txn, Outcome, stop_reading}
+use Rattle.lt_rules.specs.Visit.{visit_lock, displace, join_writers, is_too_long, is_queued}
 use Rattle.lt_table_core.specs.declared.walk_progress.Mode.{Mode}
 use Rattle.lt_table_core.specs.declared.walk_progress.Mode.TheVariants.{Free, Awaiting, Let, Stopped, Leaving}
 use Rattle.lt_table_core.specs.declared.walk_progress.Progress.{Progress}

@@ -2,7 +2,7 @@
 use Rattle.std.proofs.Common.{◌≡◌, ℕ, ◌+◌, ◌-◌, ◌≤◌, Bool, true, false, if◌then◌else◌, List, [], ◌∷◌, ◌++◌, length, map, refl, sym, arith, Option, Some, None, slice_get, length-append}
 use Rattle.std.proofs.lemmas.List.{map-append}
 use Rattle.std.specs.Option.{option_map}
-use Rattle.lt_plain.specs.declared.call.Call.{Call}
+use Rattle.lt_rules.specs.declared.call.Call.{Call}
 use Rattle.lt_table_core.specs.declared.walk_progress.Mode.TheVariants.{Free}
 use Rattle.lt_table_core.specs.declared.walk_progress.Progress.{Progress}
 use Rattle.lt_table_core.specs.Machine.{Asked, is_free, is_wait, is_long, met, met_as, next_visit, may_visit, visit_call, WalkState, Step, answer_of, Visits}

@@ -8,7 +8,7 @@ use Rattle.std.proofs.lemmas.Bool.Decides.{nat_tests}
 use Rattle.std.specs.Prelude.{slice_index}
 use Rattle.std.specs.List.{AllByRecursion, IsDistinct, list_any}
 use mathlib.Core.List.{IsPrefix}
-use Rattle.lt_plain.proofs.Cases.{all_append, distinct_append}
+use Rattle.lt_rules.proofs.Cases.{all_append, distinct_append}
 use Rattle.lt_entry.specs.declared.entry.Entry.{Entry}
 use Rattle.lt_words.specs.History.{part, shard_of, OneHolderAtEachKey, ReadsPassAtEachKey}
 use Rattle.lt_words.specs.Row.{Opening, PassState, SeesMore, fresh}

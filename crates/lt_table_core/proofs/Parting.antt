@@ -5,8 +5,8 @@ use Rattle.std.proofs.lemmas.List.{map-append}
 use Rattle.std.proofs.lemmas.Option.{slice_get_past}
 use Rattle.std.proofs.lemmas.Bool.Decides.{nat_tests}
 use Rattle.lt_ids.specs.declared.request.Access.{Access}
-use Rattle.lt_plain.specs.declared.call.Call.{Call}
-use Rattle.lt_plain.specs.declared.call.Call.TheVariants.{Leave}
+use Rattle.lt_rules.specs.declared.call.Call.{Call}
+use Rattle.lt_rules.specs.declared.call.Call.TheVariants.{Leave}
 use Rattle.lt_table_core.specs.declared.walk_progress.Mode.TheVariants.{Leaving}
 use Rattle.lt_table_core.specs.declared.walk_progress.Progress.{Progress}
 use Rattle.lt_table_core.specs.Machine.{Asked, passed, next_leave, WalkState, Step, answer_of, Leaves, IsLeaveFrom}

@@ -13,7 +13,7 @@ use Rattle.lt_table_core.specs.declared.walk_progress.Mode.{Mode}
 use Rattle.lt_table_core.specs.declared.walk_progress.Mode.TheVariants.{Free, Awaiting, Let, Stopped, Leaving}
 use Rattle.lt_table_core.specs.declared.walk_progress.Progress.{Progress}
 use Rattle.std.specs.Prelude.{Result, Ok, Err, IfOk, OnErr}
-use Rattle.lt_plain.specs.declared.call.Call.{Call}
+use Rattle.lt_rules.specs.declared.call.Call.{Call}
 use Rattle.lt_shard.specs.declared.answer.Answer.{Answer}
 use Rattle.lt_shard.specs.declared.answer.StepError.{StepError}
 use Rattle.lt_table_core.specs.Machine.{after_status, mode_after_status, polled_in, met, met_as, is_wait, is_long, next_visit, next_leave, passed, WalkState}

@@ -4,7 +4,7 @@ use Rattle.std.proofs.lemmas.Bool.{cases_lt}
 use Rattle.std.proofs.lemmas.Bool.Decides.{nat_tests}
 use Rattle.lt_ids.specs.Ids.{Wait, value_of}
 use Rattle.lt_ids.specs.declared.ticket.Through.{Through as Letting}
-use Rattle.lt_plain.specs.declared.call.Call.{Call}
+use Rattle.lt_rules.specs.declared.call.Call.{Call}
 use Rattle.lt_words.specs.declared.event.Event.{Event}
 use Rattle.lt_words.specs.History.{IsLetAmong, IsStatus}
 use Rattle.lt_words.specs.Shown.{IsShown, AreShown}

@@ -4,7 +4,7 @@ use Rattle.std.proofs.Common.{◌≡◌, ◌≢◌, ℕ, ◌<◌, Bool, true, fa
 use mathlib.Core.List.{IsPrefix}
 use Rattle.lt_ids.specs.Ids.{IsNumber, value_of}
 use Rattle.lt_words.specs.History.{LetIn}
-use Rattle.lt_plain.specs.declared.call.Call.{Call}
+use Rattle.lt_rules.specs.declared.call.Call.{Call}
 use Rattle.lt_words.specs.Row.{PassState, SeesMore}
 use Rattle.lt_words.proofs.Prefixes.{prefix_trans}
 use Rattle.lt_table_core.specs.declared.walk_progress.Mode.{Mode}

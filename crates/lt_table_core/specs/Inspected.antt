@@ -1,6 +1,6 @@
 -- What a look into a running table gives.
 use Rattle.std.specs.Prelude.{ℕ, List}
-use Rattle.lt_plain.specs.Rules.{Record}
+use Rattle.lt_rules.specs.Rules.{Record}
 use Rattle.lt_words.specs.declared.event.Event.{Event}
 use Rattle.lt_words.specs.History.{part, key_record, shard_of}
 

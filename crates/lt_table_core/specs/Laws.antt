@@ -7,9 +7,9 @@ use Rattle.lt_ids.specs.declared.request.Access.{Access}
 use Rattle.lt_ids.specs.Ids.{Wait, value_of}
 use Rattle.lt_ids.specs.declared.timestamp.Timestamp.{Timestamp}
 use Rattle.lt_ids.specs.declared.request.Access.TheVariants.{Read}
-use Rattle.lt_plain.specs.declared.call.Call.TheVariants.{Visit}
-use Rattle.lt_plain.specs.declared.call.Reply.TheVariants.{Passed, MustWait, TooLong}
-use Rattle.lt_plain.specs.Step.{Event as KeyEvent, Holds, IsBelowOthers}
+use Rattle.lt_rules.specs.declared.call.Call.TheVariants.{Visit}
+use Rattle.lt_rules.specs.declared.call.Reply.TheVariants.{Passed, MustWait, TooLong}
+use Rattle.lt_rules.specs.Step.{Event as KeyEvent, Holds, IsBelowOthers}
 use Rattle.lt_entry.specs.declared.entry.Entry.{Entry}
 use Rattle.lt_words.specs.History.{part, shard_of, key_history, IsLegalHistory, IsLetAmong, LetIn}
 use Rattle.lt_words.specs.Shown.{IsShown}

@@ -7,8 +7,8 @@ use Rattle.lt_entry.specs.declared.entry.Entry.{Entry}
 use Rattle.lt_words.specs.History.{shard_of, IsStatus, LetIn}
 use Rattle.lt_words.specs.Shown.{word_of}
 use Rattle.lt_words.specs.Row.{PassState, SeesMore, Reports}
-use Rattle.lt_plain.specs.declared.call.Call.{Call}
-use Rattle.lt_plain.specs.declared.call.Call.TheVariants.{Look}
+use Rattle.lt_rules.specs.declared.call.Call.{Call}
+use Rattle.lt_rules.specs.declared.call.Call.TheVariants.{Look}
 use Rattle.lt_shard.specs.declared.answer.Answer.{Answer}
 use Rattle.lt_table_core.specs.declared.walk_progress.Mode.TheVariants.{Awaiting}
 use Rattle.lt_table_core.specs.declared.scan_results.Scan.{Scan}

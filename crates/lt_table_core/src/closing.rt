@@ -13,7 +13,7 @@ ghost use Rattle.lt_table_core.specs.Closed.{counts_at, passes_of, IsCounted, Ar
 use crate::guard::Guard;
 use crate::table::{Slot, Table};
 use lt_entry::Entry;
-use lt_plain::KeyTable;
+use lt_rules::KeyTable;
 use lt_shard::{Rest, Shard};
 use lt_words::{Book, Name, Pass, Waker, abandon_all};
 use std::alloc::{AllocError, Global};

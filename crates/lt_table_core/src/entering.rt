@@ -9,7 +9,7 @@ use crate::keys::{EnterError, key_list};
 use crate::table::Table;
 use crate::walk::Walk;
 use lt_ids::{Access, Key, Timestamp, TxnId};
-use lt_plain::KeyTable;
+use lt_rules::KeyTable;
 use lt_shard::Answer;
 use lt_words::{Name, Pass, Waker};
 use std::alloc::Global;

@@ -8,7 +8,7 @@ ghost use Rattle.lt_table_core.specs.Inspected.{seen_record};
 use crate::guard::Guard;
 use crate::table::Table;
 use lt_ids::Key;
-use lt_plain::KeyTable;
+use lt_rules::KeyTable;
 use lt_shard::KeyState;
 use lt_words::{Name, Pass, Waker};
 use std::alloc::AllocError;

@@ -1,5 +1,5 @@
 //! How does a request leave? It makes one leave step at each key of its list.
-ghost use Rattle.std.specs.Prelude.{◌≡◌, ◌≢◌, Err, IfOk, IfErr, OnOk, OnErr, IsSome, None};
+ghost use Rattle.std.specs.Prelude.{◌≡◌, ◌≢◌, Err, IfOk, IfErr, IsOk, OnOk, OnErr, IsSome, None};
 ghost use Rattle.lt_table_core.specs.Machine.{next_leave, leaving};
 ghost use Rattle.lt_table_core.specs.Closed.{IsLeave};
 ghost use Rattle.lt_table_core.specs.Reported.{IsLeavingFrom, PassStays, GuardStays};
@@ -7,7 +7,7 @@ ghost use Rattle.lt_table_core.specs.Reported.{IsLeavingFrom, PassStays, GuardSt
 use crate::guard::Guard;
 use crate::table::Table;
 use crate::walk_progress::Mode;
-use lt_plain::KeyTable;
+use lt_rules::KeyTable;
 use lt_shard::{Answer, StepError};
 use lt_words::{Keeping, Name, Pass, Waker};
 use std::sync::Wait;
@@ -53,6 +53,7 @@ impl<N: Name, T: KeyTable, W: Waker> Table<N, T, W> {
         ensures ok { OnOk result (next_leave guard.new.walk.asked guard.new.walk.progress ≡ None) }
         ensures err { OnErr result (IsSome (next_leave guard.new.walk.asked guard.new.walk.progress)) }
         ensures never_full { N.of.keeping ≡ Keeping.Unrecorded → result ≢ Err StepError.HistoryFull }
+        ensures always { N.of.keeping ≡ Keeping.Unrecorded → IsOk result }
     {
         while guard.walk.has_leave() {
             let leave = guard.walk.leave_call();
@@ -71,6 +72,8 @@ impl<N: Name, T: KeyTable, W: Waker> Table<N, T, W> {
         ensures left { IfOk result (λ left. PassStays guard.pass left.pass) }
         ensures stopped { IfErr result (λ e. GuardStays guard e.guard) }
         ensures never_full { N.of.keeping ≡ Keeping.Unrecorded → IfErr result (λ e. e.error ≢ StepError.HistoryFull) }
+        // If steps are not recorded, a request can always leave.
+        ensures always { N.of.keeping ≡ Keeping.Unrecorded → IsOk result }
     {
         guard.begin_leave();
         match self.leave_on(rt, &mut guard) {

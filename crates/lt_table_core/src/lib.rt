@@ -2,7 +2,7 @@
 //!
 //! A store uses `lt_table`, which re-exports everything here and opens a table over linked queues (`lt_lock`). Its
 //! first page says how requests enter, wait and leave, and what is promised. This crate has the table itself. It
-//! asks only that the table of each shard is a [`KeyTable`](lt_plain::KeyTable), so a change in the linked queues
+//! asks only that the table of each shard is a [`KeyTable`](lt_rules::KeyTable), so a change in the linked queues
 //! changes nothing here.
 //!
 //! Read next the definitions: `specs/Machine.antt` (the state of a request, and what each call makes of it),

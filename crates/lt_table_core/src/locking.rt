@@ -1,15 +1,16 @@
 //! How does a transaction take, raise and free its locks, and how does a request look at what it waits for? The
 //! calls of a transaction come in two forms: by a pass, and (named `.._in`) by the pass of a guard. A look is by a
 //! guard.
-ghost use Rattle.std.specs.Prelude.{◌≡◌, ◌≢◌, ◌<◌, Err, IfOk, OnErr, length};
+ghost use Rattle.std.specs.Prelude.{◌≡◌, ◌≢◌, ◌<◌, true, Err, IfOk, IsOk, OnErr, length};
+ghost use Rattle.lt_rules.specs.Memory.{gives_up};
 ghost use Rattle.lt_entry.specs.Ranges.{NamesNumber};
-ghost use Rattle.lt_plain.specs.declared.call.Call.TheVariants.{Acquire, Update, Finish};
+ghost use Rattle.lt_rules.specs.declared.call.Call.TheVariants.{Acquire, Update, Finish};
 ghost use Rattle.lt_table_core.specs.Reported.{ReportsCall, ReportsLook};
 
 use crate::guard::Guard;
 use crate::table::Table;
 use lt_ids::{Key, Timestamp, TxnId};
-use lt_plain::{Call, KeyTable};
+use lt_rules::{Call, KeyTable};
 use lt_shard::{Answer, StepError};
 use lt_words::{Keeping, Name, Pass, Waker};
 use std::sync::Wait;
@@ -17,6 +18,9 @@ use std::sync::Wait;
 /// Each call makes one key step under the lock of the key's shard. It is refused if the shard holds as many steps
 /// as it may (a shard that records none never does), or if an allocation fails. After a refusal nothing has
 /// changed.
+///
+/// In a table that records no steps, an update, a finish and a look are never refused, however little memory there
+/// is: whoever holds a lock can always give it up.
 impl<N: Name, T: KeyTable, W: Waker> Table<N, T, W> {
     /// The transaction takes the lock of the key, or raises the timestamp of the lock that it holds.
     pub fn acquire<R: Wait>(
@@ -48,6 +52,7 @@ impl<N: Name, T: KeyTable, W: Waker> Table<N, T, W> {
         ensures ok { IfOk result (λ a. ReportsCall pass.old pass.new key.now (Update txn ts) a) }
         ensures err { OnErr result (pass.new ≡ pass.old) }
         ensures never_full { N.of.keeping ≡ Keeping.Unrecorded → result ≢ Err StepError.HistoryFull }
+        ensures always { N.of.keeping ≡ Keeping.Unrecorded → IsOk result }
     {
         self.step(rt, pass, key, &Call::Update { txn, ts })
     }
@@ -64,6 +69,7 @@ impl<N: Name, T: KeyTable, W: Waker> Table<N, T, W> {
         ensures ok { IfOk result (λ a. ReportsCall pass.old pass.new key.now (Finish txn) a) }
         ensures err { OnErr result (pass.new ≡ pass.old) }
         ensures never_full { N.of.keeping ≡ Keeping.Unrecorded → result ≢ Err StepError.HistoryFull }
+        ensures always { N.of.keeping ≡ Keeping.Unrecorded → IsOk result }
     {
         self.step(rt, pass, key, &Call::Finish { txn })
     }
@@ -82,6 +88,7 @@ impl<N: Name, T: KeyTable, W: Waker> Table<N, T, W> {
         ensures ok { IfOk result (λ a. ReportsCall guard.old.pass guard.new.pass key.now call.now a) }
         ensures err { OnErr result (guard.new ≡ guard.old) }
         ensures never_full { N.of.keeping ≡ Keeping.Unrecorded → result ≢ Err StepError.HistoryFull }
+        ensures always { N.of.keeping ≡ Keeping.Unrecorded → gives_up call.now ≡ true → IsOk result }
         ensures walk { guard.new.walk ≡ guard.old.walk }
     {
         self.step(rt, &mut guard.pass, key, call)
@@ -118,6 +125,7 @@ impl<N: Name, T: KeyTable, W: Waker> Table<N, T, W> {
         ensures ok { IfOk result (λ a. ReportsCall guard.old.pass guard.new.pass key.now (Update txn ts) a) }
         ensures err { OnErr result (guard.new ≡ guard.old) }
         ensures never_full { N.of.keeping ≡ Keeping.Unrecorded → result ≢ Err StepError.HistoryFull }
+        ensures always { N.of.keeping ≡ Keeping.Unrecorded → IsOk result }
         ensures walk { guard.new.walk ≡ guard.old.walk }
     {
         self.step_in(rt, guard, key, &Call::Update { txn, ts })
@@ -135,6 +143,7 @@ impl<N: Name, T: KeyTable, W: Waker> Table<N, T, W> {
         ensures ok { IfOk result (λ a. ReportsCall guard.old.pass guard.new.pass key.now (Finish txn) a) }
         ensures err { OnErr result (guard.new ≡ guard.old) }
         ensures never_full { N.of.keeping ≡ Keeping.Unrecorded → result ≢ Err StepError.HistoryFull }
+        ensures always { N.of.keeping ≡ Keeping.Unrecorded → IsOk result }
         ensures walk { guard.new.walk ≡ guard.old.walk }
     {
         self.step_in(rt, guard, key, &Call::Finish { txn })
@@ -153,6 +162,7 @@ impl<N: Name, T: KeyTable, W: Waker> Table<N, T, W> {
         ensures ok { IfOk result (λ a. ReportsLook guard.old guard.new index a) }
         ensures err { OnErr result (guard.new ≡ guard.old) }
         ensures never_full { N.of.keeping ≡ Keeping.Unrecorded → result ≢ Err StepError.HistoryFull }
+        ensures always { N.of.keeping ≡ Keeping.Unrecorded → IsOk result }
         ensures walk { guard.new.walk ≡ guard.old.walk }
     {
         let number = guard.walk.number();

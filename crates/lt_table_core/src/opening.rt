@@ -9,7 +9,7 @@ ghost use Rattle.lt_table_core.specs.Configs.{AreNewShards};
 
 use crate::config::Ready;
 use crate::table::{Slot, Table};
-use lt_plain::KeyTable;
+use lt_rules::KeyTable;
 use lt_shard::Shard;
 use lt_words::{Book, Name, Pass, Waker, abandon_all};
 use std::alloc::{AllocError, Global};

@@ -11,7 +11,7 @@ use crate::guard::Guard;
 use crate::scan_results::{Poll, Scan, ScanError};
 use crate::table::Table;
 use crate::walk_progress::Mode;
-use lt_plain::KeyTable;
+use lt_rules::KeyTable;
 use lt_words::{Book, Keeping, Name, Waker};
 use std::sync::Wait;
 

@@ -1,12 +1,13 @@
 //! What is a table, and how does a call make one key step? Read next `src/scan_and_poll.rt`.
-ghost use Rattle.std.specs.Prelude.{◌≡◌, ◌≢◌, ◌<◌, IfOk, OnErr, Err};
+ghost use Rattle.std.specs.Prelude.{◌≡◌, ◌≢◌, ◌<◌, true, IfOk, IsOk, OnErr, Err};
+ghost use Rattle.lt_rules.specs.Memory.{gives_up};
 ghost use Rattle.lt_entry.specs.Ranges.{NamesNumber};
 ghost use Rattle.lt_words.specs.History.{shard_of};
 ghost use Rattle.lt_table_core.specs.Reported.{ReportsCall};
 
 use crate::config::Config;
 use lt_ids::Key;
-use lt_plain::{Call, KeyTable};
+use lt_rules::{Call, KeyTable};
 use lt_shard::{Answer, Shard, StepError};
 use lt_words::{Book, Keeping, Name, Pass, Waker, shard_of};
 use std::marker::Model;
@@ -79,6 +80,7 @@ impl<N: Name, T: KeyTable, W: Waker> Table<N, T, W> {
         ensures ok { IfOk result (λ a. ReportsCall pass.old pass.new key.now call.now a) }
         ensures err { OnErr result (pass.new ≡ pass.old) }
         ensures never_full { N.of.keeping ≡ Keeping.Unrecorded → result ≢ Err StepError.HistoryFull }
+        ensures always { N.of.keeping ≡ Keeping.Unrecorded → gives_up call.now ≡ true → IsOk result }
     {
         let index = self.shard_of(key);
         let lock = &self.shards[index].lock;

@@ -5,7 +5,7 @@ ghost use Rattle.lt_table_core.specs.Taken.{IsTaken, reader_after};
 
 use crate::table::Table;
 use lt_entry::Entry;
-use lt_plain::KeyTable;
+use lt_rules::KeyTable;
 use lt_words::{Keeping, Name, Pass, Waker};
 use std::sync::Wait;
 use thiserror::Error;

@@ -6,7 +6,7 @@ ghost use Rattle.lt_table_core.specs.Reported.{IsPoll, GuardStays, SeesLet};
 use crate::guard::Guard;
 use crate::scan_results::Poll;
 use crate::table::Table;
-use lt_plain::KeyTable;
+use lt_rules::KeyTable;
 use lt_words::{Name, Waker};
 use std::hint;
 use std::sync::Wait;

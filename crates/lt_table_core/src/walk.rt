@@ -14,7 +14,7 @@ use crate::walk_progress::{
     scan_start, start,
 };
 use lt_ids::{Access, Key, Ticket, Timestamp, TxnId};
-use lt_plain::{Call, Reply};
+use lt_rules::{Call, Reply};
 use lt_shard::Answer;
 use std::marker::Model;
 

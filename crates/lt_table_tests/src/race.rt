@@ -17,7 +17,7 @@ fn race_named<N: Name + Send + Sync, R: Threads + Wait + Sync>(
 ) -> Option<ThreadsRun>
     requires { ready.of ≡ N.of }
 {
-    let (table, passes) = open::<N>(alloc, ready).ok()?;
+    let (table, passes) = open::<N>(alloc, ready, 0).ok()?;
     let workers = workers_of(alloc, seated::<N>(alloc, passes)?)?;
     let worked = work_all(rt, alloc, &table, workers).ok()?;
     let mut seats = Vec::new(alloc);

@@ -6,7 +6,7 @@ ghost use Rattle.lt_words.specs.declared.keeping.Keeping.TheVariants.{Whole};
 
 use crate::work::{TURNS, ThreadWork, ThreadsRun, limits, lines_of, work_all, workers_of};
 use lt_entry::Entry;
-use lt_plain::KeyTable;
+use lt_rules::KeyTable;
 use lt_table::{Config, Keeping, Reader, Ready, Rest, Table, open, prepare_with};
 use lt_test_kit::key::key_of;
 use lt_test_kit::run::{rests_through, seated};
@@ -234,7 +234,7 @@ fn stream_named<N: Name + Send + Sync, R: Threads + Wait + Sync>(
     requires of { ready.of ≡ N.of }
     requires keeping { N.of.keeping ≢ Keeping.Whole }
 {
-    let (table, passes) = open::<N>(alloc, ready).ok()?;
+    let (table, passes) = open::<N>(alloc, ready, 0).ok()?;
     let mut seats = seated::<N>(alloc, passes)?;
     let taker = taker_of(alloc, &table, seats.pop()?)?;
     let workers = workers_of(alloc, seats)?;

@@ -8,7 +8,7 @@ use crate::race::race;
 use crate::stream::stream_work;
 use crate::work::{ROUNDS, ThreadsRun};
 use lt_entry::Entry;
-use lt_plain::{Call, Reply};
+use lt_rules::{Call, Reply};
 use lt_table::Scan;
 use lt_test_kit::command::CallOutcome;
 use lt_test_kit::play::PlayedCommand;

@@ -6,7 +6,7 @@ ghost use Rattle.std.specs.Prelude.{◌≡◌};
 
 use lt_entry::Entry;
 use lt_ids::Access;
-use lt_plain::KeyTable;
+use lt_rules::KeyTable;
 use lt_table::{Config, ScanError, StepError, Table};
 use lt_test_kit::command::{CallOutcome, TableCommand};
 use lt_test_kit::play::{PlayedCommand, play};

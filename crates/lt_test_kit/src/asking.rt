@@ -10,7 +10,7 @@ use crate::holds::Holds;
 use crate::key::key_of;
 use crate::seat::Seat;
 use lt_ids::Key;
-use lt_plain::KeyTable;
+use lt_rules::KeyTable;
 use lt_table_core::{Guard, KeyState, Table};
 use lt_words::{Name, Pass};
 use std::alloc::{AllocError, Global};

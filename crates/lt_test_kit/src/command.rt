@@ -1,6 +1,6 @@
 //! Which commands can a test play, and which outcomes can they have? A [`CommandRow`] is one row of a test's table.
 use lt_ids::Access;
-use lt_plain::Reply;
+use lt_rules::Reply;
 use lt_table_core::{EnterError, Poll, Scan, ScanError, StepError};
 
 /// A call of the table by one pass. A byte names a key (see [`crate::key`]); timestamps have the logical part 0.

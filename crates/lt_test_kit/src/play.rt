@@ -11,7 +11,7 @@ use crate::holds::Holds;
 use crate::key::key_of;
 use crate::seat::Seat;
 use lt_ids::{Access, Key, Timestamp, TxnId};
-use lt_plain::{KeyTable, Reply};
+use lt_rules::{KeyTable, Reply};
 use lt_table_core::{Answer, EnterRefused, Guard, LeaveStopped, Left, StepError, Table};
 use lt_words::{Name, Pass};
 use std::alloc::Global;

@@ -1,7 +1,8 @@
 //! Is a history legal? Its steps are repeated on a fresh plain table and compared.
 use lt_entry::Entry;
 use lt_ids::Through;
-use lt_plain::{KeyTable, PlainTable, step};
+use lt_plain::PlainTable;
+use lt_rules::KeyTable;
 use std::alloc::Global;
 
 /// Repeats the entry's step on the table, and compares the reply and the lets. None if an allocation fails.
@@ -11,7 +12,9 @@ fn is_made_again<T: KeyTable>(alloc: Global, table: &mut T, entry: &Entry) -> Op
         return Some(false);
     }
     let mut lets: Vec<Through> = Vec::new(alloc);
-    let reply = step::make(table, entry.key(), pass, &entry.call(), &mut lets).ok()?;
+    let reply = table
+        .step(entry.key(), pass, &entry.call(), &mut lets)
+        .ok()?;
     Some(reply == entry.reply() && lets.as_slice() == entry.lets())
 }
 

@@ -12,7 +12,7 @@ use crate::command::{CommandRow, TableCall, TableCommand};
 use crate::holds::Holds;
 use crate::play::{PlayedCommand, play};
 use crate::seat::Seat;
-use lt_plain::{KeyTable, Reply};
+use lt_rules::{KeyTable, Reply};
 use lt_table_core::{CloseError, CloseRefused, Guard, Histories, Rests, Table, abandon_guards};
 use lt_words::{Name, Pass, abandon_all};
 use std::alloc::{AllocError, Global};

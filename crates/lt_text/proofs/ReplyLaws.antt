@@ -6,8 +6,8 @@ use Rattle.std.specs.Str.{bytes_eq}
 use Rattle.std.specs.Fmt.{decimal}
 use Rattle.std.proofs.lemmas.Option.{some_pair_parts, same_Some}
 use Rattle.std.proofs.lemmas.Slice.Eq.{bytes_eq-Decides}
-use Rattle.lt_plain.specs.declared.call.Reply.{Reply}
-use Rattle.lt_plain.specs.declared.call.Reply.TheVariants.{Passed, MustWait, TooLong, Taken, Kept, Raised, Other, Freed, Left, Absent, Nothing, Reserved, Idle, WaitFor, WaitFirst, WaitOwn}
+use Rattle.lt_rules.specs.declared.call.Reply.{Reply}
+use Rattle.lt_rules.specs.declared.call.Reply.TheVariants.{Passed, MustWait, TooLong, Taken, Kept, Raised, Other, Freed, Left, Absent, Nothing, Reserved, Idle, WaitFor, WaitFirst, WaitOwn}
 use Rattle.lt_text.specs.Maybe.{◌>>=◌}
 use Rattle.lt_text.specs.Fields.{number_within}
 use Rattle.lt_text.specs.Calls.{field_at}

@@ -1,8 +1,8 @@
 -- The words of a call, and the call that words spell.
 use Rattle.std.specs.Prelude.{ℕ, ◌≡◌, ◌^◌, false, if◌then◌else◌, List, [], ◌∷◌, Option, Some, None, decimal, codes}
 use Rattle.std.specs.Str.{bytes_eq}
-use Rattle.lt_plain.specs.declared.call.Call.{Call}
-use Rattle.lt_plain.specs.declared.call.Call.TheVariants.{Visit, Acquire, Update, Finish, Leave, Look}
+use Rattle.lt_rules.specs.declared.call.Call.{Call}
+use Rattle.lt_rules.specs.declared.call.Call.TheVariants.{Visit, Acquire, Update, Finish, Leave, Look}
 use Rattle.lt_text.specs.Maybe.{◌>>=◌}
 use Rattle.lt_text.specs.Fields.{ticket_word, time_word, access_word, owner_word, bound_words, number_within, ticket_of, time_of, access_of, owner_of, is_bound, bound_of}
 

@@ -7,7 +7,7 @@ ghost use Rattle.lt_text.specs.Calls.{Gives, bound_at, visit_at, acquire_at, upd
 use crate::field::{access, bound, is_bound, owner, ticket, timestamp, txn};
 use crate::number::number;
 use crate::words::Words;
-use lt_plain::Call;
+use lt_rules::Call;
 
 /// The bound at the start of the remaining words, or 0 if the next word does not begin as a bound does.
 #[tactic(auto, unfolding(crate::specs::Calls::bound_at))]

@@ -12,7 +12,7 @@ ghost use Rattle.lt_text.specs.Compose.{spaced};
 use crate::reply::name;
 use itoa::Buffer;
 use lt_ids::{Access, Ticket, Timestamp, TxnId};
-use lt_plain::{Call, Reply};
+use lt_rules::{Call, Reply};
 use std::alloc::AllocError;
 
 /// Appends the number.

@@ -8,7 +8,7 @@ ghost use Rattle.lt_text.specs.Replies.{reply_name, fixed_reply, held_of, waits_
 
 use crate::field::txn;
 use crate::words::Words;
-use lt_plain::{Call, Reply};
+use lt_rules::{Call, Reply};
 
 /// The first word of a reply.
 pub fn name(reply: Reply) -> &'static [u8]

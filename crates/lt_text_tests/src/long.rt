@@ -6,6 +6,7 @@ use lt_history::Report;
 use lt_tool::{Finish, Options, check_text, run_script, upgrade_text};
 use lt_tool_test_kit::streams::Expecting;
 use std::alloc::Global;
+use std::random::RandomSource;
 use std::sync::Wait;
 use std::test::*;
 use std::thread::Threads;
@@ -43,7 +44,7 @@ fn history_of(alloc: Global, version: u8, key: &str, count: usize) -> Option<Vec
 }
 
 /// Whether the output is the answer of each line, followed by the history of the key and nothing else.
-fn is_run<H: Threads + Wait + Sync>(
+fn is_run<H: Threads + Wait + RandomSource + Sync>(
     rt: &H,
     alloc: Global,
     key: &str,

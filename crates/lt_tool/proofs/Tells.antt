@@ -5,8 +5,8 @@ use Rattle.std.specs.Global.{Vec}
 use Rattle.std.specs.List.{flat_map, AllByRecursion}
 use Rattle.std.proofs.lemmas.List.{map-append}
 use Rattle.lt_ids.specs.declared.request.Access.{Access}
-use Rattle.lt_plain.specs.declared.call.Reply.{Reply}
-use Rattle.lt_plain.specs.declared.call.Reply.TheVariants.{MustWait, TooLong}
+use Rattle.lt_rules.specs.declared.call.Reply.{Reply}
+use Rattle.lt_rules.specs.declared.call.Reply.TheVariants.{MustWait, TooLong}
 use Rattle.lt_entry.specs.declared.entry.Entry.{Entry}
 use Rattle.lt_table_core.specs.Machine.{Step, WalkState, after_status, polled}
 use Rattle.lt_table_core.specs.declared.scan_results.Scan.{Scan}

@@ -16,10 +16,11 @@ use lt_writer::write_out;
 use std::alloc::Global;
 use std::fs::{File, Files};
 use std::io::{Read, Write};
+use std::random::RandomSource;
 use std::sync::Wait;
 use std::thread::Threads;
 
-fn run_from<H: Threads + Wait + Sync, R: Read, W: Write>(
+fn run_from<H: Threads + Wait + RandomSource + Sync, R: Read, W: Write>(
     rt: &H,
     alloc: Global,
     input: &mut R,
@@ -73,7 +74,7 @@ fn upgrade_from<R: Read, W: Write>(
     }
 }
 
-fn run_file<H: Threads + Wait + Sync, F: Files, W: Write>(
+fn run_file<H: Threads + Wait + RandomSource + Sync, F: Files, W: Write>(
     rt: &H,
     alloc: Global,
     files: &F,
@@ -128,7 +129,7 @@ fn upgrade_file<F: Files, W: Write>(
 }
 
 /// Does the job, reading its file if it names one and the input otherwise.
-fn work<H: Threads + Wait + Sync, F: Files, R: Read, W: Write>(
+fn work<H: Threads + Wait + RandomSource + Sync, F: Files, R: Read, W: Write>(
     rt: &H,
     alloc: Global,
     files: &F,
@@ -169,7 +170,7 @@ fn tell_help<W: Write>(output: &mut W, text: &str) -> Result<Finish, Failure>
 /// Reads the words after the program's name and does what they ask for. This is the whole program except for its
 /// streams. Help is written to the output, and counts as success. Only a job without a file reads the input. If the
 /// words are refused, nothing is read, written or opened.
-pub fn perform<'a, H: Threads + Wait + Sync, F: Files, R: Read, W: Write>(
+pub fn perform<'a, H: Threads + Wait + RandomSource + Sync, F: Files, R: Read, W: Write>(
     rt: &H,
     alloc: Global,
     files: &F,

@@ -14,6 +14,7 @@ use lt_script::{Script, ScriptError, ScriptFault, read_script};
 use lt_writer::write_out;
 use std::alloc::Global;
 use std::io::{Read, Write};
+use std::random::RandomSource;
 use std::sync::Wait;
 use std::thread::Threads;
 use thiserror::Error;
@@ -93,7 +94,7 @@ fn script_of<R: Read>(alloc: Global, reader: &mut R) -> Result<Script, RunError>
 /// line `await` polls at most as often as the turns say. Otherwise the lines run in their order on one thread, and
 /// `await` polls once. The gate is asked before each line. The whole script is read and checked before the first
 /// line runs, and the whole output is composed before the first write.
-pub fn run_script_with<H: Threads + Wait + Sync, R: Read, W: Write, G: Gate + Sync>(
+pub fn run_script_with<H: Threads + Wait + RandomSource + Sync, R: Read, W: Write, G: Gate + Sync>(
     rt: &H,
     alloc: Global,
     reader: &mut R,
@@ -133,7 +134,7 @@ pub fn run_script_with<H: Threads + Wait + Sync, R: Read, W: Write, G: Gate + Sy
 }
 
 /// Runs a script as [`run_script_with`] does, with the gate that lets every line run.
-pub fn run_script<H: Threads + Wait + Sync, R: Read, W: Write>(
+pub fn run_script<H: Threads + Wait + RandomSource + Sync, R: Read, W: Write>(
     rt: &H,
     alloc: Global,
     reader: &mut R,

@@ -7,9 +7,10 @@ use crate::answer::put_answers;
 use lt_command_line::Options;
 use lt_runner::{Finish, Gate, Plan, Ran, RunFault, run};
 use lt_script::Script;
-use lt_table::linked_tables;
+use lt_table::{linked_tables, random_start};
 use lt_writer::put_histories;
 use std::alloc::{AllocError, Global};
+use std::random::RandomSource;
 use std::sync::Wait;
 use std::thread::Threads;
 
@@ -49,7 +50,7 @@ fn composed(alloc: Global, ran: Ran) -> Result<Outcome, AllocError>
 }
 
 /// Runs the commands and composes the output. Drops the script before it composes the text, to save memory.
-pub(crate) fn run_commands<G: Gate + Sync, H: Threads + Wait + Sync>(
+pub(crate) fn run_commands<G: Gate + Sync, H: Threads + Wait + RandomSource + Sync>(
     rt: &H,
     alloc: Global,
     options: &Options,
@@ -59,7 +60,9 @@ pub(crate) fn run_commands<G: Gate + Sync, H: Threads + Wait + Sync>(
     requires { AreInRange options.now }
     ensures { IfOk result (λ o. IsOutput options.now (G.always gate.now) script o.text.items o.finish) }
 {
-    let Ok(tables) = linked_tables(alloc, options.shards) else {
+    // Only the time of a run depends on the start, so a run goes on without random bytes.
+    let start = random_start(rt).unwrap_or(0);
+    let Ok(tables) = linked_tables(alloc, options.shards, start) else {
         return Err(RunFault::Memory);
     };
     let plan = Plan {

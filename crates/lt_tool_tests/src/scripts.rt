@@ -12,6 +12,7 @@ use lt_tool_test_kit::streams::{FAULTS_OF_READS, FAULTS_OF_WRITES, LineEnds, Pap
 use std::alloc::{AllocError, Global};
 use std::io::{ErrorKind, Read};
 use std::process::Abort;
+use std::random::RandomSource;
 use std::sync::Wait;
 use std::test::*;
 use std::thread::Threads;
@@ -248,7 +249,7 @@ const TWO_KEYS_BUT_ONE_LINE: &str =
 type RunEnding = Result<Finish, RunError>;
 
 /// Runs the script, and runs it a second time if it ran out of memory and has written nothing.
-fn run_by<H: Threads + Wait + Sync, R: Read + Drop>(
+fn run_by<H: Threads + Wait + RandomSource + Sync, R: Read + Drop>(
     rt: &H,
     alloc: Global,
     mut readers: [R; 2],
@@ -267,7 +268,7 @@ fn run_by<H: Threads + Wait + Sync, R: Read + Drop>(
 }
 
 /// The same with the default options.
-fn run_of<H: Threads + Wait + Sync, R: Read + Drop>(
+fn run_of<H: Threads + Wait + RandomSource + Sync, R: Read + Drop>(
     rt: &H,
     alloc: Global,
     readers: [R; 2],
@@ -277,7 +278,7 @@ fn run_of<H: Threads + Wait + Sync, R: Read + Drop>(
 }
 
 /// Runs the script of a row, and asserts how the run ends and what it writes.
-fn expect_output<H: Threads + Wait + Sync + Abort>(
+fn expect_output<H: Threads + Wait + RandomSource + Sync + Abort>(
     rt: &H,
     alloc: Global,
     run: &(&'static str, &'static str, &'static str),
@@ -345,7 +346,7 @@ fn a_request_has_up_to_256_accesses(rt: HostRuntime) {
 }
 
 /// Runs a script with this gate.
-fn run_gated<H: Threads + Wait + Sync, G: Gate + Sync>(
+fn run_gated<H: Threads + Wait + RandomSource + Sync, G: Gate + Sync>(
     rt: &H,
     alloc: Global,
     script: &str,
@@ -444,7 +445,11 @@ const NOTED: [Noted; 9] = [
 ];
 
 /// Runs the script of the row, and asserts how the run ends and what the gate noted.
-fn expect_notes<H: Threads + Wait + Sync + Abort>(rt: &H, alloc: Global, row: &Noted) {
+fn expect_notes<H: Threads + Wait + RandomSource + Sync + Abort>(
+    rt: &H,
+    alloc: Global,
+    row: &Noted,
+) {
     let (script, threads, refused, finish, pass, expected) = *row;
     let mut notes = GateNotes::new(refused);
     let mut writer = blank(1024, 1024);
@@ -494,7 +499,7 @@ fn a_gate_ends_a_pass(rt: HostRuntime) {
 }
 
 /// Runs the script with this gate and on threads, and asserts that the run is done and has this output.
-fn expect_gated<H: Threads + Wait + Sync + Abort, G: Gate + Sync>(
+fn expect_gated<H: Threads + Wait + RandomSource + Sync + Abort, G: Gate + Sync>(
     rt: &H,
     alloc: Global,
     gate: &G,

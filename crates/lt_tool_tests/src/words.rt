@@ -12,6 +12,7 @@ use lt_tool_test_kit::streams::{Paper, blank};
 use std::alloc::Global;
 use std::fs::Files;
 use std::process::Abort;
+use std::random::RandomSource;
 use std::sync::Wait;
 use std::test::*;
 use std::thread::Threads;
@@ -533,7 +534,7 @@ const CHECK_HELP: &str =
 
 /// Runs the program, and runs it a second time if it ended with status 4 and has written nothing. A failed
 /// allocation has that status.
-fn ended<H: Threads + Wait + Sync, F: Files>(
+fn ended<H: Threads + Wait + RandomSource + Sync, F: Files>(
     rt: &H,
     alloc: Global,
     files: &F,
@@ -551,7 +552,7 @@ fn ended<H: Threads + Wait + Sync, F: Files>(
 }
 
 /// Asserts that the program ends as the case says.
-fn expect_end<H: Threads + Wait + Sync + Abort, F: Files>(
+fn expect_end<H: Threads + Wait + RandomSource + Sync + Abort, F: Files>(
     rt: &H,
     alloc: Global,
     files: &F,

@@ -4,7 +4,7 @@ use Rattle.std.specs.List.{slice_split}
 use Rattle.serde_json.specs.Data.{Data, Items, no_items, item, Members, no_members, member}
 use Rattle.serde_json.specs.Find.{get, as_str, as_number, as_u64, as_array, as_object}
 use Rattle.serde_json.specs.Read.{read as read_text}
-use Rattle.lt_plain.specs.declared.call.Reply.{Reply}
+use Rattle.lt_rules.specs.declared.call.Reply.{Reply}
 use Rattle.lt_text.specs.Maybe.{◌>>=◌}
 use Rattle.lt_text.specs.Fields.{ticket_of}
 use Rattle.lt_text.specs.Replies.{reply_at}

@@ -1,7 +1,7 @@
 -- What a line of a trace says.
 use Rattle.std.specs.Prelude.{ℕ, ◌==◌, Bool, if◌then◌else◌, is_some, List, Option, Some, None}
 use Rattle.std.specs.List.{slice_split}
-use Rattle.lt_plain.specs.declared.call.Reply.{Reply}
+use Rattle.lt_rules.specs.declared.call.Reply.{Reply}
 use Rattle.lt_text.specs.Maybe.{◌>>=◌}
 use Rattle.lt_text.specs.Words.{cut_of}
 use Rattle.lt_text.specs.Fields.{number_within}

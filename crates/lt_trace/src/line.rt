@@ -12,7 +12,7 @@ ghost use Rattle.lt_checker.specs.Lines.{key_if_legal};
 ghost use Rattle.lt_trace.specs.Step.{unnumbered_step_at, is_step_text, line_of_parts, trace_line_of};
 
 use lt_ids::{IdError, Key};
-use lt_plain::Reply;
+use lt_rules::Reply;
 use lt_text::call::call;
 use lt_text::field::ticket;
 use lt_text::number::number;

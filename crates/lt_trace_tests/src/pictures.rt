@@ -9,7 +9,8 @@ use lt_picture::{
     Arrow, Bar, ColourChoice, Lane, Layout, Phase, PictureError, ShownStep, Terminal, html,
     lanes_of, picture, put_escaped, put_heading, put_key, put_printable, put_shown,
 };
-use lt_plain::{Call, KeyState, KeyTable, PlainTable, Reply, step};
+use lt_plain::PlainTable;
+use lt_rules::{Call, KeyState, KeyTable, Reply};
 use std::alloc::{AllocError, Global};
 use std::process::Abort;
 use std::test::Fail;
@@ -82,7 +83,7 @@ fn shown(
     call: Call,
 ) -> Result<ShownStep, AllocError> {
     let mut lets = Vec::new(alloc);
-    let reply = step::make(table, key, 3, &call, &mut lets)?;
+    let reply = table.step(key, 3, &call, &mut lets)?;
     let mut tickets = Vec::new(alloc);
     for through in &lets {
         tickets.push(through.ticket)?;

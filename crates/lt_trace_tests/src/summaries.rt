@@ -4,7 +4,7 @@
 //! count whatever they are given. A case that runs out of memory is played again, so the tests pass under any single
 //! allocation failure.
 use lt_ids::{Access, Key, Ticket, Timestamp};
-use lt_plain::{Call, Reply};
+use lt_rules::{Call, Reply};
 use lt_statistics::{
     HotKey, LongestQueue, LongestWait, Statistics, StepCounts, StepFacts, TextSummary,
 };

@@ -3,8 +3,8 @@ use Rattle.std.proofs.Common.{◌≡◌, ℕ, ◌+◌, ◌≤◌, ◌==◌, Bool
 use Rattle.std.specs.Str.{bytes_eq}
 use mathlib.Core.List.{IsPrefix}
 use Rattle.lt_ids.specs.Ids.{Wait}
-use Rattle.lt_plain.specs.Rules.{empty}
-use Rattle.lt_plain.specs.Step.{step, record_after}
+use Rattle.lt_rules.specs.Rules.{empty}
+use Rattle.lt_rules.specs.Step.{step, record_after}
 use Rattle.lt_entry.specs.declared.entry.Entry.{Entry}
 use Rattle.lt_entry.specs.Legal.{event_of, AreLegalKeys}
 use Rattle.lt_entry.specs.Legal.{key_part}

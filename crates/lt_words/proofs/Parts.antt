@@ -12,11 +12,11 @@ use mathlib.Core.List.{IsPrefix}
 use Rattle.lt_ids.specs.Ids.{Wait}
 use Rattle.lt_ids.specs.declared.timestamp.Timestamp.{Timestamp}
 use Rattle.lt_ids.specs.declared.request.Access.TheVariants.{Read}
-use Rattle.lt_plain.specs.declared.call.Call.TheVariants.{Visit}
-use Rattle.lt_plain.specs.declared.call.Reply.TheVariants.{Passed, MustWait}
-use Rattle.lt_plain.specs.Rules.{Record, empty}
-use Rattle.lt_plain.specs.Step.{Event as KeyEvent, step, IsLegal, IsLegalFrom, Holds, IsBelowOthers}
-use Rattle.lt_plain.specs.Laws.{OneHolder, ReadsPass}
+use Rattle.lt_rules.specs.declared.call.Call.TheVariants.{Visit}
+use Rattle.lt_rules.specs.declared.call.Reply.TheVariants.{Passed, MustWait}
+use Rattle.lt_rules.specs.Rules.{Record, empty}
+use Rattle.lt_rules.specs.Step.{Event as KeyEvent, step, IsLegal, IsLegalFrom, Holds, IsBelowOthers}
+use Rattle.lt_rules.specs.Laws.{OneHolder, ReadsPass}
 use Rattle.lt_entry.specs.declared.entry.Entry.{Entry}
 use Rattle.lt_entry.specs.Legal.{event_of, AreLegalKeys}
 use Rattle.lt_entry.specs.Legal.{key_part}

@@ -7,10 +7,10 @@ use Rattle.lt_ids.specs.Ids.{Wait, IsNumber, IsWaitNumber, value_of}
 use Rattle.lt_ids.specs.declared.ticket.Through.{Through}
 use Rattle.lt_ids.specs.declared.timestamp.Timestamp.{Timestamp}
 use Rattle.lt_ids.specs.declared.request.Access.TheVariants.{Read}
-use Rattle.lt_plain.specs.declared.call.Call.TheVariants.{Visit}
-use Rattle.lt_plain.specs.declared.call.Reply.TheVariants.{Passed, MustWait}
-use Rattle.lt_plain.specs.Rules.{Record, empty}
-use Rattle.lt_plain.specs.Step.{Event as KeyEvent, step, record_after, Holds, IsBelowOthers}
+use Rattle.lt_rules.specs.declared.call.Call.TheVariants.{Visit}
+use Rattle.lt_rules.specs.declared.call.Reply.TheVariants.{Passed, MustWait}
+use Rattle.lt_rules.specs.Rules.{Record, empty}
+use Rattle.lt_rules.specs.Step.{Event as KeyEvent, step, record_after, Holds, IsBelowOthers}
 use Rattle.lt_entry.specs.declared.entry.Entry.{Entry}
 use Rattle.lt_entry.specs.Legal.{event_of, AreLegalKeys}
 use Rattle.lt_entry.specs.Legal.{key_part}

@@ -13,8 +13,8 @@ use Rattle.lt_words.specs.History.{part, draws_of}
 use Rattle.lt_words.specs.Shown.{AreShown}
 use Rattle.lt_words.specs.Rules.{word_at, shards_in, passes_in, keeping_in, history_of, shown_of}
 use Rattle.lt_entry.specs.declared.entry.Entry.{Entry}
-use Rattle.lt_plain.specs.declared.call.Call.{Call}
-use Rattle.lt_plain.specs.declared.call.Reply.{Reply}
+use Rattle.lt_rules.specs.declared.call.Call.{Call}
+use Rattle.lt_rules.specs.declared.call.Reply.{Reply}
 
 -- the entry with these parts
 abbrev pub made : List ℕ → ℕ → Call → Reply → List Through → Entry

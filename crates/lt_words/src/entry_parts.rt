@@ -1,6 +1,6 @@
 use lt_entry::Entry;
 use lt_ids::{Key, Through};
-use lt_plain::{Call, Reply};
+use lt_rules::{Call, Reply};
 use std::marker::Model;
 use std::snapshot::Snapshot;
 
@@ -16,7 +16,7 @@ pub struct EntryParts {
 }
 
 impl Model for EntryParts {
-    ghost use Rattle.lt_plain.specs.Step.{EntryState};
+    ghost use Rattle.lt_rules.specs.Step.{EntryState};
     ghost use Rattle.lt_words.specs.Row.{made};
 
     ghost Value = { EntryState };

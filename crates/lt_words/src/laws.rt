@@ -6,7 +6,7 @@
 ghost use Rattle.lt_words.specs.Laws.{DrawsGiveTheNext, NumbersRise, NumbersAreOfDraws, NumbersAreDrawnOnce, NumbersAreOfOnePass, PrefixesAreLegal, PartsBegin, StepsStay, DrawsStay, LetsStay, WordsRise, ShownStays, WordsAreLets, AllStepsAreInTheirShards, PartsAreLegal};
 ghost use Rattle.lt_words.specs.History.{OneHolderAtEachKey, ReadsPassAtEachKey};
 
-use lt_plain::laws::{one_holder, reads_pass};
+use lt_rules::laws::{one_holder, reads_pass};
 
 /// A draw gives one more than the number of draws before it.
 pub fn draws_give_the_next()

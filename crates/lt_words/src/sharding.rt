@@ -9,9 +9,5 @@ pub fn shard_of(key: &Key, shards: usize) -> usize
     ensures shard { result ≡ shard_of key.now shards }
     ensures below { result < shards }
 {
-    let mut total = 0;
-    for byte in key.as_bytes() {
-        total += usize::from(*byte);
-    }
-    total % shards
+    usize::from(key.byte_sum()) % shards
 }

@@ -9,7 +9,7 @@ ghost use Rattle.lt_words.specs.Row.{Opening};
 use crate::seat::DropPass;
 use lt_entry::{Entry, Lets};
 use lt_ids::{IdError, Key, TxnId};
-use lt_plain::{Call, Reply};
+use lt_rules::{Call, Reply};
 use lt_words::{Book, Pass, abandon_all, shard_of};
 use std::alloc::{AllocError, Global};
 use std::sync::Wait;

@@ -5,7 +5,8 @@
 ghost use Rattle.std.specs.Prelude.{◌<◌, ◌≤◌};
 
 use lt_ids::{Access, IdError, Key, Through, Ticket, Timestamp, TxnId};
-use lt_plain::{Call, KeyTable, PlainTable, Reply, step};
+use lt_plain::PlainTable;
+use lt_rules::{Call, KeyTable, Reply};
 use std::alloc::Global;
 use std::process::Abort;
 use std::test::Fail;
@@ -58,7 +59,7 @@ fn make(
 ) -> Result<Reply, Fail> {
     lets.clear();
     let before = looks(table, key);
-    match step::make(table, key, 3, call, lets) {
+    match table.step(key, 3, call, lets) {
         Ok(reply) => Ok(reply),
         Err(_) => {
             *refusals = refusals.wrapping_add(1);
@@ -68,7 +69,7 @@ fn make(
                 looks(table, key) == before,
                 "a refused call changed what is found"
             );
-            match step::make(table, key, 3, call, lets)? {
+            match table.step(key, 3, call, lets)? {
                 // A call with one of these replies allocates nothing, so it cannot have run out of memory.
                 Reply::Other | Reply::Kept | Reply::Absent | Reply::TooLong => {
                     Err(Fail::from("a call that takes no memory was refused"))

@@ -11,7 +11,7 @@ use crate::rules::calls::ExpectedLets::{One, Two};
 use crate::rules::calls::ExpectedReply::{First, For, Is};
 use crate::rules::calls::{ExpectedStep, NOBODY, expect};
 use lt_ids::Access;
-use lt_plain::Reply;
+use lt_rules::Reply;
 use std::test::Fail;
 
 /// Transaction 9 takes the lock at time 10.

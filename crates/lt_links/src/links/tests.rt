@@ -1,5 +1,6 @@
-//! What the contracts of the links leave open: that their calls succeed while memory lasts. One test makes each call once.
-//! Another makes the same calls at two `Links`, and repeats each call in which an allocation failed.
+//! What the contracts of the links leave open: that their calls succeed while memory lasts. One test makes most
+//! calls once. One asks for the length of a queue after each kind of change. Another makes the same calls at two
+//! `Links`, and repeats each call in which an allocation failed.
 ghost use Rattle.std.specs.Prelude.{◌≡◌, ◌↔◌, IsTrue, true};
 ghost use Rattle.lt_links.specs.Maps.{HasNode, has_record as is_record};
 
@@ -97,6 +98,47 @@ fn nodes_are_found_from_both_ends_and_by_their_number(rt: HostRuntime) -> Result
     expect_queue(&rt, &links, &writers, &[n3, n2]);
     expect_queue(&rt, &links, &reservation, &[]);
     expect_owned(&rt, &links, 5, &[]);
+    Ok(())
+}
+
+/// Asserts that the queue has this length.
+fn expect_len(rt: &impl Abort, links: &Links, queue: &Queue, len: usize) {
+    assert!(rt; has_record(links, queue.id));
+    assert_eq!(rt; links.len(*queue), len);
+}
+
+#[test]
+fn a_queue_counts_its_nodes(rt: HostRuntime) -> Result<(), Fail> {
+    let mut links = Links::new(rt.alloc());
+    let id = links.add_record()?;
+    let writers = Queue {
+        id,
+        kind: QueueKind::Writers,
+    };
+    let readers = Queue {
+        id,
+        kind: QueueKind::Readers,
+    };
+    expect_len(&rt, &links, &writers, 0);
+    let n1 = links.push_front(writers, stand_of(&rt, 5, 1))?;
+    expect_len(&rt, &links, &writers, 1);
+    assert!(rt; has_node(&links, n1));
+    let n2 = links.insert_after(n1, stand_of(&rt, 9, 1))?;
+    expect_len(&rt, &links, &writers, 2);
+    assert!(rt; has_record(&links, id));
+    let n3 = links.push_front(writers, stand_of(&rt, 2, 1))?;
+    expect_len(&rt, &links, &writers, 3);
+
+    assert!(rt; has_node(&links, n3));
+    links.remove(n3);
+    expect_len(&rt, &links, &writers, 2);
+    assert!(rt; has_node(&links, n2) && has_record(&links, id));
+    links.move_front(n2, writers);
+    expect_len(&rt, &links, &writers, 2);
+    assert!(rt; has_node(&links, n2) && has_record(&links, id));
+    links.move_front(n2, readers);
+    expect_len(&rt, &links, &writers, 1);
+    expect_len(&rt, &links, &readers, 1);
     Ok(())
 }
 

@@ -3,7 +3,7 @@
 //! never occurred. Read next `schedule`, which makes the schedules.
 use crate::schedules::standing::{ExpectedAnswer, Standing};
 use crate::schedules::steps::{AskedCall, PlainStep};
-use lt_plain::Reply;
+use lt_rules::Reply;
 use lt_table::{EnterError, Poll, Scan, ScanError, StepError};
 use lt_test_kit::command::{CallOutcome, TableCommand};
 use lt_test_kit::play::PlayedCommand;

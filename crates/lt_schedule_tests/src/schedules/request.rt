@@ -4,7 +4,7 @@
 use crate::schedules::steps::{AskedCall, Steps};
 use crate::second::Time;
 use lt_ids::Access;
-use lt_plain::Reply;
+use lt_rules::Reply;
 use lt_table::{Poll, Scan, ScanError, StepError};
 use lt_test_kit::command::CallOutcome;
 use std::alloc::{AllocError, Global};

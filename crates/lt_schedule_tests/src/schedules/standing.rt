@@ -1,6 +1,6 @@
 //! The state of a key in plain numbers: as a second evaluation of the rules gives it, and as a table reports it.
 use crate::second::{PlainStand, Time};
-use lt_plain::{QueuedRequest, QueuedWriter};
+use lt_rules::{QueuedRequest, QueuedWriter};
 use lt_table::KeyState;
 use std::alloc::{AllocError, Global};
 

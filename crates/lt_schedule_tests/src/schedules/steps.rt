@@ -5,7 +5,7 @@ ghost use Rattle.std.specs.Prelude.{◌<◌};
 
 use crate::schedules::standing::Standing;
 use crate::second::{Let, PlainStand, Second, Time};
-use lt_plain::Reply;
+use lt_rules::Reply;
 use std::alloc::{AllocError, Global};
 use std::collections::BTreeMap;
 

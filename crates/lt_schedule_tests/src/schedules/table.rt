@@ -9,7 +9,7 @@ use crate::schedules::standing::Standing;
 use crate::schedules::steps::{AskedCall, PlainStep, Steps};
 use crate::second::Time;
 use lt_ids::Access;
-use lt_plain::Reply;
+use lt_rules::Reply;
 use lt_table::{Config, EnterError, StepError};
 use lt_test_kit::command::{CallOutcome, TableCommand};
 use lt_test_kit::play::PlayedCommand;

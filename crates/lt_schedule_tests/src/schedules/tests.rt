@@ -10,7 +10,7 @@ use crate::schedules::steps::{AskedCall, PlainStep};
 use crate::second::{Let, Time};
 use lt_entry::Entry;
 use lt_ids::{Access, Key, Through, Timestamp, TxnId};
-use lt_plain::{Call, Reply};
+use lt_rules::{Call, Reply};
 use lt_table::{KeyState, ScanError};
 use lt_test_kit::asking::TableAnswer;
 use lt_test_kit::command::{CallOutcome, TableCall};

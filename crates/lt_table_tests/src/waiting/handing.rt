@@ -5,7 +5,7 @@ ghost use Rattle.std.specs.Prelude.{◌≡◌, IfSome};
 
 use crate::waiting::queue::{Caller, TIME, enter, hold, leave};
 use lt_ids::{Key, TxnId};
-use lt_plain::KeyTable;
+use lt_rules::KeyTable;
 use lt_table::{Config, Guard, Keeping, Poll, Ready, Scan, Table, open, prepare_with};
 use lt_test_kit::run::seated;
 use lt_test_kit::seat::Seat;
@@ -177,7 +177,7 @@ fn hand_named<N: Name + Send + Sync, R: Threads + Wait + Sync>(
 ) -> Option<(u64, u64)>
     requires { ready.of ≡ N.of }
 {
-    let (table, passes) = open::<N>(alloc, ready).ok()?;
+    let (table, passes) = open::<N>(alloc, ready, 0).ok()?;
     run_both(rt, alloc, &table, seated::<N>(alloc, passes)?, turns)
 }
 

@@ -8,7 +8,7 @@ ghost use Rattle.std.specs.List.{All};
 
 use crate::waiting::queue::{TIME, leave, proceed};
 use lt_ids::{Access, Key, TxnId};
-use lt_plain::{KeyTable, Reply};
+use lt_rules::{KeyTable, Reply};
 use lt_table::{Answer, Config, EnterRefused, Guard, Ready, StepError, Table, open, prepare};
 use lt_test_kit::run::close_all;
 use lt_words::{Name, Pass, abandon_all};
@@ -181,7 +181,7 @@ fn lent_named<N: Name + Send + Sync, R: Threads + Wait + Sync>(
 ) -> Option<usize>
     requires { ready.of ≡ N.of }
 {
-    let (table, passes) = open::<N>(alloc, ready).ok()?;
+    let (table, passes) = open::<N>(alloc, ready, 0).ok()?;
     let (mut one, mut other) = seats_of::<N>(passes)?;
     work_on_two(rt, alloc, &table, &mut one, &mut other)?;
     let histories = close_all(rt, alloc, table, back(alloc, one, other)?)?;

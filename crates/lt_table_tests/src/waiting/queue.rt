@@ -4,7 +4,7 @@
 ghost use Rattle.std.specs.Prelude.{◌≡◌, ◌<◌, IfSome};
 
 use lt_ids::{Access, Key, Timestamp, TxnId};
-use lt_plain::KeyTable;
+use lt_rules::KeyTable;
 use lt_table::{
     Config, EnterRefused, Guard, LeaveStopped, Left, Poll, Ready, Scan, Table, Waker, open, prepare,
 };
@@ -273,7 +273,7 @@ fn turns_named<N: Name + Send + Sync, R: Threads + Wait + Clock + CpuClock + Syn
 ) -> Option<Turns>
     requires { ready.of ≡ N.of }
 {
-    let (table, passes) = open::<N>(alloc, ready).ok()?;
+    let (table, passes) = open::<N>(alloc, ready, 0).ok()?;
     let seats = seated::<N>(alloc, passes)?;
     let numbers = Mutex::new(Vec::new(alloc));
     let (seats, processor) = turns_on(rt, alloc, &table, seats, &numbers)?;

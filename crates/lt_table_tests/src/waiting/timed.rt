@@ -4,7 +4,7 @@ ghost use Rattle.std.specs.Prelude.{◌≡◌};
 
 use crate::waiting::queue::{enter, hold, leave};
 use lt_ids::{Key, TxnId};
-use lt_plain::KeyTable;
+use lt_rules::KeyTable;
 use lt_table::{Config, Guard, Keeping, Poll, Ready, Scan, Table, open, prepare_with};
 use lt_test_kit::run::seated;
 use lt_test_kit::seat::Seat;
@@ -89,7 +89,7 @@ fn timed_on<N: Name, T: KeyTable, R: Wait + Clock>(
 fn timed_named<N: Name, R: Wait + Clock>(rt: &R, alloc: Global, ready: Ready) -> Option<Timed>
     requires { ready.of ≡ N.of }
 {
-    let (table, passes) = open::<N>(alloc, ready).ok()?;
+    let (table, passes) = open::<N>(alloc, ready, 0).ok()?;
     timed_on(rt, alloc, &table, seated::<N>(alloc, passes)?)
 }
 

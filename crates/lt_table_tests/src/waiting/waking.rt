@@ -5,7 +5,7 @@ ghost use Rattle.std.specs.Prelude.{◌≡◌};
 
 use crate::waiting::queue::{TIME, hold};
 use lt_ids::{Access, Key, Ticket, TxnId};
-use lt_plain::KeyTable;
+use lt_rules::KeyTable;
 use lt_table::{Config, EnterRefused, Poll, Ready, Scan, Table, Waker, open_waking, prepare};
 use lt_test_kit::run::seated;
 use lt_test_kit::seat::Seat;
@@ -190,7 +190,7 @@ fn wake_named<N: Name, R: Wait>(rt: &R, alloc: Global, ready: Ready) -> Option<W
 {
     let notes = WakerNotes::new();
     let waker = Noting { notes: &notes };
-    let (table, passes) = open_waking::<N, Noting<'_>>(alloc, ready, waker).ok()?;
+    let (table, passes) = open_waking::<N, Noting<'_>>(alloc, ready, 0, waker).ok()?;
     wake_on(rt, alloc, &table, seated::<N>(alloc, passes)?, &notes)
 }
 

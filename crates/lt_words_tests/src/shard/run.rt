@@ -9,7 +9,8 @@ ghost use Rattle.lt_entry.specs.Ranges.{NamesNumber};
 ghost use Rattle.lt_words.specs.History.{shard_of};
 
 use lt_ids::{Access, Key, Ticket, Timestamp, TxnId};
-use lt_plain::{Call, KeyTable, PlainTable};
+use lt_plain::PlainTable;
+use lt_rules::{Call, KeyTable};
 use lt_shard::{Answer, Shard, StepError};
 use lt_words::{Book, Name, Pass, abandon_all, shard_of};
 use std::alloc::Global;

@@ -1,7 +1,7 @@
 //! The tests of a shard's steps. [`crate::shard::run`] makes the steps; the tests compare the answers and the words.
 use crate::shard::run::{let_two, run};
 use lt_ids::Ticket;
-use lt_plain::Reply;
+use lt_rules::Reply;
 use lt_shard::{Answer, StepError};
 use std::test::Fail;
 

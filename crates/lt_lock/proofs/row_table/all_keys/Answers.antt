@@ -1,12 +1,10 @@
-use Rattle.std.proofs.lemmas.Grind.{common_steps}
-use Rattle.std.proofs.Common.{◌++◌, ◌∙◌, ap, sym, append-nil, arith}
+use Rattle.std.proofs.Common.{subst}
+use Rattle.std.specs.List.Sorted.{IsPermutation}
+use Rattle.lt_lock.proofs.SortedKeys.{sorted_keys}
 use Rattle.lt_lock.proofs.row_table.all_keys.Goals as goal
 
-pub returns-clause-keys : goal.returns-clause-keys
-returns-clause-keys c =
-    sym (append-nil c.loop-key.all.items)
-    ∙ ap (λ rest. c.loop-key.all.items ++ rest) (sym c.in-None.ensures.steps.0)
-    ∙ c.loop-key.invariant
-
-pub loop-key-preserved : goal.loop-key-preserved
-loop-key-preserved c = grind (arith, common_steps)
+pub returns : goal.returns
+returns c =
+    sorted_keys c.args.links.now c.args.rows.now c.sort_unstable.new.self.items c.copied_keys.ensures.distinct
+    (subst (λ ks. IsPermutation ks c.sort_unstable.new.self.items) c.in_ok-all.ensures.copied c.sort_unstable.ensures.permutation)
+    c.sort_unstable.ensures.sorted

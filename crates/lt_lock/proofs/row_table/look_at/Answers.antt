@@ -1,5 +1,5 @@
 use Rattle.std.proofs.Common.{ap, sym, ◌∙◌}
-use Rattle.lt_plain.specs.Step.{look}
+use Rattle.lt_rules.specs.Step.{look}
 use Rattle.lt_lock.proofs.Tables.{found, missing, row_is}
 use Rattle.lt_lock.proofs.row_table.look_at.Goals as goal
 

@@ -1,5 +1,5 @@
 use Rattle.std.proofs.Common.{◌++◌, ◌∙◌, ap, sym, append-nil}
-use Rattle.lt_plain.proofs.Rising.{keys-from_entries}
+use Rattle.lt_rules.proofs.Rising.{keys-from_entries}
 use Rattle.lt_plain.proofs.plain_table.all_keys.Goals as goal
 
 pub returns : goal.returns

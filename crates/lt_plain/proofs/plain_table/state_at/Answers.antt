@@ -1,5 +1,5 @@
 use Rattle.std.proofs.Common.{◌≡◌, sym, subst, IfOk, ◌∙◌}
-use Rattle.lt_plain.proofs.Maps.{found, missing}
+use Rattle.lt_plain.proofs.Trees.{found, missing}
 use Rattle.lt_plain.proofs.plain_table.state_at.Goals as goal
 
 pub returns-in-None : goal.returns-in-None

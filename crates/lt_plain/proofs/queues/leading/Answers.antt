@@ -1,5 +1,5 @@
 use Rattle.std.proofs.Common.{◌∙◌}
-use Rattle.lt_plain.proofs.Queue.{leading_is_prefix}
+use Rattle.lt_rules.proofs.Queue.{leading_is_prefix}
 use Rattle.lt_plain.proofs.queues.leading.Goals as goal
 
 pub returns-clause-leading : goal.returns-clause-leading

@@ -1,7 +1,7 @@
 use Rattle.std.proofs.Common.{◌∙◌, ◌≡◌, ◌<◌, sym, ap, length, arith, Some, get_or}
 use Rattle.std.specs.Option.{option_map}
-use Rattle.lt_plain.specs.Rules.{leading}
-use Rattle.lt_plain.proofs.Queue.{none_next, next_behind}
+use Rattle.lt_rules.specs.Rules.{leading}
+use Rattle.lt_rules.proofs.Queue.{none_next, next_behind}
 use Rattle.lt_plain.proofs.queues.take_front.Goals as goal
 
 pub returns-then-others-len-clause-next : goal.returns-then-others-len-clause-next

@@ -2,7 +2,7 @@ use Rattle.std.proofs.Common.{length}
 use Rattle.std.specs.List.{find}
 use Rattle.std.specs.Option.{option_map}
 use Rattle.lt_links.specs.Maps.{queue}
-use Rattle.lt_plain.specs.Rules.{is_eligible}
+use Rattle.lt_rules.specs.Rules.{is_eligible}
 use Rattle.lt_row.specs.Row.{line, request_of, writer_of}
 use Rattle.lt_row.proofs.Places.{rest_from}
 use Rattle.lt_row.proofs.Walks.{IsWalk, found_in}

@@ -1,5 +1,5 @@
 use Rattle.std.proofs.Common.{rules, ◌≢◌, ◌∙◌, ap, refl, sym}
-use Rattle.lt_plain.specs.Rules.{settle}
+use Rattle.lt_rules.specs.Rules.{settle}
 use Rattle.lt_links.specs.declared.ids.QueueKind.TheVariants.{Reservation}
 use Rattle.lt_row.specs.Row.{record_of}
 use Rattle.lt_row.proofs.Rows.{cut_there, others_same, others_written}

@@ -1,5 +1,5 @@
 use Rattle.std.proofs.Common.{◌∙◌, ap, sym, Some}
-use Rattle.lt_plain.specs.Step.{look_waiter, reader_reply}
+use Rattle.lt_rules.specs.Step.{look_waiter, reader_reply}
 use Rattle.lt_row.specs.Row.{record_of, writer_of}
 use Rattle.lt_row.proofs.Rows.{cut_there}
 use Rattle.lt_row.proofs.Written.{stand_is}

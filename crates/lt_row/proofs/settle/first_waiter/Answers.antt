@@ -1,7 +1,7 @@
 use Rattle.std.proofs.Common.{◌∙◌, ap, Some, slice_get, sym}
 use Rattle.std.specs.Option.{option_map}
 use Rattle.std.specs.List.{find}
-use Rattle.lt_plain.specs.Rules.{is_eligible}
+use Rattle.lt_rules.specs.Rules.{is_eligible}
 use Rattle.lt_links.specs.Maps.{queue}
 use Rattle.lt_row.specs.Row.{request_of, writer_of, record_of, line}
 use Rattle.lt_row.proofs.Rows.{first_cut, first_reader, first_after_readers}

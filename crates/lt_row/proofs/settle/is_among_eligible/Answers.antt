@@ -1,6 +1,6 @@
 use Rattle.std.proofs.Common.{◌∙◌, sym, ap}
 use Rattle.std.specs.Option.{option_map}
-use Rattle.lt_plain.specs.Rules.{is_eligible}
+use Rattle.lt_rules.specs.Rules.{is_eligible}
 use Rattle.lt_row.specs.Row.{request_of, writer_of, record_of}
 use Rattle.lt_row.proofs.Rows.{cut_there, missing_may_not, reserved_may_not, writer_may}
 use Rattle.lt_row.proofs.Written.{stand_is}

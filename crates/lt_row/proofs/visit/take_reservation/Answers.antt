@@ -1,7 +1,7 @@
 use Rattle.std.proofs.Common.{[], ◌++◌, Some, refl, sym, subst}
-use Rattle.lt_plain.specs.declared.call.Reply.TheVariants.{Passed}
-use Rattle.lt_plain.specs.Rules.{set_back, stop_reading}
-use Rattle.lt_plain.specs.Visit.{pass}
+use Rattle.lt_rules.specs.declared.call.Reply.TheVariants.{Passed}
+use Rattle.lt_rules.specs.Rules.{set_back, stop_reading}
+use Rattle.lt_rules.specs.Visit.{pass}
 use Rattle.lt_links.specs.Maps.{Maps}
 use Rattle.lt_row.specs.Row.{record_of, request_of}
 use Rattle.lt_row.specs.RowStepped.{RowStepped}

@@ -1,7 +1,7 @@
 use Rattle.std.proofs.Common.{◌≡◌, ℕ, List, Some, sym, ap, subst, ◌∙◌}
 use Rattle.std.specs.Prelude.{slice_get}
 use Rattle.lt_ids.specs.declared.request.Access.{Access}
-use Rattle.lt_plain.specs.declared.call.Call.TheVariants.{Look}
+use Rattle.lt_rules.specs.declared.call.Call.TheVariants.{Look}
 use Rattle.lt_runner.specs.Machine.{index_of}
 use Rattle.lt_runner.proofs.Doings.{strange, looked, look_at, made_in}
 use Rattle.lt_runner.proofs.act.look_of.Goals as goal

@@ -1,5 +1,5 @@
 use Rattle.std.proofs.Common.{refl}
-use Rattle.lt_plain.specs.declared.call.Call.TheVariants.{Update}
+use Rattle.lt_rules.specs.declared.call.Call.TheVariants.{Update}
 use Rattle.lt_runner.specs.declared.session.Session.TheVariants.{Free}
 use Rattle.lt_runner.proofs.Doings.{made, made_in}
 use Rattle.lt_runner.proofs.act.update.Goals as goal

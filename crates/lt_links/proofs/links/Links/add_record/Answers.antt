@@ -4,7 +4,8 @@ use Rattle.slab.specs.Slab.{get}
 use Rattle.lt_links.specs.declared.node.Heads.{Heads}
 use Rattle.lt_links.specs.Maps.{Maps, AddsRecord}
 use Rattle.lt_links.proofs.Views.{record_is}
-use Rattle.lt_links.proofs.Edits.{Links-head_slots, maps-head_slots, Links-added, AddsRecord-added, IsEmpty-added}
+use Rattle.lt_links.proofs.Edits.{Links-head_slots, maps-head_slots, Links-added, AreCounted-added, AddsRecord-added, IsEmpty-added}
+use Rattle.lt_links.proofs.Counts.{AreCounted-slots}
 use Rattle.lt_links.specs.View.{maps_of}
 use Rattle.lt_links.proofs.Shows.{IsSound-links}
 use Rattle.lt_links.proofs.links.Links.add_record.Goals as goal
@@ -16,6 +17,7 @@ invariant_of-self c =
       queues = inv.queues;
       numbers = inv.numbers;
       links = Links-head_slots c.self.inside.nodes c.self.inside.heads c.reserve.new.self c.self.inside.owners inv.queues inv.numbers (ap (λ s. s.slots) c.reserve.ensures.rest_kept) inv.links;
+      lens = AreCounted-slots c.self.inside.heads c.reserve.new.self inv.queues (ap (λ s. s.slots) c.reserve.ensures.rest_kept) inv.lens;
     }
 
 pub invariant_of-self-2 : goal.invariant_of-self-2
@@ -27,6 +29,10 @@ invariant_of-self-2 c =
       links = Links-added c.self.inside.nodes c.reserve.new.self c.insert_reserved-key.new.self c.self.inside.owners inv.queues inv.numbers
           (Links-head_slots c.self.inside.nodes c.self.inside.heads c.reserve.new.self c.self.inside.owners inv.queues inv.numbers (ap (λ s. s.slots) c.reserve.ensures.rest_kept) inv.links)
           c.insert_reserved-key.result c.insert_reserved-key.ensures.was_vacant (rw c.new.ensures at c.insert_reserved-key.ensures.updates);
+      lens = AreCounted-added c.self.inside.nodes c.reserve.new.self c.insert_reserved-key.new.self c.self.inside.owners inv.queues inv.numbers
+          (Links-head_slots c.self.inside.nodes c.self.inside.heads c.reserve.new.self c.self.inside.owners inv.queues inv.numbers (ap (λ s. s.slots) c.reserve.ensures.rest_kept) inv.links)
+          c.insert_reserved-key.result c.insert_reserved-key.ensures.was_vacant (rw c.new.ensures at c.insert_reserved-key.ensures.updates)
+          (AreCounted-slots c.self.inside.heads c.reserve.new.self inv.queues (ap (λ s. s.slots) c.reserve.ensures.rest_kept) inv.lens);
     }
 
 pub returns-clause-fresh : goal.returns-clause-fresh

@@ -1,7 +1,7 @@
 use Rattle.std.proofs.Common.{◌≡◌, true, ◌∙◌, sym}
 use Rattle.lt_links.specs.Maps.{IsEmpty, has_record}
 use Rattle.lt_links.proofs.Views.{record_is}
-use Rattle.lt_links.proofs.Edits.{Links-dropped, DropsRecord-dropped}
+use Rattle.lt_links.proofs.Edits.{Links-dropped, AreCounted-dropped, DropsRecord-dropped}
 use Rattle.lt_links.proofs.Shows.{IsSound-links}
 use Rattle.lt_links.proofs.links.Links.drop_record.Goals as goal
 
@@ -19,6 +19,8 @@ invariant_of-self c =
       numbers = inv.numbers;
       links = Links-dropped c.self.inside.nodes c.self.inside.heads c.remove.new.self c.self.inside.owners inv.queues inv.numbers inv.links c.args.id
           (rw (← c.self.view_is) at empty) (rw c.key.ensures at c.remove.ensures.updates);
+      lens = AreCounted-dropped c.self.inside.nodes c.self.inside.heads c.remove.new.self c.self.inside.owners inv.queues inv.numbers inv.links c.args.id
+          (rw (← c.self.view_is) at empty) (rw c.key.ensures at c.remove.ensures.updates) inv.lens;
     }
 
 pub returns-clause-drops : goal.returns-clause-drops

@@ -10,6 +10,7 @@ use Rattle.lt_links.specs.declared.node.Node.{Node}
 use Rattle.lt_links.specs.Maps.{queue}
 use Rattle.lt_links.specs.Ring.{is_in}
 use Rattle.lt_links.proofs.Views.{queue_is}
+use Rattle.lt_links.proofs.Counts.{AreCounted-with, len_below_slots, Links-recounted, Are-recounted}
 use Rattle.lt_links.proofs.Shows.{IsSound-links}
 use Rattle.lt_links.proofs.links.Links.put_after.Goals as goal
 
@@ -24,6 +25,7 @@ invariant_of-self c =
       queues = inv.queues;
       numbers = inv.numbers;
       links = Links-slots c.self.inside.nodes c.reserve.new.self c.self.inside.heads c.self.inside.owners inv.queues inv.numbers (ap (λ s. s.slots) c.reserve.ensures.rest_kept) inv.links;
+      lens = inv.lens;
     }
 
 pub invariant_of-self-in_err-last : goal.invariant_of-self-in_err-last
@@ -33,6 +35,7 @@ invariant_of-self-in_err-last c =
       queues = inv.queues;
       numbers = inv.numbers;
       links = Links-unchanged c.self.inside.nodes c.reserve.new.self c.self.inside.heads c.self.inside.owners c.push_owner.new.owners (ap (λ s. s.slots) c.reserve.ensures.rest_kept) c.in_err-last.ensures.err inv.queues inv.numbers inv.links;
+      lens = inv.lens;
     }
 
 pub returns-in_err-last-clause-err : goal.returns-in_err-last-clause-err
@@ -96,6 +99,27 @@ follow_last-requires-clause-node c =
     c.args.at (sym (ap (λ l. is_in l c.args.at) (queue_is c.self.inside.nodes c.self.inside.heads c.self.inside.owners inv.queues inv.numbers inv.links c.args.queue.now)) ∙ (rw (← c.self.view_is) at place))
     c.link.new.nodes c.link.new.ends c.push_owner.new.owners c.in_ok-last.last c.in_ok-last.ensures.ok c.queued-next.result.next (ap (λ j. j.next) c.queued-next.ensures) c.link.ensures
 
+pub count_in-requires-clause-there : goal.count_in-requires-clause-there
+count_in-requires-clause-there c =
+    let has : has_record c.args.self.now c.args.queue.now.id ≡ true = c.requires.record in
+    c.link.ensures.keeps.heads_kept c.args.queue.now.id ∙ sym (record_is c.self.inside.nodes c.self.inside.heads c.self.inside.owners c.args.queue.now.id) ∙ (rw (← c.self.view_is) at has)
+
+pub count_in-requires-clause-room : goal.count_in-requires-clause-room
+count_in-requires-clause-room c =
+    let inv = c.self.invariant in
+    let has : has_record c.args.self.now c.args.queue.now.id ≡ true = c.requires.record in
+    let place : is_in (queue c.args.self.now c.args.queue.now) c.args.at ≡ true = c.requires.at in
+    len_below_slots inv.queues c.args.queue.now c.args.at c.vacant_key-key.result
+    (sym (ap (λ l. is_in l c.args.at) (queue_is c.self.inside.nodes c.self.inside.heads c.self.inside.owners inv.queues inv.numbers inv.links c.args.queue.now)) ∙ (rw (← c.self.view_is) at place))
+    c.link.new.ends (λ q. c.link.ensures.keeps.lens_kept q ∙ inv.lens q) c.follow_last.new.nodes c.link.new.ends c.push_owner.new.owners _
+    (Links-pushed c.reserve.new.self c.insert_reserved.new.self c.self.inside.heads c.self.inside.owners inv.queues inv.numbers c.vacant_key-key.result c.args.stand c.args.queue.now
+    (Links-slots c.self.inside.nodes c.reserve.new.self c.self.inside.heads c.self.inside.owners inv.queues inv.numbers (ap (λ s. s.slots) c.reserve.ensures.rest_kept) inv.links)
+    c.vacant_key-key.ensures.vacant (subst (λ k. Updates c.reserve.new.self c.insert_reserved.new.self k (Some (new_node c.args.stand c.args.queue.now))) (c.insert_reserved.ensures.key ∙ sym c.vacant_key-key.ensures.value) (rw c.new.ensures at c.insert_reserved.ensures.updates))
+    (sym (record_is c.self.inside.nodes c.self.inside.heads c.self.inside.owners c.args.queue.now.id) ∙ (rw (← c.self.view_is) at has))
+    c.args.at (sym (ap (λ l. is_in l c.args.at) (queue_is c.self.inside.nodes c.self.inside.heads c.self.inside.owners inv.queues inv.numbers inv.links c.args.queue.now)) ∙ (rw (← c.self.view_is) at place))
+    c.link.new.nodes c.link.new.ends c.push_owner.new.owners c.in_ok-last.last c.in_ok-last.ensures.ok c.queued-next.result.next (ap (λ j. j.next) c.queued-next.ensures) c.link.ensures
+    c.follow_last.new.nodes c.follow_last.ensures)
+
 pub invariant_of-self-2 : goal.invariant_of-self-2
 invariant_of-self-2 c =
     let inv = c.self.invariant in
@@ -104,13 +128,18 @@ invariant_of-self-2 c =
     record {
       queues = _;
       numbers = _;
-      links = Links-pushed c.reserve.new.self c.insert_reserved.new.self c.self.inside.heads c.self.inside.owners inv.queues inv.numbers c.vacant_key-key.result c.args.stand c.args.queue.now
+      links = Links-recounted c.follow_last.new.nodes c.link.new.ends c.count_in.new.heads c.push_owner.new.owners _ _
+          (Links-pushed c.reserve.new.self c.insert_reserved.new.self c.self.inside.heads c.self.inside.owners inv.queues inv.numbers c.vacant_key-key.result c.args.stand c.args.queue.now
           (Links-slots c.self.inside.nodes c.reserve.new.self c.self.inside.heads c.self.inside.owners inv.queues inv.numbers (ap (λ s. s.slots) c.reserve.ensures.rest_kept) inv.links)
           c.vacant_key-key.ensures.vacant (subst (λ k. Updates c.reserve.new.self c.insert_reserved.new.self k (Some (new_node c.args.stand c.args.queue.now))) (c.insert_reserved.ensures.key ∙ sym c.vacant_key-key.ensures.value) (rw c.new.ensures at c.insert_reserved.ensures.updates))
           (sym (record_is c.self.inside.nodes c.self.inside.heads c.self.inside.owners c.args.queue.now.id) ∙ (rw (← c.self.view_is) at has))
           c.args.at (sym (ap (λ l. is_in l c.args.at) (queue_is c.self.inside.nodes c.self.inside.heads c.self.inside.owners inv.queues inv.numbers inv.links c.args.queue.now)) ∙ (rw (← c.self.view_is) at place))
           c.link.new.nodes c.link.new.ends c.push_owner.new.owners c.in_ok-last.last c.in_ok-last.ensures.ok c.queued-next.result.next (ap (λ j. j.next) c.queued-next.ensures) c.link.ensures
-          c.follow_last.new.nodes c.follow_last.ensures;
+          c.follow_last.new.nodes c.follow_last.ensures)
+          c.args.queue.now _ c.count_in.ensures;
+      lens = AreCounted-with inv.queues c.args.queue.now c.args.at c.vacant_key-key.result
+          (sym (ap (λ l. is_in l c.args.at) (queue_is c.self.inside.nodes c.self.inside.heads c.self.inside.owners inv.queues inv.numbers inv.links c.args.queue.now)) ∙ (rw (← c.self.view_is) at place))
+          c.link.new.ends c.count_in.new.heads (λ q. c.link.ensures.keeps.lens_kept q ∙ inv.lens q) c.count_in.ensures;
     }
 
 pub returns-clause-fresh : goal.returns-clause-fresh
@@ -123,15 +152,24 @@ returns-clause-puts c =
     let has : has_record c.args.self.now c.args.queue.now.id ≡ true = c.requires.record in
     let place : is_in (queue c.args.self.now c.args.queue.now) c.args.at ≡ true = c.requires.at in
     rw (c.new-2.ensures, ← c.self.view_is)
-    (subst (λ (m : Maps). PutsAfter m (maps_of c.follow_last.new.nodes c.link.new.ends c.push_owner.new.owners) c.args.queue.now c.args.at c.vacant_key-key.result c.args.stand)
+    (subst (λ (m : Maps). PutsAfter m (maps_of c.follow_last.new.nodes c.count_in.new.heads c.push_owner.new.owners) c.args.queue.now c.args.at c.vacant_key-key.result c.args.stand)
     (maps-unchanged c.self.inside.nodes c.reserve.new.self c.self.inside.heads c.self.inside.owners c.self.inside.owners (ap (λ s. s.slots) c.reserve.ensures.rest_kept) refl)
+    (Are-recounted c.follow_last.new.nodes c.link.new.ends c.count_in.new.heads c.push_owner.new.owners _ _
+    (Links-pushed c.reserve.new.self c.insert_reserved.new.self c.self.inside.heads c.self.inside.owners inv.queues inv.numbers c.vacant_key-key.result c.args.stand c.args.queue.now
+    (Links-slots c.self.inside.nodes c.reserve.new.self c.self.inside.heads c.self.inside.owners inv.queues inv.numbers (ap (λ s. s.slots) c.reserve.ensures.rest_kept) inv.links)
+    c.vacant_key-key.ensures.vacant (subst (λ k. Updates c.reserve.new.self c.insert_reserved.new.self k (Some (new_node c.args.stand c.args.queue.now))) (c.insert_reserved.ensures.key ∙ sym c.vacant_key-key.ensures.value) (rw c.new.ensures at c.insert_reserved.ensures.updates))
+    (sym (record_is c.self.inside.nodes c.self.inside.heads c.self.inside.owners c.args.queue.now.id) ∙ (rw (← c.self.view_is) at has))
+    c.args.at (sym (ap (λ l. is_in l c.args.at) (queue_is c.self.inside.nodes c.self.inside.heads c.self.inside.owners inv.queues inv.numbers inv.links c.args.queue.now)) ∙ (rw (← c.self.view_is) at place))
+    c.link.new.nodes c.link.new.ends c.push_owner.new.owners c.in_ok-last.last c.in_ok-last.ensures.ok c.queued-next.result.next (ap (λ j. j.next) c.queued-next.ensures) c.link.ensures
+    c.follow_last.new.nodes c.follow_last.ensures)
+    c.args.queue.now _ c.count_in.ensures _ _ _ _
     (PutsAfter-pushed c.reserve.new.self c.insert_reserved.new.self c.self.inside.heads c.self.inside.owners inv.queues inv.numbers c.vacant_key-key.result c.args.stand c.args.queue.now
     (Links-slots c.self.inside.nodes c.reserve.new.self c.self.inside.heads c.self.inside.owners inv.queues inv.numbers (ap (λ s. s.slots) c.reserve.ensures.rest_kept) inv.links)
     c.vacant_key-key.ensures.vacant (subst (λ k. Updates c.reserve.new.self c.insert_reserved.new.self k (Some (new_node c.args.stand c.args.queue.now))) (c.insert_reserved.ensures.key ∙ sym c.vacant_key-key.ensures.value) (rw c.new.ensures at c.insert_reserved.ensures.updates))
     (sym (record_is c.self.inside.nodes c.self.inside.heads c.self.inside.owners c.args.queue.now.id) ∙ (rw (← c.self.view_is) at has))
     c.args.at (sym (ap (λ l. is_in l c.args.at) (queue_is c.self.inside.nodes c.self.inside.heads c.self.inside.owners inv.queues inv.numbers inv.links c.args.queue.now)) ∙ (rw (← c.self.view_is) at place))
     c.link.new.nodes c.link.new.ends c.push_owner.new.owners c.in_ok-last.last c.in_ok-last.ensures.ok c.queued-next.result.next (ap (λ j. j.next) c.queued-next.ensures) c.link.ensures
-    c.follow_last.new.nodes c.follow_last.ensures))
+    c.follow_last.new.nodes c.follow_last.ensures)))
 
 pub returns-in_err-reserve-clause-sound : goal.returns-in_err-reserve-clause-sound
 returns-in_err-reserve-clause-sound c =

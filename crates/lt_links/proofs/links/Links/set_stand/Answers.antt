@@ -21,6 +21,7 @@ invariant_of-self c =
       links = Links-set c.self.inside.nodes _ c.self.inside.heads c.self.inside.owners inv.queues inv.numbers inv.links c.key.result c.index_mut.result.now c.args.stand c.index_mut.ensures.value
           (number_same c.self.inside.nodes c.self.inside.heads c.self.inside.owners c.key.result c.args.stand.number (rw c.key.ensures (rw (← c.self.view_is) at number)) c.index_mut.result.now c.index_mut.ensures.value)
           (Updates-with_value c.self.inside.nodes c.key.result _ (ap is_some c.index_mut.ensures.value));
+      lens = inv.lens;
     }
 
 pub returns-clause-sets : goal.returns-clause-sets

@@ -1,5 +1,5 @@
 use Rattle.std.specs.FinMap.{get-empty}
-use Rattle.lt_plain.proofs.Maps.{order}
+use Rattle.lt_rules.proofs.Maps.{order}
 use Rattle.lt_plain.proofs.plain_table.PlainTable.new.Goals as goal
 
 pub invariant_of-result : goal.invariant_of-result

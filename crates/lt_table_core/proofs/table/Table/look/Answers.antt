@@ -1,4 +1,4 @@
-use Rattle.lt_plain.specs.declared.call.Call.TheVariants.{Look}
+use Rattle.lt_rules.specs.declared.call.Call.TheVariants.{Look}
 use Rattle.lt_table_core.proofs.UnderWay.{still_let}
 use Rattle.lt_table_core.proofs.table.Table.look.Goals as goal
 

@@ -1,5 +1,0 @@
-use Rattle.lt_plain.proofs.Lets.{lets_end_waits}
-use Rattle.lt_plain.proofs.laws.lets_end_waits.Goals as goal
-
-pub returns : goal.returns
-returns c = lets_end_waits

@@ -1,5 +1,0 @@
-use Rattle.lt_plain.proofs.Passes.{passes_are_of_visits}
-use Rattle.lt_plain.proofs.laws.passes_are_of_visits.Goals as goal
-
-pub returns : goal.returns
-returns c = passes_are_of_visits

@@ -1,5 +1,0 @@
-use Rattle.lt_plain.proofs.Lawfulness.{step_keeps_lawful}
-use Rattle.lt_plain.proofs.laws.step_keeps_lawful.Goals as goal
-
-pub returns : goal.returns
-returns c = step_keeps_lawful

@@ -1,0 +1,13 @@
+use Rattle.std.proofs.Common.{◌<◌, ◌∙◌, subst, length, List, vec_capacity}
+use Rattle.lt_ids.specs.Ids.{is_below}
+use Rattle.lt_ids.specs.declared.ticket.Through.{Through}
+use Rattle.lt_rules.specs.declared.queued.QueuedRequest.{QueuedRequest}
+use Rattle.lt_plain.proofs.Sent.{sent_filtered}
+use Rattle.lt_plain.proofs.queues.collect_below.Goals as goal
+
+pub returns-in-Ok-clause-ok : goal.returns-in-Ok-clause-ok
+returns-in-Ok-clause-ok c = (rw c.requires at c.in-Ok.ensures.ok) ∙ sent_filtered (λ (q : QueuedRequest). is_below q.ts c.args.ts) c.args.readers.now
+
+pub returns-in-Err-clause-full : goal.returns-in-Err-clause-full
+returns-in-Err-clause-full c =
+    subst (λ (ts : List Through). vec_capacity c.args.lets.now < length ts) (sent_filtered (λ (q : QueuedRequest). is_below q.ts c.args.ts) c.args.readers.now) (rw c.requires at c.in-Err.ensures.full)
