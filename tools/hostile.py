@@ -6,6 +6,8 @@
 The programs must have been built, as `rt ci` does. Each part prints what it tried; the last line is `N passed, M failed`.
 
 - Tests that pass under any single allocation failure run once for each of their allocations, which then fails.
+- A test of a table that records no steps runs once for each of its allocations; that one and all that come after it fail. Every lock
+  that is held must still be given up.
 - `lockrun` runs the scripts of examples/, checks and upgrades their histories and prints its help, once for each allocation, read and
   write that fails, and for each write that takes one byte. It must end as docs/FORMATS.md says: status 4 or 5 with its message and,
   unless a write failed, no output; a prefix of the output after a failed write; or exactly what it writes otherwise.

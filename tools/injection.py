@@ -1,4 +1,5 @@
-"""Runs a program with one request refused, and reports what was tried. hostile.py and hostile_traces.py use it."""
+"""Runs a program with one request refused or its requests counted, and reports what was tried. hostile.py, hostile_traces.py and
+count_requests use it."""
 
 import os
 import subprocess
@@ -16,18 +17,17 @@ def built(crate, tests=False):
 
 
 class Shim:
-    """Runs programs with one request refused."""
+    """Runs programs with one request refused, or with their requests counted."""
 
     def __init__(self, folder):
         self.library = os.path.join(folder, 'refuse.so')
         source = os.path.join(HERE, 'refuse.c')
         subprocess.run(['cc', '-O1', '-shared', '-fPIC', '-o', self.library, source, '-ldl'], check=True)
 
-    def run(self, words, text=b'', **refused):
-        """Returns the status, standard output, standard error, and how much memory, reads and writes were asked for."""
+    def _told(self, words, text, settings):
+        """Returns the status, standard output, standard error, and the numbers that the library told."""
         read_end, write_end = os.pipe()
-        settings = {'LD_PRELOAD': self.library, 'TELL': str(write_end)}
-        settings |= {name.upper(): str(number) for name, number in refused.items()}
+        settings = {'LD_PRELOAD': self.library, 'TELL': str(write_end), **settings}
         process = subprocess.Popen(words, env={**os.environ, **settings}, pass_fds=[write_end], stdin=subprocess.PIPE,
                                    stdout=subprocess.PIPE, stderr=subprocess.PIPE)
         os.close(write_end)
@@ -37,8 +37,19 @@ class Shim:
             process.kill()
             out, err = process.communicate()
         with os.fdopen(read_end) as told:
-            counts = [int(word) for word in told.read().split()[-3:]]
-        return process.returncode, out, err, counts or [0, 0, 0]
+            return process.returncode, out, err, [int(word) for word in told.read().split()]
+
+    def run(self, words, text=b'', **refused):
+        """Returns the status, standard output, standard error, and how much memory, reads and writes were asked for."""
+        settings = {name.upper(): str(number) for name, number in refused.items()}
+        status, out, err, counts = self._told(words, text, settings)
+        return status, out, err, counts[-3:] or [0, 0, 0]
+
+    def count(self, words, beginning):
+        """Returns the status, standard output, standard error, and how many requests for memory there were before each write that
+        begins so."""
+        status, out, err, counts = self._told(words, b'', {'TELL_AT': beginning})
+        return status, out, err, counts[:-3]
 
 
 class Report:

@@ -1,17 +1,21 @@
 /* Refuses one request for memory, one read or one write: the one whose number stands in REFUSE_MEMORY, REFUSE_READ or
-   REFUSE_WRITE, counted from 1. REFUSE_FROM=N refuses the Nth request for memory and all that come after it. A request for memory is a call of malloc, calloc or realloc, and gets none; a read (also
-   one at an offset) or a write fails with EIO. SHORT_WRITE=N has the Nth write take one byte alone, so that another one follows. At the end
-   the numbers of all three are written to the file descriptor that TELL names.
-   Built as a shared library and loaded by LD_PRELOAD; see hostile.py. */
+   REFUSE_WRITE, counted from 1. REFUSE_FROM=N refuses the Nth request for memory and all that come after it. A request
+   for memory is a call of malloc, calloc or realloc, and gets none; a read (also one at an offset) or a write fails with
+   EIO. SHORT_WRITE=N has the Nth write take one byte alone, so that another one follows. At the end the numbers of all
+   three are written to the file descriptor that TELL names. TELL_AT=WORD has the number of requests for memory written
+   there too, before each write that begins with this word.
+   Built as a shared library and loaded by LD_PRELOAD; see injection.py. */
 #define _GNU_SOURCE
 #include <dlfcn.h>
 #include <errno.h>
 #include <stdio.h>
 #include <stdlib.h>
+#include <string.h>
 #include <unistd.h>
 
 static unsigned long refuse_memory, refuse_from, refuse_read, refuse_write, short_write;
 static unsigned long requests, reads, writes;
+static const char *tell_at;
 static void *(*next_malloc)(size_t);
 static void *(*next_calloc)(size_t, size_t);
 static void *(*next_realloc)(void *, size_t);
@@ -36,6 +40,7 @@ __attribute__((constructor)) static void find(void) {
     refuse_read = number("REFUSE_READ");
     refuse_write = number("REFUSE_WRITE");
     short_write = number("SHORT_WRITE");
+    tell_at = getenv("TELL_AT");
     requests = reads = writes = 0;
 }
 
@@ -44,6 +49,12 @@ __attribute__((destructor)) static void tell(void) {
     char text[96];
     if (told++) return;
     int n = snprintf(text, sizeof text, "%lu %lu %lu\n", requests, reads, writes);
+    if (next_write((int)number("TELL"), text, n) < 0) { }
+}
+
+static void tell_requests(void) {
+    char text[32];
+    int n = snprintf(text, sizeof text, "%lu\n", requests);
     if (next_write((int)number("TELL"), text, n) < 0) { }
 }
 
@@ -111,6 +122,7 @@ ssize_t pread(int file, void *to, size_t most, off_t offset) {
 
 ssize_t write(int file, const void *from, size_t most) {
     if (!next_write) next_write = dlsym(RTLD_NEXT, "write");
+    if (tell_at && most >= strlen(tell_at) && !memcmp(from, tell_at, strlen(tell_at))) tell_requests();
     if (is_next(&writes, refuse_write)) {
         errno = EIO;
         return -1;

@@ -19,7 +19,7 @@ use std::alloc::Global;
 use std::sync::Wait;
 
 /// Some if the acquire took a lock that was free.
-fn is_taken(answered: Result<Answer, StepError>) -> Option<()> {
+pub fn is_taken(answered: Result<Answer, StepError>) -> Option<()> {
     match answered {
         Ok(answer) if answer.reply == Reply::Taken => Some(()),
         _ => None,

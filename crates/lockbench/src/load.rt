@@ -11,7 +11,9 @@ use crate::closing::{Ending, close};
 use crate::drivers::{Driver, Tally, all_of, drive, drive_in_turn, drivers_of, gathered};
 use crate::holding::holder_of;
 use crate::key_names::keys_of;
+use crate::spent::{Spent, Start, tell_times};
 use crate::taking::{Piece, Taker, take_until};
+use crate::words::name_of;
 use anyhow::bail;
 use lt_history::print;
 use lt_ids::Key;
@@ -27,7 +29,7 @@ use std::rt::Runtime;
 use std::sync::Wait;
 use std::sync::atomic::{AtomicBool, Ordering};
 use std::thread::{Threads, join, map_vec};
-use std::time::{Clock, CpuClock, Duration, Instant};
+use std::time::{Clock, CpuClock};
 
 /// The most steps that a shard of a streamed table stores. A load's further locks, at most 1,000,000, are acquired
 /// before the taker starts, and fit into one shard.
@@ -223,13 +225,6 @@ fn dismissed<N: Name>(
     Some((seats, pieces, tally))
 }
 
-/// The wall time of the rounds, and the processor time that all threads of the process used during them.
-#[derive(Clone, Copy, Debug)]
-struct Spent {
-    wall: Duration,
-    processor: Duration,
-}
-
 /// The result of a load.
 #[derive(Drop)]
 struct LoadRun {
@@ -247,15 +242,13 @@ fn timed<N: Name + Send + Sync, T: KeyTable + Send, H: Threads + Wait + Clock + 
     crew: LoadCallers<N>,
     at_once: bool,
 ) -> anyhow::Result<(LoadCallers<N>, Spent)> {
-    let start = Instant::now(threads)?;
-    let before = threads.process_cpu_time()?;
+    let start = Start::now(threads)?;
     let driven = drive_beside(threads, alloc, table, keys, crew, at_once);
-    let wall = start.elapsed(threads)?;
-    let processor = threads.process_cpu_time()?.saturating_sub(before);
+    let spent = start.spent(threads)?;
     let Some(crew) = driven else {
         bail!("a call was refused");
     };
-    Ok((crew, Spent { wall, processor }))
+    Ok((crew, spent))
 }
 
 /// Closes the table with the seats of its callers. None if the close or an allocation fails, or what is left does
@@ -319,15 +312,6 @@ fn config_of(load: &Load) -> Config
     }
 }
 
-/// The name of a way to keep steps, as on the command line.
-fn name_of(keeping: Keeping) -> &'static str {
-    match keeping {
-        Keeping::Whole => "whole",
-        Keeping::Streamed => "streamed",
-        Keeping::Unrecorded => "unrecorded",
-    }
-}
-
 /// Prints the value of an option, if the command line gave it one.
 fn tell_given<R: Runtime>(rt: &R, name: &str, value: Option<u64>) -> anyhow::Result<()> {
     if let Some(n) = value {
@@ -347,27 +331,6 @@ fn tell_load<R: Runtime>(rt: &R, load: &Load) -> anyhow::Result<()> {
     print!(rt; " history={} waiting={waits}", name_of(load.keeping))?;
     tell_given(rt, "held", load.held)?;
     tell_given(rt, "key_bytes", load.key_bytes)
-}
-
-/// Prints the number of steps and the times.
-fn tell_times<R: Runtime>(rt: &R, steps: u64, spent: &Spent) -> anyhow::Result<()> {
-    let wall = spent.wall.as_nanos();
-    let made = (steps as u128).max(1);
-    let tenths = wall.saturating_mul(10) / made;
-    let milliseconds = wall / 1_000_000;
-    let per_second = made.saturating_mul(1_000_000_000) / wall.max(1);
-    print!(rt;
-        " steps={steps} seconds={}.{:03}",
-        milliseconds / 1000,
-        milliseconds % 1000
-    )?;
-    print!(rt; " cpu_ns={}", spent.processor.as_nanos())?;
-    print!(rt;
-        " steps_per_second={per_second} ns_per_step={}.{}",
-        tenths / 10,
-        tenths % 10
-    )?;
-    Ok(())
 }
 
 /// Prints the counts of the requests.

@@ -3,16 +3,19 @@
 //!
 //! - `load` times rounds of a store's transactions, on one thread or many. The table keeps its history whole,
 //!   streams it, or records none, and may hold further locks meanwhile. Read [`load`] and then [`drivers`].
+//! - `hand-over` times how a lock goes from transaction to transaction while requests wait for it. Read [`hand_over`].
 //! - `soak --seconds N` plays random requests on threads for N seconds and checks the histories. Read [`soak`].
 #![tactic(auto)]
 
 mod closing;
 mod drivers;
+mod hand_over;
 mod holding;
 mod key_names;
 mod load;
 mod memory;
 mod soak;
+mod spent;
 mod taking;
 mod words;
 
@@ -35,6 +38,7 @@ fn run<H: Threads + Wait + Clock + CpuClock + Sync>(
             let name = trace.as_ref().map(|name| name.as_str());
             load::report(threads, rt, alloc, &load, name)
         }
+        BenchJob::HandOver(load) => hand_over::report(threads, rt, alloc, &load),
         BenchJob::Help(text) => {
             print!(rt; "{text}")?;
             Ok(())

@@ -1,7 +1,8 @@
 //! Which job does the command line ask for? [`asked`] reads it with clap and returns the job, or an error with the
 //! fault.
 //!
-//! The defaults and ranges of the options are in [`load_of`] and [`soak_of`]; their help texts are with the options.
+//! The defaults and ranges of the options are in [`load_of`], [`hand_over_of`] and [`soak_of`]; their help texts are with the options.
+use crate::hand_over::HandOver;
 use crate::load::Load;
 use crate::soak::Soak;
 use anyhow::bail;
@@ -19,6 +20,7 @@ pub enum BenchJob {
     Soak(Soak),
     /// A load, and the name of the file for its trace.
     Load(Load, Option<String>),
+    HandOver(HandOver),
     /// The help text, to be printed.
     Help(String),
 }
@@ -49,6 +51,26 @@ fn soak<'a>(alloc: Global) -> Result<Command<'a>, AllocError> {
         .about("Plays random requests on threads, and checks the histories")
         .arg(number(alloc, "seconds", "For so long; 60 if left out"))?
         .arg(history(alloc))
+}
+
+fn hand_over<'a>(alloc: Global) -> Result<Command<'a>, AllocError> {
+    let history = Arg::new(alloc, "history")
+        .long("history")
+        .value_name("WAY")
+        .help("How the table keeps its steps: whole or unrecorded; whole if left out");
+    Command::new(alloc, "hand-over")
+        .about("Times how a lock goes from transaction to transaction while requests wait for it")
+        .arg(number(
+            alloc,
+            "waiters",
+            "Requests that wait to write the key, 1 to 1000; 64 if left out",
+        ))?
+        .arg(number(
+            alloc,
+            "rounds",
+            "Hand-overs, 1 to 100000000; 200000 if left out",
+        ))?
+        .arg(history)
 }
 
 /// The option with the name of the file for a trace.
@@ -107,6 +129,7 @@ fn command<'a>(alloc: Global) -> Result<Command<'a>, AllocError> {
         .about("Times the lock table, and plays at it by chance")
         .bin_name("lockbench")?
         .subcommand(load(alloc)?)?
+        .subcommand(hand_over(alloc)?)?
         .subcommand(soak(alloc)?)
 }
 
@@ -140,6 +163,15 @@ fn keeping_of(matches: &ArgMatches<'_>) -> anyhow::Result<Keeping> {
         Some("streamed") => Ok(Keeping::Streamed),
         Some("unrecorded") => Ok(Keeping::Unrecorded),
         Some(_) => bail!("--history is whole, streamed or unrecorded"),
+    }
+}
+
+/// The name of a way to keep steps, as on the command line.
+pub fn name_of(keeping: Keeping) -> &'static str {
+    match keeping {
+        Keeping::Whole => "whole",
+        Keeping::Streamed => "streamed",
+        Keeping::Unrecorded => "unrecorded",
     }
 }
 
@@ -185,6 +217,19 @@ fn load_job(alloc: Global, matches: &ArgMatches<'_>) -> anyhow::Result<BenchJob>
     Ok(BenchJob::Load(load, file))
 }
 
+/// The job of a hand-over. An error if an option is out of its range, or the table is to be streamed.
+fn hand_over_of(matches: &ArgMatches<'_>) -> anyhow::Result<HandOver> {
+    let keeping = keeping_of(matches)?;
+    if keeping == Keeping::Streamed {
+        bail!("--history is whole or unrecorded");
+    }
+    Ok(HandOver {
+        waiters: number_of(matches, "waiters", 64, 1_000)? as usize,
+        rounds: number_of(matches, "rounds", 200_000, 100_000_000)?,
+        keeping,
+    })
+}
+
 fn soak_of(matches: &ArgMatches<'_>) -> anyhow::Result<Soak> {
     Ok(Soak {
         seconds: number_of(matches, "seconds", 60, 1_000_000)?,
@@ -198,6 +243,7 @@ fn job_of(alloc: Global, matches: &ArgMatches<'_>) -> anyhow::Result<BenchJob> {
     };
     Ok(match name {
         "soak" => BenchJob::Soak(soak_of(inner)?),
+        "hand-over" => BenchJob::HandOver(hand_over_of(inner)?),
         _ => load_job(alloc, inner)?,
     })
 }

@@ -96,7 +96,7 @@ pub extern "C" fn lt_table_acquire(
     ensures out_kept { result < FIRST_REPLY → KeepsOut lets.old lets.new count.old count.new }
     ensures no_memory { OnTable (AllocatesNothing key.now (λ r. acquire r by.now.txn (txn_time by.now)))
         handle.old.slot.held → result ≢ MEMORY }
-    // Memory is refused only to an acquire of a key that has no record, or that has more than 22 bytes.
+    // An acquire is refused for memory only if its key has no record, or has more than 22 bytes.
     ensures gives_up { OnTable (GivesUp key.now (Acquire by.now.txn (txn_time by.now)))
         handle.old.slot.held → result ≢ MEMORY }
 {

@@ -31,8 +31,8 @@ const LIMITS: Config = Config {
     max_waits: 1000,
 };
 
-/// The keys that are locked: each a single byte, which is stored without an allocation.
-const KEYS: [u8; 6] = *b"abcdef";
+/// The keys that are locked. Three of them take an allocation for each copy.
+const KEYS: [u8; 6] = *b"ABCdef";
 
 const TS: Timestamp = Timestamp {
     wall: 10,
@@ -72,7 +72,7 @@ fn is_taken<N: Name, T: KeyTable, R: Wait>(
 }
 
 /// Whether the transaction has freed its lock of the key, by the free pass in the seat.
-fn is_freed<N: Name, T: KeyTable, R: Wait>(
+pub fn is_freed<N: Name, T: KeyTable, R: Wait>(
     rt: &R,
     table: &Table<N, T>,
     seat: &mut Seat<N>,
@@ -173,7 +173,7 @@ fn come_all<N: Name, T: KeyTable, R: Wait>(
 }
 
 /// All requests leave. Returns how many there were, and how many have left.
-fn leave_all<N: Name, T: KeyTable, R: Wait>(
+pub fn leave_all<N: Name, T: KeyTable, R: Wait>(
     rt: &R,
     table: &Table<N, T>,
     seats: Vec<Seat<N>>,

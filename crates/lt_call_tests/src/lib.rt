@@ -7,12 +7,15 @@
 //!   [`learning`] have the tests. [`closing`] tries to close a table without its last pass.
 //! - **Failed allocations.** The tests of [`refusals`] and [`rules`] pass under any single allocation failure.
 //!   [`refusing`] plays the script of the former. [`giving_up`] gives locks up where memory has ended.
+//!   [`counting`] makes the calls that take no memory.
 //!
 //! Worked schedules are scripts of the tool (`lt_tool_tests`).
 #![tactic(auto)]
 
 #[cfg(test)]
 mod closing;
+#[cfg(test)]
+mod counting;
 #[cfg(test)]
 mod giving_up;
 #[cfg(test)]

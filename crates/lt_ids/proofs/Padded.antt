@@ -1,7 +1,9 @@
 -- The sum of a key's bytes, and the unused cells after them.
-use Rattle.std.proofs.Common.{◌≡◌, ◌+◌, ℕ, zero, suc, List, [], ◌∷◌, ◌++◌, take, drop, sum, length, replicate, refl, arith}
+use Rattle.std.proofs.Common.{◌≡◌, ◌+◌, ◌-◌, ℕ, zero, suc, List, [], ◌∷◌, ◌++◌, take, drop, sum, length, replicate, refl, ◌≤◌, true, nat_le, ap, arith}
 use Rattle.std.proofs.lemmas.List.Sums.{sum_by-cons}
+use Rattle.std.proofs.lemmas.Bool.{le-leb}
 use Rattle.std.specs.List.{AllByRecursion}
+use Rattle.lt_ids.specs.Bytes.{hash_writes}
 
 abbrev AreZero : List ℕ → Type 0
 AreZero xs = AllByRecursion (λ b. b ≡ 0) xs
@@ -32,3 +34,24 @@ zeros_dropped (suc n) (suc k) = zeros_dropped n k
 pub dropped_front : (xs ys : List ℕ) → drop (length xs) (xs ++ ys) ≡ ys
 dropped_front [] ys = refl
 dropped_front (x ∷ xs) ys = dropped_front xs ys
+
+all_zeros : (xs : List ℕ) → AreZero xs → (m : ℕ) → m ≡ length xs → xs ≡ replicate m 0
+all_zeros [] zeros zero many = refl
+all_zeros [] zeros (suc m) many = absurd (omega (arith, many))
+all_zeros (x ∷ xs) zeros zero many = absurd (omega (arith, many))
+all_zeros (x ∷ xs) zeros (suc m) many = λ i. zeros.0 i ∷ all_zeros xs zeros.1 m (omega (arith, many)) i
+
+-- The cells are the bytes, and then zeros.
+cells_padded : (n : ℕ) (xs : List ℕ) → AreZero (drop n xs) → (m : ℕ) → m + length (take n xs) ≡ length xs → xs ≡ take n xs ++ replicate m 0
+cells_padded zero xs zeros m many = all_zeros xs zeros m (omega (arith, many))
+cells_padded (suc n) [] zeros zero many = refl
+cells_padded (suc n) [] zeros (suc m) many = absurd (omega (arith, many))
+cells_padded (suc n) (x ∷ xs) zeros m many = ap (λ rest. x ∷ rest) (cells_padded n xs zeros m (omega (arith, many)))
+
+-- The cells of a short key are what its hash writes.
+pub short_writes : (n : ℕ) (xs : List ℕ) → AreZero (drop n xs) → length xs ≡ 22 → length (take n xs) ≤ 22 → xs ∷ [] ≡ hash_writes (take n xs)
+short_writes n xs zeros all within =
+    let fits : nat_le (length (take n xs)) 22 ≡ true = le-leb (length (take n xs)) 22 within in
+    let many : (22 - length (take n xs)) + length (take n xs) ≡ length xs = omega (arith, all, within) in
+    let cells = cells_padded n xs zeros (22 - length (take n xs)) many in
+    rw fits (ap (λ it. it ∷ []) cells)

@@ -9,7 +9,7 @@ ghost use Rattle.std.specs.Cmp.Rules.{comparing, hashing};
 ghost use Rattle.std.specs.Cmp.Lexicographic.{slice_cmp, pointwise};
 ghost use Rattle.std.proofs.Common.{rules};
 ghost use Rattle.lt_ids.specs.Key.{IsKey, IsKeyUnlessMemory, key_fault, is_key_byte};
-ghost use Rattle.lt_ids.specs.Bytes.{bytes_of, AreWithin, NeedTheirRoom, ArePadded};
+ghost use Rattle.lt_ids.specs.Bytes.{bytes_of, hash_writes, AreWithin, NeedTheirRoom, ArePadded};
 
 use crate::IdError;
 use std::alloc::{AllocError, Global};
@@ -120,6 +120,39 @@ fn sum_of_64(bytes: &[u8; 64]) -> u16
         total += u16::from(bytes[i]);
     }
     total
+}
+
+/// Whether two short keys have the same cells. All cells are compared, at once and not one after the other.
+#[inline(always)]
+fn are_same_22(one: &[u8; 22], other: &[u8; 22]) -> bool
+    ensures { result ≡ pointwise ◌==◌ one.now other.now }
+{
+    let mut same = true;
+    for i in 0..22 {
+        same &= one[i] == other[i];
+    }
+    same
+}
+
+/// Whether two short keys, each given by its length and its cells, have the same bytes.
+#[inline(always)]
+fn are_same_short(len: u8, cells: &[u8; 22], other_len: u8, other_cells: &[u8; 22]) -> bool
+    requires within { len ≤ 22 }
+    requires other_within { other_len ≤ 22 }
+    requires padded { AllByRecursion (λ b. b ≡ 0) (drop len cells.now) }
+    requires other_padded { AllByRecursion (λ b. b ≡ 0) (drop other_len other_cells.now) }
+    ensures { result ≡ pointwise ◌==◌ (take len cells.now) (take other_len other_cells.now) }
+{
+    len == other_len && are_same_22(cells, other_cells)
+}
+
+/// Hashes the bytes of a long key. It stays out of line, so that the hash of a short key is a few instructions.
+#[cold]
+#[inline(never)]
+fn hash_long<H: Hasher>(bytes: &[u8], state: &mut H)
+    ensures { state.new ≡ H.write state.old bytes.now }
+{
+    state.write(bytes);
 }
 
 /// A copy of the bytes of a long key. It stays out of line, so that the copy of a short key is a few instructions
@@ -266,8 +299,14 @@ impl PartialEq for Key {
 
     ghost laws = { Prim.search (comparing, rules) };
 
+    #[inline]
     fn eq(&self, other: &Key) -> bool {
-        self.as_bytes() == other.as_bytes()
+        match (&self.bytes, &other.bytes) {
+            (Bytes::Short(len, cells), Bytes::Short(other_len, other_cells)) => {
+                are_same_short(*len, cells, *other_len, other_cells)
+            }
+            _ => self.as_bytes() == other.as_bytes(),
+        }
     }
 }
 
@@ -300,11 +339,15 @@ impl PartialOrd for Key {
 }
 
 impl Hash for Key {
-    ghost hash_input = { λ k. k ∷ [] };
+    ghost hash_input = { hash_writes };
 
     ghost respects_eq = { Prim.search (comparing, hashing, rules) };
 
+    #[inline]
     fn hash<H: Hasher>(&self, state: &mut H) {
-        state.write(self.as_bytes());
+        match &self.bytes {
+            Bytes::Short(_, cells) => state.write(cells),
+            Bytes::Long(..) => hash_long(self.as_bytes(), state),
+        }
     }
 }

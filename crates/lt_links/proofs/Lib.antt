@@ -10,3 +10,4 @@ mod Shows
 mod Edits
 mod Placed
 mod Counts
+mod Tallies

@@ -61,6 +61,10 @@ HasNode m n = is_some (stand m n) ≡ true
 abbrev pub number_at : Maps → ℕ → Option ℕ
 number_at m n = option_map (λ (s : Stand). s.number) (stand m n)
 
+-- the transaction of the queue entry at a node
+abbrev pub txn_at : Maps → ℕ → Option (Option ℕ)
+txn_at m n = option_map (λ (s : Stand). s.txn) (stand m n)
+
 abbrev pub is_kind : QueueKind → QueueKind → Bool
 is_kind Writers Writers = true
 is_kind Readers Readers = true

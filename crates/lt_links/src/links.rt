@@ -6,7 +6,9 @@ use crate::ends::{join, link};
 use crate::node::{Heads, Joint, Node};
 use crate::owners::{follow_last, owner_ends, push_owner, unlink_owned};
 use crate::queues::{count_in, count_out, queued, stored_len};
+use crate::txns::{count_of, retally, tally_in, tally_out};
 use crate::{NodeId, Queue, RecordId, Stand};
+use lt_ids::TxnId;
 use slab::Slab;
 use std::alloc::{AllocError, Global};
 use std::collections::BTreeMap;
@@ -21,10 +23,12 @@ pub struct Links {
     nodes: Slab<Node>,
     heads: Slab<Heads>,
     owners: BTreeMap<u64, Joint>,
+    txns: BTreeMap<u64, usize>,
 }
 
 impl Model for Links {
     ghost use Rattle.lt_links.specs.Maps.{Maps, maps_code};
+    ghost use Rattle.lt_links.specs.Tallies.{AreTallied};
 
     ghost Value = { Maps };
 
@@ -34,15 +38,16 @@ impl Model for Links {
 
     ghost view = { λ l. maps_of l.nodes l.heads l.owners };
 
-    ghost invariant = { λ l. IsLinked l.nodes l.heads l.owners };
+    ghost invariant = { λ l. IsLinked l.nodes l.heads l.owners × AreTallied (maps_of l.nodes l.heads l.owners) l.txns };
 }
 
 impl Links {
-    ghost use Rattle.lt_links.specs.Maps.{HasNode, number_at, IsEmpty, AddsRecord, DropsRecord, Removes, MovesFront, PushesFront, InsertsAfter, PutsAfter, SetsStand, has_record, no_maps, stand, stand as stand_at, queue as queue_of, owned as owned_by, IsSound};
+    ghost use Rattle.lt_links.specs.Tallies.{HasTally};
+    ghost use Rattle.lt_links.specs.Maps.{HasNode, number_at, txn_at, IsEmpty, AddsRecord, DropsRecord, Removes, MovesFront, PushesFront, InsertsAfter, PutsAfter, SetsStand, has_record, no_maps, stand, stand as stand_at, queue as queue_of, owned as owned_by, IsSound};
     ghost use Rattle.lt_links.specs.Ring.{has, is_in};
     ghost use Rattle.std.specs.List.{last_or};
     ghost use Rattle.lt_links.specs.declared.ids.Queue.{Queue};
-    ghost use Rattle.std.specs.Prelude.{Some, None, true, false, IfOk, IfSome, OnErr, ℕ, List, ◌∷◌, ◌++◌, slice_get};
+    ghost use Rattle.std.specs.Prelude.{Some, None, true, false, IfOk, IfSome, OnOk, OnErr, IsOk, ℕ, List, ◌∷◌, ◌++◌, slice_get};
 
     /// Links without records or nodes.
     pub fn new(alloc: Global) -> Self
@@ -53,6 +58,7 @@ impl Links {
             nodes: Slab::new(alloc),
             heads: Slab::new(alloc),
             owners: BTreeMap::new(alloc),
+            txns: BTreeMap::new(alloc),
         }
     }
 
@@ -147,6 +153,14 @@ impl Links {
         NodeId::at(self.nodes[node.key()].owned.next)
     }
 
+    /// How many nodes a transaction has, in all queues. Takes no walk.
+    pub fn nodes_of(&self, txn: TxnId) -> usize
+        ensures tally { HasTally self.now txn result }
+        ensures sound { IsSound self.now }
+    {
+        count_of(&self.txns, txn)
+    }
+
     /// The queue of a node.
     pub fn queue_of(&self, node: NodeId) -> Queue
         requires { HasNode self.now node }
@@ -167,13 +181,20 @@ impl Links {
         found.stand
     }
 
-    /// Replaces the queue entry at a node by another one of the same number.
-    pub fn set_stand(&mut self, node: NodeId, stand: Stand)
+    /// Replaces the queue entry at a node by another one of the same number. After an error, nothing has changed. If the
+    /// transaction stays, there is none.
+    pub fn set_stand(&mut self, node: NodeId, stand: Stand) -> Result<(), AllocError>
         requires { number_at self.old node ≡ Some stand.number }
-        ensures sets { SetsStand self.old self.new node stand }
+        ensures sets { OnOk result (SetsStand self.old self.new node stand) }
+        ensures err { OnErr result (self.new ≡ self.old) }
+        ensures same_txn { txn_at self.old node ≡ Some stand.txn → IsOk result }
         ensures sound { IsSound self.new }
     {
-        self.nodes[node.key()].stand = stand;
+        let key = node.key();
+        let before = self.nodes[key].stand.txn;
+        retally(&mut self.txns, before, stand.txn)?;
+        self.nodes[key].stand = stand;
+        Ok(())
     }
 
     /// Removes a node from its queue and from its number's list.
@@ -200,6 +221,7 @@ impl Links {
             place.owned.next,
         );
         count_out(&mut self.heads, &place.queue);
+        tally_out(&mut self.txns, place.stand.txn);
         self.nodes.remove(key).stand
     }
 
@@ -268,7 +290,11 @@ impl Links {
     {
         self.nodes.reserve(1)?;
         let key = self.nodes.vacant_key();
-        let last = push_owner(&mut self.owners, stand.number, key)?;
+        tally_in(&mut self.txns, stand.txn)?;
+        let Ok(last) = push_owner(&mut self.owners, stand.number, key) else {
+            tally_out(&mut self.txns, stand.txn);
+            return Err(AllocError);
+        };
         // This names the type of the transaction, which is necessary when a whole node is passed on.
         let txn = stand.txn;
         self.nodes

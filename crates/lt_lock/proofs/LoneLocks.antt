@@ -1,7 +1,6 @@
 -- The table with one lock, for which nobody waits: its records, and one step of each call.
-use Rattle.std.proofs.Common.{◌≡◌, ◌≢◌, ◌≤◌, ℕ, Bool, true, false, ◌&&◌, ◌||◌, not, is_some, nat_eq, cond, List, [], ◌∷◌, Option, Some, None, unwrap_or, nat_lt, nat_le, refl, sym, ap, ◌∙◌, IsSome, IfSome, subst, arith, inl, inr}
+use Rattle.std.proofs.Common.{◌≡◌, ◌≢◌, ◌≤◌, ℕ, Bool, true, false, not, is_some, List, [], ◌∷◌, Option, Some, None, unwrap_or, refl, sym, ap, ◌∙◌, IsSome, IfSome, subst, arith, inl, inr}
 use mathlib.Core.Bool.{true≢false}
-use Rattle.std.proofs.lemmas.Bool.Decides.{nat_tests}
 use Rattle.std.specs.Str.{bytes_eq}
 use Rattle.std.proofs.lemmas.Slice.Eq.{bytes_eq-Decides}
 use Rattle.std.specs.Cmp.{eq_by_cmp_equiv}
@@ -9,28 +8,23 @@ use Rattle.std.specs.Cmp.Lexicographic.{nat_list_cmp_total}
 use Rattle.std.specs.FinMap as finmap
 use Rattle.std.specs.FinMap.{get, get-empty, get-from_entries}
 use Rattle.lt_ids.specs.declared.ticket.Through.{Through}
-use Rattle.lt_ids.specs.declared.request.Access.{Access}
-use Rattle.lt_ids.specs.declared.request.Access.TheVariants.{Read, Write}
-use Rattle.lt_ids.specs.declared.timestamp.Timestamp.{Timestamp}
-use Rattle.lt_ids.specs.Ids.{Wait, is_below}
 use Rattle.lt_rules.specs.declared.queued.Holder.{Holder}
-use Rattle.lt_rules.specs.declared.queued.QueuedRequest.{QueuedRequest}
 use Rattle.lt_rules.specs.declared.call.Call.{Call}
 use Rattle.lt_rules.specs.declared.call.Call.TheVariants.{Visit, Acquire, Update, Finish, Leave, Look}
 use Rattle.lt_rules.specs.declared.call.Reply.{Reply}
-use Rattle.lt_rules.specs.declared.call.Reply.TheVariants.{Passed, MustWait, Other, Freed, Nothing}
-use Rattle.lt_rules.specs.Rules.{Record, empty, is_empty, is_txn, Outcome, IsOutcome, NeedsNoMemory, TakesNoMemory, unchanged}
+use Rattle.lt_rules.specs.declared.call.Reply.TheVariants.{Nothing}
+use Rattle.lt_rules.specs.Rules.{Record, empty, is_empty, Outcome, IsOutcome, NeedsNoMemory, TakesNoMemory, unchanged}
 use Rattle.lt_rules.specs.Step.{step, look}
 use Rattle.lt_rules.specs.Memory.{how_many, MayLack, HasRoom}
 use Rattle.lt_rules.proofs.Rising.{keys-from_entries}
 use Rattle.std.specs.List.Sorted.{IsStrictlySortedBy}
-use Rattle.lt_rules.specs.Visit.{visit, pass, settled, wait_to_read}
+use Rattle.lt_rules.specs.Visit.{pass}
 use Rattle.lt_rules.specs.Table.{Records, record_at, AreSound, IsKept, IsStep}
 use Rattle.lt_rules.specs.Lawful.{IsLawful}
 use Rattle.lt_rules.proofs.Lawfulness.{step_keeps_lawful, empty_is_lawful}
 use Rattle.lt_rules.proofs.Maps.{order, same_records, same_or_apart, is_apart}
 use Rattle.lt_lock.specs.declared.lone.LoneLock.{LoneLock}
-use Rattle.lt_lock.specs.Lone.{held, with_lone, passes_held, IsWithLone, MustQueue, NeedsRows}
+use Rattle.lt_lock.specs.Lone.{held, with_lone, IsWithLone, MustQueue, NeedsRows}
 
 -- the records of a table in which one key has a record
 abbrev pub one : List ℕ → Record → Records
@@ -63,9 +57,6 @@ kept_step m k act reply same = record {
 -- the same at a key without a record, and at the key of the only record
 pub kept_step_none : (m : Records) (k : List ℕ) (act : Record → Outcome) (reply : Reply) → record_at m k ≡ empty → act empty ≡ unchanged empty reply → IsStep m k act reply [] m
 kept_step_none m k act reply none same = kept_step m k act reply (rw none same)
-
-pub kept_step_here : (k : List ℕ) (r : Record) (act : Record → Outcome) (reply : Reply) → act r ≡ unchanged r reply → IsStep (one k r) k act reply [] (one k r)
-kept_step_here k r act reply same = kept_step (one k r) k act reply (rw (record_here k r) same)
 
 -- The only record changes, goes, or comes.
 module _ (k : List ℕ) (act : Record → Outcome) (reply : Reply) where
@@ -108,9 +99,6 @@ is_one m k act reply lets r step after filled = same_records m (one k r) (λ q. 
 held_lawful : (h : Holder) → IsLawful (held h)
 held_lawful h = step_keeps_lawful empty 0 (Acquire h.txn h.ts) empty_is_lawful
 
-pub sound_none : AreSound finmap.empty
-sound_none q = subst (λ o. IfSome o IsKept) (sym (get-empty order q)) tt
-
 sound_one : (k : List ℕ) (h : Holder) → AreSound (one k (held h))
 sound_one k h q = elim (same_or_apart q k) [
   | inl s ↦ subst (λ o. IfSome o IsKept) (sym (ap (get (one k (held h))) s.0 ∙ get_here k (held h))) (record { filled = refl; lawful = held_lawful h })
@@ -120,35 +108,6 @@ sound_one k h q = elim (same_or_apart q k) [
 pub sound_with : (lone : Option LoneLock) (records : Records) → IsWithLone lone records → AreSound (with_lone lone records)
 sound_with None records w = w.sound
 sound_with (Some l) records w = sound_one l.key l.holder
-
--- a visit that passes the lock
-pub passes_here : (h : Holder) (q : QueuedRequest) (longest : ℕ) (access : Access) → passes_held h q.txn q.ts access ≡ true → visit (held h) q longest access ≡ unchanged (held h) Passed
-passes_here h q longest Write e = rw e refl
-passes_here h q longest Read e = go (is_txn q.txn h.txn) (is_below q.ts h.ts) e
-  where
-    go : (own below : Bool) → (own || below) ≡ true → settled (cond own (pass (held h)) (cond below (pass (held h)) (wait_to_read (held h) q))) ≡ unchanged (held h) Passed
-    go true below e = refl
-    go false true e = refl
-    go false false e = absurd (true≢false (sym e))
-
-none_too_long : (n : ℕ) (b : Bool) → (nat_lt 0 n && nat_le n 0 && b) ≡ false
-none_too_long n b = elim (nat_lt 0 n) as (λ x. nat_lt 0 n ≡ x → (x && nat_le n 0 && b) ≡ false) [
-  | false ↦ λ e. refl
-  | true ↦ λ e. elim (nat_le n 0) as (λ y. nat_le n 0 ≡ y → (y && b) ≡ false) [
-    | false ↦ λ f. refl
-    | true ↦ λ f. absurd (grind (arith, nat_tests))
-  ] refl
-] refl
-
--- a visit that does not pass the lock has to wait
-pub waits_here : (h : Holder) (q : QueuedRequest) (longest : ℕ) (access : Access) → passes_held h q.txn q.ts access ≡ false → (visit (held h) q longest access).reply ≡ MustWait
-waits_here h q longest Write e = rw e (rw (none_too_long longest true) refl)
-waits_here h q longest Read e = go (is_txn q.txn h.txn) (is_below q.ts h.ts) e
-  where
-    go : (own below : Bool) → (own || below) ≡ false → (settled (cond own (pass (held h)) (cond below (pass (held h)) (wait_to_read (held h) q)))).reply ≡ MustWait
-    go true below e = absurd (true≢false e)
-    go false true e = absurd (true≢false e)
-    go false false e = refl
 
 -- the outcome of a test of two keys
 pub same_key : (b : Bool) (a k : List ℕ) → b ≡ not (bytes_eq a k) → b ≡ false → a ≡ k
@@ -192,28 +151,6 @@ pub some_unless : {A : Type 0} (o : Option A) → (o ≡ None → ⊥) → IsSom
 some_unless None not_none = absurd (not_none refl)
 some_unless (Some x) not_none = refl
 
--- an outcome that changes nothing
-pub unchanged_outcome : (o : Outcome) (r : Record) (reply : Reply) → o ≡ unchanged r reply → IsOutcome o r reply []
-unchanged_outcome o r reply same = record {
-  moved = sym (ap (λ x. x.after) same);
-  replied = sym (ap (λ x. x.reply) same);
-  let_through = sym (ap (λ x. x.lets) same);
-}
-
--- ---- a call at the key of the lone lock
-
-pub visit_passes : (h : Holder) (ticket : Wait) (txn : Option ℕ) (ts : Timestamp) (access : Access) (longest : ℕ) → passes_held h txn ts access ≡ true → (pass : ℕ) → IsOutcome (step (held h) pass (Visit ticket txn ts access longest)) (held h) Passed []
-visit_passes h ticket txn ts access longest e pass = unchanged_outcome _ (held h) Passed (passes_here h (record { ticket = ticket; txn = txn; ts = ts; pass = pass }) longest access e)
-
-pub visit_queues : (h : Holder) (ticket : Wait) (txn : Option ℕ) (ts : Timestamp) (access : Access) (longest : ℕ) → passes_held h txn ts access ≡ false → MustQueue (held h) (Visit ticket txn ts access longest)
-visit_queues h ticket txn ts access longest e pass = waits_here h (record { ticket = ticket; txn = txn; ts = ts; pass = pass }) longest access e
-
-pub finish_frees : (h : Holder) (txn : ℕ) → nat_eq h.txn txn ≡ true → (pass : ℕ) → IsOutcome (step (held h) pass (Finish txn)) empty Freed []
-finish_frees h txn own pass = rw own (record { moved = refl; replied = refl; let_through = refl })
-
-pub finish_other : (h : Holder) (txn : ℕ) → nat_eq h.txn txn ≡ false → (pass : ℕ) → IsOutcome (step (held h) pass (Finish txn)) (held h) Other []
-finish_other h txn other pass = rw other (record { moved = refl; replied = refl; let_through = refl })
-
 -- ---- the calls that need a row
 
 -- a call that has to queue at this record
@@ -232,9 +169,6 @@ queueing r (Look number) must = absurd must
 pub taking : (h : Holder) (call : Call) → call ≡ Acquire h.txn h.ts → ((pass : ℕ) → TakesNoMemory empty (step empty pass call) → ⊥) × ((room : ℕ) → MayLack empty call room)
 taking h call is = rw is (λ pass t. t, λ room. inl refl)
 
-pub no_lone_needs : (key : List ℕ) (call : Call) → NeedsRows None key call
-no_lone_needs key call some = absurd (true≢false (sym some))
-
 pub lone_queues : (l : LoneLock) (key : List ℕ) (call : Call) → l.key ≡ key → MustQueue (held l.holder) call → NeedsRows (Some l) key call
 lone_queues l key call here must some = subst (λ k. ((pass : ℕ) → TakesNoMemory (record_at (one l.key (held l.holder)) k) (step (record_at (one l.key (held l.holder)) k) pass call) → ⊥) × ((room : ℕ) → MayLack (record_at (one l.key (held l.holder)) k) call room)) here
     (subst (λ r. ((pass : ℕ) → TakesNoMemory r (step r pass call) → ⊥) × ((room : ℕ) → MayLack r call room)) (sym (record_here l.key (held l.holder))) (queueing (held l.holder) call must))
@@ -243,19 +177,7 @@ pub lone_takes : (l : LoneLock) (key : List ℕ) (call : Call) (h : Holder) → 
 lone_takes l key call h other is some =
     subst (λ r. ((pass : ℕ) → TakesNoMemory r (step r pass call) → ⊥) × ((room : ℕ) → MayLack r call room)) (record_apart l key other) (taking h call is)
 
--- a step that changes nothing, at another key than the lone lock's
-pub kept_elsewhere : (l : LoneLock) (key : List ℕ) (act : Record → Outcome) (reply : Reply) → bytes_eq l.key key ≡ false → act empty ≡ unchanged empty reply → IsStep (one l.key (held l.holder)) key act reply [] (one l.key (held l.holder))
-kept_elsewhere l key act reply other same = kept_step_none (one l.key (held l.holder)) key act reply (sym (record_apart l key other)) same
-
 -- ---- room for lets
-
--- nobody queues while there is no row, so any list has room
-pub lone_room : (lone : Option LoneLock) (room : ℕ) → HasRoom (with_lone lone finmap.empty) room
-lone_room None room q = subst (λ r. how_many r ≤ room) (sym (record_none q)) (omega arith)
-lone_room (Some l) room q = elim (same_or_apart q l.key) [
-  | inl s ↦ subst (λ r. how_many r ≤ room) (sym (ap (record_at (one l.key (held l.holder))) s.0 ∙ record_here l.key (held l.holder))) (omega arith)
-  | inr d ↦ subst (λ r. how_many r ≤ room) (sym (record_other l.key (held l.holder) q d.0)) (omega arith)
-]
 
 -- nobody is queued while there is a lone lock
 pub lone_writers : (lone : Option LoneLock) (records : Records) (key : List ℕ) → is_some lone ≡ true → (record_at (with_lone lone records) key).writers ≡ []

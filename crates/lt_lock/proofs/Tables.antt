@@ -1,7 +1,6 @@
 -- The links and the map of keys, read as one map of records.
-use Rattle.std.proofs.Common.{◌≡◌, ◌≢◌, ◌≤◌, ℕ, true, false, cond, List, [], ◌∷◌, map, Option, Some, None, unwrap_or, slice_get, length, refl, sym, ap, ◌∙◌, IsSome, IfSome, subst, arith, inl, inr}
+use Rattle.std.proofs.Common.{◌≡◌, ◌≢◌, ◌≤◌, ℕ, true, false, cond, List, [], ◌∷◌, map, Option, Some, None, unwrap_or, length, refl, sym, ap, ◌∙◌, IsSome, IfSome, subst, arith, inl, inr}
 use mathlib.Core.Bool.{true≢false}
-use Rattle.std.proofs.lemmas.Bool.Decides.{nat_tests}
 use Rattle.std.proofs.lemmas.Result.{IfOk-weaker}
 use Rattle.std.specs.Option.{option_map}
 use Rattle.std.specs.Result.{IfOk, OnErr}
@@ -33,7 +32,7 @@ use Rattle.lt_rules.specs.Memory.{how_many, HasRoom}
 use Rattle.lt_rules.proofs.Rooms.{room_stepped}
 use Rattle.lt_rules.proofs.Maps.{order, same_records, same_or_apart, is_apart, kept_record, here_dropped, others_dropped, sound_filled}
 use Rattle.lt_row.specs.declared.row.Row.{Row}
-use Rattle.lt_row.specs.Row.{request_of, writer_of, no_stand, stand_at, stands_at, line, queue_at, record_of, HasQueues}
+use Rattle.lt_row.specs.Row.{no_stand, stand_at, line, queue_at, record_of, HasQueues}
 use Rattle.lt_row.specs.RowStepped.{KeepsOthers, IsRow, RowStepped}
 use Rattle.lt_row.proofs.Records.{new_linked, new_record}
 use Rattle.lt_lock.specs.Linked.{Rows, row_at, records_of, IsUsed, AreLinked, IsTable, IsEmptied, emptied_id}
@@ -309,33 +308,6 @@ map_same f g same (x ∷ xs) = ap (λ y. y ∷ map f xs) (same x) ∙ ap (λ l. 
 -- if the queues and their entries are as before, so are the lists of entries
 lines_same : (old new : Maps) → ((q : Queue) → queue new q ≡ queue old q) → ((n : ℕ) → stand new n ≡ stand old n) → (q : Queue) → line new q ≡ line old q
 lines_same old new queues stands q = ap (map (stand_at new)) (queues q) ∙ map_same (stand_at new) (stand_at old) (λ n. ap (λ s. unwrap_or s no_stand) (stands n)) (queue old q)
-
--- A row that tests as empty has no nodes in its queues.
-module _ (m : Maps) where
-  empty_queues : (h : Option Holder) (ss ws rs : List ℕ) (d : Option ℕ) → is_empty (record { holder = h; reservation = option_map request_of (slice_get (stands_at m ss) 0); writers = map writer_of (stands_at m ws); readers = map request_of (stands_at m rs); distinguished = d }) ≡ true → (ss ≡ []) × (ws ≡ []) × (rs ≡ [])
-  empty_queues (Some h) ss ws rs d e = absurd (true≢false (sym e))
-  empty_queues None (s ∷ ss) ws rs d e = absurd (true≢false (sym e))
-  empty_queues None [] (w ∷ ws) rs d e = grind (arith, nat_tests)
-  empty_queues None [] [] (r ∷ rs) d e = grind (arith, nat_tests)
-  empty_queues None [] [] [] d e = (refl, refl, refl)
-
-  pub has_no_nodes : (r : Row) → is_empty (record_of m r) ≡ true → IsEmpty m r.id
-  has_no_nodes r e kind = by_kind kind
-    where
-      parts : (queue m (queue_at r.id Reservation) ≡ []) × (queue m (queue_at r.id Writers) ≡ []) × (queue m (queue_at r.id Readers) ≡ [])
-      parts = empty_queues r.holder _ _ _ r.distinguished e
-
-      by_kind : (kind : QueueKind) → queue m (queue_at r.id kind) ≡ []
-      by_kind Reservation = parts.0
-      by_kind Writers = parts.1
-      by_kind Readers = parts.2
-
--- dropping the record of a key that has none changes nothing
-pub nothing_dropped : (m : Maps) (rows : Rows) (k : List ℕ) → None ≡ row_at rows k → records_of m rows ≡ with_record (records_of m rows) k (record_at (records_of m rows) k)
-nothing_dropped m rows k none = rw (missing m rows k none) (same_records _ _ (λ q. elim (same_or_apart q k) [
-  | inl s ↦ ap (get (records_of m rows)) s.0 ∙ get_of m rows k ∙ ap (option_map (record_of m)) (sym none) ∙ sym (get-remove nat_list_cmp_total (records_of m rows) k q ∙ rw s.1 refl)
-  | inr d ↦ sym (get-remove nat_list_cmp_total (records_of m rows) k q ∙ rw d.1 refl)
-]))
 
 -- A row that a lookup finds is to be dropped exactly if it is empty.
 pub emptied_at : (m : Maps) (rows : Rows) (k : List ℕ) (r : Row) → Some r ≡ row_at rows k → IsEmptied m rows k (emptied_id m r)

@@ -13,3 +13,5 @@ pub mod Copies
 pub mod Records
 pub mod Rooms
 pub mod Grows
+pub mod SameTxn
+pub mod Results

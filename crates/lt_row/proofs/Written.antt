@@ -1,12 +1,13 @@
 -- The effect of a change of the links on the entries of the queues.
 use Rattle.std.proofs.Common.{◌≡◌, ◌≢◌, ℕ, true, false, cond, Option, Some, None, List, [], ◌∷◌, ◌++◌, refl, sym, ap, ◌∙◌, inl, inr, subst}
 use Rattle.std.specs.Prelude.{nat_eq, is_some, unwrap_or}
+use Rattle.std.specs.Option.{option_map}
 use Rattle.std.proofs.lemmas.List.{map-append}
 use mathlib.Core.Bool.{true≢false}
 use Rattle.lt_links.specs.declared.stand.Stand.{Stand}
 use Rattle.lt_links.specs.declared.ids.Queue.{Queue}
 use Rattle.lt_links.specs.Ring.{has, Distinct, without, put_after}
-use Rattle.lt_links.specs.Maps.{Maps, queue, stand, HasNode, IsSound, PushesFront, InsertsAfter, Removes, MovesFront, SetsStand}
+use Rattle.lt_links.specs.Maps.{Maps, queue, stand, txn_at, HasNode, IsSound, PushesFront, InsertsAfter, Removes, MovesFront, SetsStand}
 use Rattle.lt_links.proofs.Rings.{same_or_apart, is_itself, without_absent, put_after_absent}
 use Rattle.lt_links.proofs.Steps.{is_same, is_other}
 use Rattle.lt_row.specs.Row.{line, stand_at, stands_at, no_stand}
@@ -36,6 +37,13 @@ written_else f g n o is i apart = elim (same_or_apart i n) [
 
 pub stand_is : (m : Maps) (n : ℕ) (s : Stand) → stand m n ≡ Some s → stand_at m n ≡ s
 stand_is m n s e = ap (λ o. unwrap_or o no_stand) e
+
+pub txn_there : (m : Maps) (n : ℕ) (t : Option ℕ) → HasNode m n → (stand_at m n).txn ≡ t → txn_at m n ≡ Some t
+txn_there m n t there same = by_case (stand m n) there same
+  where
+    by_case : (o : Option Stand) → is_some o ≡ true → (unwrap_or o no_stand).txn ≡ t → option_map (λ (s : Stand). s.txn) o ≡ Some t
+    by_case None h e = absurd (true≢false (sym h))
+    by_case (Some s) h e = ap Some e
 
 -- a list of entries is cut where its nodes are
 pub line_cut : (m : Maps) (n : ℕ) (xs ys : List ℕ) → stands_at m (xs ++ n ∷ ys) ≡ stands_at m xs ++ stand_at m n ∷ stands_at m ys

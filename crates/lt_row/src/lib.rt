@@ -29,6 +29,7 @@ mod queue_edit;
 mod queue_walk;
 mod record;
 mod row;
+mod same_txn;
 mod settle;
 mod txn;
 mod visit;

@@ -9,7 +9,10 @@ ghost use Rattle.lt_rules.specs.declared.call.Reply.TheVariants.{Freed};
 ghost use Rattle.lt_rules.specs.Rules.{is_empty, free, free_with, raise, raise_to, take_lock, acquire, update, finish, leave};
 ghost use Rattle.lt_rules.specs.Step.{look, look_waiter, reserved_txn};
 ghost use Rattle.lt_rules.specs.Lawful.{IsLawful};
-ghost use Rattle.lt_row.specs.Row.{queue_at, record_of, writer_of, HasQueues};
+ghost use Rattle.lt_links.specs.declared.ids.QueueKind.TheVariants.{Writers};
+ghost use Rattle.lt_row.specs.declared.queue_walk.Selection.TheVariants.{Of};
+ghost use Rattle.lt_row.specs.Found.{selected_lets, without_selected, WritesQueue};
+ghost use Rattle.lt_row.specs.Row.{line, queue_at, record_of, writer_of, HasQueues};
 ghost use Rattle.lt_row.specs.RowStepped.{IsRow, IsRewritten, UpdatesRow, RowUsesNoMemory, with_first_reserved, with_next_reserved, with_set_back, has_nobody};
 
 use crate::find::find;
@@ -17,6 +20,7 @@ use crate::queue_edit::{move_to_front, replace_stand, take_out};
 use crate::queue_walk::{
     Selection, collect_front_lets, collect_selected, drop_leading, drop_where,
 };
+use crate::same_txn::has_none;
 use crate::settle::{reserved, settle};
 use crate::txn::is_of;
 use lt_ids::{Through, Timestamp, TxnId};
@@ -210,6 +214,32 @@ fn set_back(links: &mut Links, row: &Row, txn: TxnId)
     move_to_front(links, node, &queue(row, QueueKind::Writers));
 }
 
+/// Removes the writers of this transaction, and collects the lets of those that are waiting. The queue is walked only
+/// if there may be one.
+fn release_own(
+    links: &mut Links,
+    row: &Row,
+    txn: TxnId,
+    lets: &mut Vec<Through>,
+) -> Result<(), AllocError>
+    requires row { IsRow links.old row.now }
+    requires lets { lets.old.items ≡ [] }
+    ensures lets { OnOk result (lets.new.items ≡ selected_lets (Of txn) (line links.old (queue_at row.now.id Writers))) }
+    ensures writes { OnOk result (WritesQueue links.old links.new (queue_at row.now.id Writers)
+        (without_selected (Of txn) (line links.old (queue_at row.now.id Writers)))) }
+    ensures err { OnErr result ((links.new ≡ links.old) × (lets.new.items ≡ [])) }
+    ensures full { OnErr result (vec_capacity lets.old < length (selected_lets (Of txn) (line links.old (queue_at row.now.id Writers)))) }
+    ensures kept { vec_capacity lets.old ≤ vec_capacity lets.new }
+{
+    if has_none(links, row, txn) {
+        return Ok(());
+    }
+    let writers = queue(row, QueueKind::Writers);
+    collect_selected(links, &writers, &Selection::Of(txn), lets)?;
+    drop_where(links, &writers, &Selection::Of(txn));
+    Ok(())
+}
+
 /// [`take_lock`], if somebody is queued at the key or has its reservation.
 fn take_among_others(
     links: &mut Links,
@@ -217,7 +247,7 @@ fn take_among_others(
     holder: &Holder,
     lets: &mut Vec<Through>,
 ) -> Result<Reply, AllocError>
-    requires linked { HasQueues links.old row.old.id }
+    requires row { IsRow links.old row.old }
     requires lawful { IsLawful (take_lock (record_of links.old row.old) holder.now).after }
     requires lets { lets.old.items ≡ [] }
     ensures ok { IfOk result (UpdatesRow links.old links.new row.old row.new
@@ -226,9 +256,7 @@ fn take_among_others(
     ensures full { OnErr result (vec_capacity lets.old < length (take_lock (record_of links.old row.old) holder.now).lets) }
     ensures kept { vec_capacity lets.old ≤ vec_capacity lets.new }
 {
-    let writers = queue(row, QueueKind::Writers);
-    collect_selected(links, &writers, &Selection::Of(holder.txn), lets)?;
-    drop_where(links, &writers, &Selection::Of(holder.txn));
+    release_own(links, row, holder.txn, lets)?;
     set_back(links, row, holder.txn);
     row.holder = Some(*holder);
     settle(links, row);
@@ -242,7 +270,7 @@ fn take_lock(
     holder: &Holder,
     lets: &mut Vec<Through>,
 ) -> Result<Reply, AllocError>
-    requires linked { HasQueues links.old row.old.id }
+    requires row { IsRow links.old row.old }
     requires lawful { IsLawful (take_lock (record_of links.old row.old) holder.now).after }
     requires lets { lets.old.items ≡ [] }
     ensures ok { IfOk result (UpdatesRow links.old links.new row.old row.new

@@ -15,7 +15,9 @@ ghost use Rattle.lt_row.specs.Found.{Finds, PutsWriter};
 ghost use Rattle.lt_row.specs.RowStepped.{IsRow, IsRewritten, UpdatesRow, RowUsesNoMemory, VisitsRow, RowVisitUsesNoMemory, MakesRoom, taken_over, visit_by};
 
 use crate::find::{Found, find};
-use crate::queue_edit::{insert_behind, insert_first, move_to_front, replace_stand, take_out};
+use crate::queue_edit::{
+    insert_behind, insert_first, move_to_front, renew_stand, replace_stand, take_out,
+};
 use crate::queue_walk::{has_at_least, position_of};
 use crate::row::{Row, queue};
 use crate::settle::{reserved, settle};
@@ -132,7 +134,7 @@ fn wait_to_write(
         return Ok(Reply::MustWait);
     };
     if found.kind == QueueKind::Writers {
-        replace_stand(links, found.node, stand);
+        renew_stand(links, found.node, stand)?;
         return Ok(Reply::MustWait);
     }
     put_writer(links, &writers, stand)?;
@@ -224,7 +226,7 @@ fn wait_to_read(
         insert_first(links, &readers, stand)?;
         return Ok(Reply::MustWait);
     }
-    replace_stand(links, found.node, stand);
+    renew_stand(links, found.node, stand)?;
     if found.kind == QueueKind::Readers {
         move_to_front(links, found.node, &readers);
         return Ok(Reply::MustWait);

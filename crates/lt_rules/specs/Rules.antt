@@ -122,7 +122,7 @@ abbrev pub leading : List QueuedWriter → ℕ
 leading [] = 0
 leading (w ∷ ws) = if has_txn w then 0 else suc (leading ws)
 
--- The lock has just lost its holder or its reservation. All readers are let through, and so are the writers
+-- The lock has just lost its holder or its reservation. All readers are let through, and so are the active writers
 -- without a transaction before the first writer with one. The first writer with a transaction gets the
 -- reservation, and is let through if it was active.
 abbrev pub free : Record → Reply → Outcome

@@ -1,12 +1,13 @@
 //! Which steps does a shard store?
-ghost use Rattle.std.specs.Prelude.{◌≡◌, ◌+◌, ◌<◌, ◌^◌, [], false, IsTrue, IsSome, IsNone, IfOk, IsOk, OnOk, vec_len, vec_capacity};
-ghost use Rattle.lt_shard.specs.Shards.{is_recorded, IsSpare, KeepsBy};
+ghost use Rattle.std.specs.Prelude.{◌≡◌, ◌+◌, ◌<◌, ◌↔◌, ◌^◌, [], false, IsTrue, IsSome, IsOk, OnOk, length, vec_len, vec_capacity};
+ghost use Rattle.lt_shard.specs.Shards.{is_recorded, IsCopied, IsSpareFor, Keeps};
 
 use crate::making::MadeStep;
 use lt_entry::{Entry, Lets, LetsRoom};
 use lt_ids::{Key, Through};
 use lt_words::Keeping;
 use std::alloc::{AllocError, Global};
+use std::mem;
 
 /// What is left of a shard's steps.
 #[derive(Drop)]
@@ -27,53 +28,89 @@ pub(crate) fn is_recorded(keeping: Keeping) -> bool
     }
 }
 
-/// What the entry of a step needs besides the room in the list of stored steps, allocated before the step is made.
+/// What entries need besides the room in the list of stored steps. Everything is allocated before a step is made.
 #[derive(Drop)]
 pub(crate) struct Spare {
     alloc: Global,
-    key: Key,
-    lets: LetsRoom,
+    /// The copy of a key of more than 22 bytes. A shorter key is copied once the step is made: that needs no memory.
+    long: Option<Key>,
+    /// Room for the lets of the next step that has any, once a step has been stored.
+    room: Option<LetsRoom>,
 }
 
-/// The room for lets that an earlier step has left, or else a new one.
+/// Whether a copy of the key may need memory.
 #[inline(always)]
-fn lets_room(alloc: Global, left: &mut Option<LetsRoom>) -> Result<LetsRoom, AllocError> {
-    match left.take() {
-        Some(room) => Ok(room),
-        None => LetsRoom::new(alloc),
+fn is_long(key: &Key) -> bool
+    ensures { IsTrue result ↔ 22 < length key.now }
+{
+    key.as_bytes().len() > 22
+}
+
+impl Spare {
+    pub fn none(alloc: Global) -> Spare {
+        Spare {
+            alloc,
+            long: None,
+            room: None,
+        }
+    }
+
+    /// Copies the key if a copy of it needs memory.
+    #[inline(always)]
+    fn copy_long(&mut self, key: &Key) -> Result<(), AllocError>
+        ensures copy { OnOk result (IsCopied key.now self.new.long) }
+        ensures room { self.new.room ≡ self.old.room }
+    {
+        if is_long(key) {
+            self.long = Some(key.copy()?);
+        }
+        Ok(())
+    }
+
+    /// Allocates room for the lets of an entry, unless there is some.
+    #[inline(always)]
+    fn make_lets_room(&mut self) -> Result<(), AllocError>
+        ensures { OnOk result (IsSome self.new.room) }
+    {
+        if self.room.is_none() {
+            self.room = Some(LetsRoom::new(self.alloc)?);
+        }
+        Ok(())
     }
 }
 
-/// Allocates room for one more step, a copy of its key and room for its lets, if steps are recorded.
+/// A copy of the key, which needs no more memory.
+#[inline(always)]
+fn copied(key: &Key, long: &mut Option<Key>) -> Key
+    requires { IsCopied key.now long.old }
+    ensures { result ≡ key.now }
+{
+    if is_long(key) {
+        long.take().unwrap()
+    } else {
+        key.copy().unwrap()
+    }
+}
+
+/// Allocates room for one more step and what its entry needs, if steps are recorded.
 #[inline(always)]
 pub(crate) fn make_room(
-    alloc: Global,
     recorded: bool,
     key: &Key,
     held: &mut Vec<Entry>,
-    left: &mut Option<LetsRoom>,
-) -> Result<Option<Spare>, AllocError>
+    spare: &mut Spare,
+) -> Result<(), AllocError>
     ensures items { held.new.items ≡ held.old.items }
-    ensures key { IfOk result (λ spare. IsSpare recorded key.now spare) }
     ensures no_memory { recorded ≡ false → IsOk result }
     ensures room { OnOk result (IsTrue recorded → vec_len held.new < vec_capacity held.new) }
+    ensures ready { OnOk result (IsTrue recorded → IsSpareFor key.now spare.new) }
 {
     if !recorded {
-        return Ok(None);
+        return Ok(());
     }
     held.reserve(1)?;
-    let key = key.copy()?;
-    let lets = lets_room(alloc, left)?;
-    Ok(Some(Spare { alloc, key, lets }))
-}
-
-/// What is left for the next step once a step has been stored or counted.
-#[derive(Drop)]
-pub(crate) struct Remainder {
-    /// Room for the lets of an entry.
-    pub room: Option<LetsRoom>,
-    /// The list that takes the lets of the next step, empty.
-    pub lets: Vec<Through>,
+    spare.make_lets_room()?;
+    spare.copy_long(key)
 }
 
 /// The lets as an entry keeps them: a list that is much too long for them is cut.
@@ -86,64 +123,62 @@ fn cut(mut lets: Vec<Through>) -> Vec<Through>
     lets
 }
 
-/// The lets as an entry takes them, and what is left.
-#[inline(always)]
-fn stored(alloc: Global, lets: Vec<Through>, room: LetsRoom) -> (Lets, Remainder)
-    ensures lets { result.0 ≡ lets.items }
-    ensures empty { result.1.lets.items ≡ [] }
+/// Puts the lets into the room. The list is then empty.
+#[inline(never)]
+fn filled(alloc: Global, lets: &mut Vec<Through>, room: &mut Option<LetsRoom>) -> Lets
+    requires { IsSome room.old }
+    ensures lets { result ≡ lets.old.items }
+    ensures empty { lets.new.items ≡ [] }
 {
-    if lets.is_empty() {
-        (
-            Lets::none(alloc),
-            Remainder {
-                room: Some(room),
-                lets,
-            },
-        )
-    } else {
-        let left = Remainder {
-            room: None,
-            lets: Vec::new(alloc),
-        };
-        (room.fill(cut(lets)), left)
-    }
+    let all = mem::replace(lets, Vec::new(alloc));
+    room.take().unwrap().fill(cut(all))
 }
 
-/// Stores one more step if there is a key for its entry. Otherwise counts it among those that are not held.
+/// The lets as an entry takes them. The list is then empty.
+#[inline(always)]
+fn stored(alloc: Global, lets: &mut Vec<Through>, room: &mut Option<LetsRoom>) -> Lets
+    requires { IsSome room.old }
+    ensures lets { result ≡ lets.old.items }
+    ensures empty { lets.new.items ≡ [] }
+{
+    if lets.is_empty() {
+        return Lets::none(alloc);
+    }
+    filled(alloc, lets, room)
+}
+
+/// Stores one more step if steps are recorded. Otherwise counts it among those that are not held.
 #[inline(always)]
 pub(crate) fn keep(
-    spare: Option<Spare>,
+    recorded: bool,
     before: &mut u64,
     held: &mut Vec<Entry>,
+    spare: &mut Spare,
+    lets: &mut Vec<Through>,
     step: MadeStep<'_>,
-) -> Remainder
-    requires room { IsSome spare → vec_len held.old < vec_capacity held.old }
+)
+    requires room { IsTrue recorded → vec_len held.old < vec_capacity held.old }
+    requires ready { IsTrue recorded → IsSpareFor step.key.now spare.old }
+    requires lets { lets.old.items ≡ step.entry.lets }
     requires few { before.old + 1 < 2 ^ 64 }
-    ensures keeps { KeepsBy spare step.entry.entry before.old held.old.items before.new held.new.items }
-    ensures empty { result.lets.items ≡ [] }
+    ensures keeps { Keeps recorded before.old held.old.items step.entry.entry before.new held.new.items }
+    ensures empty { lets.new.items ≡ [] }
     // A list whose lets are not stored keeps its room.
-    ensures kept { IsNone spare → vec_capacity result.lets ≡ vec_capacity step.entry.lets }
+    ensures kept { recorded ≡ false → vec_capacity lets.new ≡ vec_capacity lets.old }
 {
-    let MadeStep {
-        entry,
-        call,
-        reply,
-        mut lets,
-        ..
-    } = step;
-    let Some(
-        Spare {
-            alloc,
-            key,
-            lets: room,
-        },
-    ) = spare
-    else {
+    if !recorded {
         *before += 1;
         lets.clear();
-        return Remainder { room: None, lets };
-    };
-    let (lets, left) = stored(alloc, lets, room);
+        return;
+    }
+    let MadeStep {
+        entry,
+        key,
+        call,
+        reply,
+        ..
+    } = step;
+    let key = copied(key, &mut spare.long);
+    let lets = stored(spare.alloc, lets, &mut spare.room);
     held.push_reserved(Entry::new(key, entry.pass(), call, reply, lets));
-    left
 }

@@ -20,10 +20,13 @@
 //! does everything that is done with it:
 //!
 //! ```text
-//! fn serve<N: Name + Send + Sync, R: Threads + Wait + Sync>(rt: &R, alloc: Global, ready: Ready) -> Option<Histories>
+//! fn serve<N, R>(rt: &R, alloc: Global, ready: Ready, start: u64) -> Option<Histories>
+//! where
+//!     N: Name + Send + Sync,
+//!     R: Threads + Wait + Sync,
 //!     requires { ready.of ≡ N.of }
 //! {
-//!     let (table, passes) = open::<N>(alloc, ready, random_start(rt).ok()?).ok()?;
+//!     let (table, passes) = open::<N>(alloc, ready, start).ok()?;
 //!     let (passes, guards) = work_on(rt, alloc, &table, passes);           // each thread has a pass
 //!     match table.close(rt, alloc, passes, guards) {                       // all passes are back
 //!         Ok(histories) => Some(histories),
@@ -31,8 +34,9 @@
 //!     }
 //! }
 //!
+//! let start = random_start(rt).ok()?;
 //! let ready = prepare(alloc, config).ok()?;
-//! serve::<Brand, R>(rt, alloc, ready)
+//! serve::<Brand, R>(rt, alloc, ready, start)
 //! ```
 //!
 //! The prover cannot guess which name `Brand` stands for. A file beside the proofs of the calling function says it:

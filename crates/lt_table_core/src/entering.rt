@@ -35,13 +35,18 @@ impl EnterRoom {
     ghost use Rattle.lt_table_core.specs.Keys.{IsKeyList};
 
     #[inline(always)]
-    fn new(alloc: Global, accesses: &[(Key, Access)]) -> Result<EnterRoom, EnterError>
+    fn new(
+        alloc: Global,
+        list: Vec<(Key, Access)>,
+        accesses: &[(Key, Access)],
+    ) -> Result<EnterRoom, EnterError>
+        requires { list.items ≡ [] }
         ensures keys { IfOk result (λ room. IsKeyList accesses.now room.keys.items) }
         ensures none { (result ≡ Err EnterError.NoKeys) ↔ (accesses.now ≡ []) }
         ensures many { (result ≡ Err EnterError.TooManyKeys) ↔ (256 < length accesses.now) }
         ensures drawn { result ≢ Err EnterError.NumbersOut }
     {
-        let keys = key_list(alloc, accesses)?;
+        let keys = key_list(alloc, list, accesses)?;
         let answers = Vec::with_capacity(alloc, keys.len())?;
         Ok(EnterRoom { keys, answers })
     }
@@ -69,7 +74,8 @@ impl<N: Name, T: KeyTable, W: Waker> Table<N, T, W> {
         ensures refused { IfErr result (λ e. IsRefused e.error pass accesses.now self.now.max_requests e.pass) }
     {
         let max_requests = self.config.max_requests;
-        let room = match EnterRoom::new(alloc, accesses) {
+        let list = pass.take_list(alloc);
+        let room = match EnterRoom::new(alloc, list, accesses) {
             Ok(room) => room,
             Err(error) => return Err(EnterRefused { pass, error }),
         };

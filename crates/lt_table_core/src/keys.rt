@@ -105,42 +105,56 @@ fn add_all(list: &mut Vec<(Key, Access)>, keys: Vec<Key>, access: Access) -> Res
 }
 
 /// The key list, by a sort. It serves any number of accesses.
-fn many_keys(alloc: Global, accesses: &[(Key, Access)]) -> Result<Vec<(Key, Access)>, AllocError>
+fn many_keys(
+    alloc: Global,
+    mut list: Vec<(Key, Access)>,
+    accesses: &[(Key, Access)],
+) -> Result<Vec<(Key, Access)>, AllocError>
+    requires { list.items ≡ [] }
     ensures { IfOk result (λ list. IsKeyList accesses.now list.items) }
 {
     let writes = written(alloc, accesses)?;
     let reads = only_read(alloc, accesses, writes.as_slice())?;
-    let mut list = Vec::new(alloc);
     add_all(&mut list, writes, Access::Write)?;
     add_all(&mut list, reads, Access::Read)?;
     Ok(list)
 }
 
 /// A list of one key.
-fn one_key(alloc: Global, key: &Key, access: Access) -> Result<Vec<(Key, Access)>, AllocError>
+fn one_key(
+    mut list: Vec<(Key, Access)>,
+    key: &Key,
+    access: Access,
+) -> Result<Vec<(Key, Access)>, AllocError>
+    requires { list.items ≡ [] }
     ensures { IfOk result (λ list. list.items ≡ (key.now, access) ∷ []) }
 {
-    let mut list = Vec::with_capacity(alloc, 1)?;
+    list.reserve(1)?;
     list.push_reserved((key.copy()?, access));
     Ok(list)
 }
 
 /// The key list of one access.
-fn single_key(alloc: Global, only: &(Key, Access)) -> Result<Vec<(Key, Access)>, AllocError>
+fn single_key(
+    list: Vec<(Key, Access)>,
+    only: &(Key, Access),
+) -> Result<Vec<(Key, Access)>, AllocError>
+    requires { list.items ≡ [] }
     ensures { IfOk result (λ list. IsKeyList (only.now ∷ []) list.items) }
 {
-    one_key(alloc, &only.0, only.1)
+    one_key(list, &only.0, only.1)
 }
 
 /// A list of two keys.
 fn two_keys(
-    alloc: Global,
+    mut list: Vec<(Key, Access)>,
     first: &(Key, Access),
     second: &(Key, Access),
 ) -> Result<Vec<(Key, Access)>, AllocError>
+    requires { list.items ≡ [] }
     ensures { IfOk result (λ list. list.items ≡ first.now ∷ second.now ∷ []) }
 {
-    let mut list = Vec::with_capacity(alloc, 2)?;
+    list.reserve(2)?;
     list.push_reserved((first.0.copy()?, first.1));
     list.push_reserved((second.0.copy()?, second.1));
     Ok(list)
@@ -168,37 +182,49 @@ fn is_first_of_two(first: Access, second: Access, is_less: bool) -> bool
 
 /// The key list of two accesses.
 fn pair_of_keys(
-    alloc: Global,
+    list: Vec<(Key, Access)>,
     first: &(Key, Access),
     second: &(Key, Access),
 ) -> Result<Vec<(Key, Access)>, AllocError>
+    requires { list.items ≡ [] }
     ensures { IfOk result (λ list. IsKeyList (first.now ∷ second.now ∷ []) list.items) }
 {
     let order = first.0.cmp(&second.0);
     if order == Ordering::Equal {
-        return one_key(alloc, &first.0, either_access(first.1, second.1));
+        return one_key(list, &first.0, either_access(first.1, second.1));
     }
     if is_first_of_two(first.1, second.1, order == Ordering::Less) {
-        two_keys(alloc, first, second)
+        two_keys(list, first, second)
     } else {
-        two_keys(alloc, second, first)
+        two_keys(list, second, first)
     }
 }
 
 /// The key list, however many accesses there are.
-fn listed(alloc: Global, accesses: &[(Key, Access)]) -> Result<Vec<(Key, Access)>, AllocError>
+fn listed(
+    alloc: Global,
+    list: Vec<(Key, Access)>,
+    accesses: &[(Key, Access)],
+) -> Result<Vec<(Key, Access)>, AllocError>
+    requires { list.items ≡ [] }
     ensures { IfOk result (λ list. IsKeyList accesses.now list.items) }
 {
     match accesses {
-        [only] => single_key(alloc, only),
-        [first, second] => pair_of_keys(alloc, first, second),
-        _ => many_keys(alloc, accesses),
+        [only] => single_key(list, only),
+        [first, second] => pair_of_keys(list, first, second),
+        _ => many_keys(alloc, list, accesses),
     }
 }
 
 /// The keys that a request with these accesses visits, each once. A key is visited as a write if any of its
-/// accesses writes. Keys to write come first, in byte order, and then the others, in byte order.
-pub fn key_list(alloc: Global, accesses: &[(Key, Access)]) -> Result<Vec<(Key, Access)>, EnterError>
+/// accesses writes. Keys to write come first, in byte order, and then the others, in byte order. They are put into
+/// `list`, which is empty.
+pub fn key_list(
+    alloc: Global,
+    list: Vec<(Key, Access)>,
+    accesses: &[(Key, Access)],
+) -> Result<Vec<(Key, Access)>, EnterError>
+    requires { list.items ≡ [] }
     ensures keys { IfOk result (λ keys. IsKeyList accesses.now keys.items) }
     ensures none { (result ≡ Err EnterError.NoKeys) ↔ (accesses.now ≡ []) }
     ensures many { (result ≡ Err EnterError.TooManyKeys) ↔ (256 < length accesses.now) }
@@ -210,5 +236,5 @@ pub fn key_list(alloc: Global, accesses: &[(Key, Access)]) -> Result<Vec<(Key, A
     if accesses.len() > 256 {
         return Err(EnterError::TooManyKeys);
     }
-    Ok(listed(alloc, accesses)?)
+    Ok(listed(alloc, list, accesses)?)
 }

@@ -6,6 +6,7 @@ ghost use Rattle.lt_table_core.specs.Reported.{IsLeavingFrom, PassStays, GuardSt
 
 use crate::guard::Guard;
 use crate::table::Table;
+use crate::walk::WalkParts;
 use crate::walk_progress::Mode;
 use lt_rules::KeyTable;
 use lt_shard::{Answer, StepError};
@@ -32,15 +33,15 @@ impl Guard {
         self.walk.begin_leave();
     }
 
+    #[inline(always)]
     fn into_left(self) -> Left
         ensures pass { result.pass ≡ self.pass }
         ensures answers { result.answers.items ≡ self.walk.answers }
     {
-        let Guard { pass, walk } = self;
-        Left {
-            pass,
-            answers: walk.into_answers(),
-        }
+        let Guard { mut pass, walk } = self;
+        let WalkParts { keys, answers } = walk.into_parts();
+        pass.put_list(keys);
+        Left { pass, answers }
     }
 }
 
@@ -76,9 +77,9 @@ impl<N: Name, T: KeyTable, W: Waker> Table<N, T, W> {
         ensures always { N.of.keeping ≡ Keeping.Unrecorded → IsOk result }
     {
         guard.begin_leave();
-        match self.leave_on(rt, &mut guard) {
-            Ok(()) => Ok(guard.into_left()),
-            Err(error) => Err(LeaveStopped { guard, error }),
+        if let Err(error) = self.leave_on(rt, &mut guard) {
+            return Err(LeaveStopped { guard, error });
         }
+        Ok(guard.into_left())
     }
 }

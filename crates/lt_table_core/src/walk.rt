@@ -25,11 +25,20 @@ pub(crate) struct Walk {
     keys: Vec<(Key, Access)>,
     number: u64,
     txn: Option<TxnId>,
-    ts: Timestamp,
+    /// The parts of the timestamp, beside the bound: a walk is small, because it moves with its guard.
+    wall: u64,
+    logical: u32,
     longest: u32,
     progress: Progress,
     /// Has room for one answer for each key.
     answers: Vec<Answer>,
+}
+
+/// What a walk has allocated: its key list and its answers.
+#[derive(Drop)]
+pub(crate) struct WalkParts {
+    pub keys: Vec<(Key, Access)>,
+    pub answers: Vec<Answer>,
 }
 
 impl Model for Walk {
@@ -38,7 +47,7 @@ impl Model for Walk {
 
     ghost Value = { WalkState };
 
-    ghost view = { λ g. walk_state (asked_for g.keys.items g.number g.txn g.ts g.longest) g.progress g.answers.items };
+    ghost view = { λ g. walk_state (asked_for g.keys.items g.number g.txn (record { wall = g.wall; logical = g.logical }) g.longest) g.progress g.answers.items };
 
     ghost invariant = { λ g. IsSoundRequest g.number g.keys.items g.progress g.answers };
 }
@@ -66,7 +75,8 @@ impl Walk {
             keys,
             number,
             txn,
-            ts,
+            wall: ts.wall,
+            logical: ts.logical,
             longest,
             progress: start(),
             answers,
@@ -150,7 +160,10 @@ impl Walk {
         Call::Visit {
             ticket: Ticket::new(self.number, self.progress.waits + 1).unwrap(),
             txn: self.txn,
-            ts: self.ts,
+            ts: Timestamp {
+                wall: self.wall,
+                logical: self.logical,
+            },
             access: self.keys[self.progress.index].1,
             longest: self.longest,
         }
@@ -196,8 +209,8 @@ impl Walk {
     {
         if self.progress.mode != Mode::Leaving {
             self.answers.clear();
+            self.progress = leave_start(self.progress);
         }
-        self.progress = leave_start(self.progress);
     }
 
     /// Whether a key is left to leave.
@@ -227,11 +240,12 @@ impl Walk {
         put(&mut self.answers, answer);
     }
 
-    pub(crate) fn into_answers(self) -> Vec<Answer>
-        ensures { result.items ≡ self.answers }
+    #[inline(always)]
+    pub(crate) fn into_parts(self) -> WalkParts
+        ensures { result.answers.items ≡ self.answers }
     {
-        let Walk { answers, .. } = self;
-        answers
+        let Walk { keys, answers, .. } = self;
+        WalkParts { keys, answers }
     }
 }
 

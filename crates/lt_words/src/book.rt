@@ -242,7 +242,7 @@ impl Book {
         pass.seen.learn(front);
         pass.seen.commit(rt, self, front, shard, count, entry);
         *front = pass.seen.again();
-        let counts = &mut pass.counts;
+        let counts = &mut pass.rest.counts;
         counts[shard] += 1;
     }
 
@@ -316,7 +316,7 @@ impl Book {
         let Some(line) = self.lines.get(through.pass as usize + 64) else {
             return;
         };
-        let tells = pass.notes_each || line.parking.is_taken();
+        let tells = pass.rest.notes_each || line.parking.is_taken();
         if tells && !pass.note(through) {
             line.parking.wake();
         }
@@ -327,16 +327,16 @@ impl Book {
     pub fn wake<W: Waker>(&self, pass: &mut Pass, waker: &W)
         ensures { pass.new ≡ pass.old }
     {
-        if pass.noted.is_empty() {
+        if pass.rest.noted.is_empty() {
             return;
         }
-        for through in &pass.noted {
+        for through in &pass.rest.noted {
             if let Some(line) = self.lines.get(through.pass as usize + 64) {
                 line.parking.wake();
             }
             waker.wake(through.pass, through.ticket);
         }
-        pass.noted.clear();
+        pass.rest.noted.clear();
     }
 
     /// Announces that the caller of the pass is about to sleep: a let that is shown from now on wakes it. The

@@ -10,9 +10,10 @@ ghost use Rattle.lt_words.specs.Shown.{AreLet};
 ghost use Rattle.lt_words.specs.Row.{SeesMore, fresh};
 
 use crate::front::Front;
-use lt_ids::Through;
+use lt_ids::{Access, Key, Through};
 use std::alloc::{AllocError, Global};
 use std::marker::Model;
+use std::mem;
 
 /// A caller's token: its number (from 1), what it has seen of its book's table history, and how many steps it made
 /// at each shard. Only `Book` hands out passes, and one pass serves one caller at a time.
@@ -21,11 +22,21 @@ use std::marker::Model;
 pub struct Pass {
     pub(crate) number: u32,
     pub(crate) seen: Front,
-    pub(crate) counts: Vec<u64>,
+    pub(crate) rest: Box<PassRest>,
+}
+
+/// What a pass has besides its number and its seen prefix. It is allocated with the book, so that a pass is small: a
+/// request's guard moves its pass several times.
+#[derive(Drop)]
+pub(crate) struct PassRest {
+    /// How many steps the pass made at each shard.
+    pub counts: Vec<u64>,
     /// The lets of the pass's latest step that `Book::wake` announces once no lock is held.
-    pub(crate) noted: Vec<Through>,
+    pub noted: Vec<Through>,
     /// Whether the pass notes every let, or only those of sleeping callers.
-    pub(crate) notes_each: bool,
+    pub notes_each: bool,
+    /// The key list of the latest request, emptied: room for that of the next one.
+    pub list: Vec<(Key, Access)>,
 }
 
 /// How many lets of sleeping callers a pass has room for. The callers of any further lets are woken at once.
@@ -36,9 +47,9 @@ impl Model for Pass {
 
     ghost Value = { PassState };
 
-    ghost view = { λ p. pass_state p.number p.seen p.counts.items };
+    ghost view = { λ p. pass_state p.number p.seen p.rest.value.counts.items };
 
-    ghost invariant = { λ p. IsPass (pass_state p.number p.seen p.counts.items) };
+    ghost invariant = { λ p. IsPass (pass_state p.number p.seen p.rest.value.counts.items) };
 }
 
 impl Pass {
@@ -56,12 +67,19 @@ impl Pass {
         requires few { start.now.of.passes ≤ 1024 }
         ensures { IfOk result (λ p. p ≡ fresh start.now.of (index + 1)) }
     {
-        Ok(Pass {
-            number: index as u32 + 1,
-            seen: start.again(),
+        let rest = PassRest {
             counts: vec![in alloc; 0; shards]?,
             noted: Vec::with_capacity(alloc, MOST_SLEEPERS)?,
             notes_each: false,
+            list: Vec::new(alloc),
+        };
+        let Ok(rest) = Box::new(alloc, rest) else {
+            return Err(AllocError);
+        };
+        Ok(Pass {
+            number: index as u32 + 1,
+            seen: start.again(),
+            rest,
         })
     }
 
@@ -83,7 +101,7 @@ impl Pass {
         ensures count { result ≡ slice_index self.now.counts shard }
         ensures within { result ≤ length (part shard self.now.seen) }
     {
-        self.counts[shard]
+        self.rest.counts[shard]
     }
 
     /// What the pass has seen.
@@ -111,16 +129,35 @@ impl Pass {
     pub fn note_each_let(&mut self, room: usize) -> Result<(), AllocError>
         ensures same { self.new ≡ self.old }
     {
-        self.noted.reserve(room)?;
-        self.notes_each = true;
+        self.rest.noted.reserve(room)?;
+        self.rest.notes_each = true;
         Ok(())
+    }
+
+    /// Takes out the room for the key list of a request: an empty list. It has the room of the list that was put back
+    /// last, so a request that names no more keys than that one allocates nothing for its list.
+    pub fn take_list(&mut self, alloc: Global) -> Vec<(Key, Access)>
+        ensures empty { result.items ≡ [] }
+        ensures same { self.new ≡ self.old }
+    {
+        let mut list = mem::replace(&mut self.rest.list, Vec::new(alloc));
+        list.clear();
+        list
+    }
+
+    /// Keeps the room of a request's key list for [`Pass::take_list`]. The keys are dropped.
+    pub fn put_list(&mut self, mut list: Vec<(Key, Access)>)
+        ensures same { self.new ≡ self.old }
+    {
+        list.clear();
+        self.rest.list = list;
     }
 
     /// Notes a let. False if there is no room for it.
     pub(crate) fn note(&mut self, through: Through) -> bool
         ensures { self.new ≡ self.old }
     {
-        let noted = &mut self.noted;
+        let noted = &mut self.rest.noted;
         if noted.len() == noted.capacity() {
             return false;
         }
@@ -143,9 +180,7 @@ impl Pass {
         let Pass {
             number: _,
             seen: _,
-            counts: _,
-            noted: _,
-            notes_each: _,
+            rest: _,
         } = self;
     }
 }

@@ -9,5 +9,8 @@ pub fn shard_of(key: &Key, shards: usize) -> usize
     ensures shard { result ≡ shard_of key.now shards }
     ensures below { result < shards }
 {
+    if shards == 1 {
+        return 0;
+    }
     usize::from(key.byte_sum()) % shards
 }

@@ -1,5 +1,4 @@
-use Rattle.std.proofs.Common.{◌≡◌, ◌∙◌, Some, false, bytes_eq, sym, ap, subst}
-use Rattle.std.specs.FinMap as finmap
+use Rattle.std.proofs.Common.{◌≡◌, ◌∙◌, Some, bytes_eq, sym, ap, subst}
 use Rattle.lt_rules.specs.declared.call.Reply.TheVariants.{Freed}
 use Rattle.lt_rules.specs.Step.{step}
 use Rattle.lt_lock.specs.Lone.{held, NeedsRows}

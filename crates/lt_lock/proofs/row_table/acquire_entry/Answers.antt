@@ -2,7 +2,7 @@ use Rattle.std.proofs.Common.{rules, ◌≡◌, ◌<◌, inl, inr, true, length,
 use Rattle.std.proofs.lemmas.Result.{on_err_weaker}
 use Rattle.std.specs.HashMap.{UpdatesBy}
 use Rattle.std.specs.Str.{bytes_eq}
-use Rattle.lt_rules.specs.Rules.{TakesNoMemory, is_empty, acquire, empty}
+use Rattle.lt_rules.specs.Rules.{TakesNoMemory, is_empty, acquire}
 use Rattle.lt_rules.specs.Table.{record_at}
 use Rattle.lt_rules.specs.declared.call.Call.TheVariants.{Acquire}
 use Rattle.lt_rules.specs.declared.call.Reply.TheVariants.{Taken}

@@ -27,15 +27,15 @@ returns-then-eq-clause-ok c =
 pub move_to_front-requires-clause-there : goal.move_to_front-requires-clause-there
 move_to_front-requires-clause-there c =
     let f = rw c.in-Some.is at c.requires.found in
-    let w = c.replace_stand.ensures.writes _ f.before f.after f.cut in
+    let w = c.in_ok-renew_stand.ensures.writes _ f.before f.after f.cut in
     w.records c.queue-readers.result.id ∙ subst (λ q. has_record c.args.links.now q.id ≡ true) (sym c.queue-readers.ensures) c.requires.row.linked.there
 
 pub returns-then-eq-2-clause-ok : goal.returns-then-eq-2-clause-ok
 returns-then-eq-2-clause-ok c =
     let m = c.args.links.now in
     let f = rw c.in-Some.is at c.requires.found in
-    reread_went m c.args.row.now c.args.stand.now.number c.requires.row.linked c.requires.row.lawful.first.numbers_differ _ _ f c.move_to_front.new.links c.args.stand.now refl c.requires.active c.requires.named c.replace_stand.new.links (search rules)
-    (c.replace_stand.ensures.writes _ f.before f.after f.cut) _ c.queue-readers.ensures c.replace_stand.ensures.queues (c.move_to_front.ensures _ f.before f.after (c.replace_stand.ensures.queues _ ∙ f.cut))
+    reread_went m c.args.row.now c.args.stand.now.number c.requires.row.linked c.requires.row.lawful.first.numbers_differ _ _ f c.move_to_front.new.links c.args.stand.now refl c.requires.active c.requires.named c.renew_stand.new.links (search rules)
+    (c.in_ok-renew_stand.ensures.writes _ f.before f.after f.cut) _ c.queue-readers.ensures c.in_ok-renew_stand.ensures.queues (c.move_to_front.ensures _ f.before f.after (c.in_ok-renew_stand.ensures.queues _ ∙ f.cut))
 
 pub returns-clause-ok : goal.returns-clause-ok
 returns-clause-ok c =
@@ -43,4 +43,4 @@ returns-clause-ok c =
     let f = rw c.in-Some.is at c.requires.found in
     let unreserved : c.in-Some.found.kind ≢ Reservation = search rules in
     let reads_not : c.in-Some.found.kind ≢ Readers = search rules in
-    again_reads m c.args.row.now c.args.stand.now.number c.requires.row.linked c.requires.row.lawful.first.numbers_differ _ _ f c.replace_stand.new.links c.args.stand.now refl c.requires.active c.requires.named (writers_else _ unreserved reads_not) c.requires.row.lawful.first.writers_rise (c.replace_stand.ensures.writes _ f.before f.after f.cut)
+    again_reads m c.args.row.now c.args.stand.now.number c.requires.row.linked c.requires.row.lawful.first.numbers_differ _ _ f c.renew_stand.new.links c.args.stand.now refl c.requires.active c.requires.named (writers_else _ unreserved reads_not) c.requires.row.lawful.first.writers_rise (c.in_ok-renew_stand.ensures.writes _ f.before f.after f.cut)

@@ -18,7 +18,7 @@ pub returns-then-eq-clause-ok : goal.returns-then-eq-clause-ok
 returns-then-eq-clause-ok c =
     let m = c.args.links.now in
     let f = rw c.in-Some.is at c.requires.found in
-    again_went m c.args.row.now c.args.stand.now.number c.requires.row.linked c.requires.row.lawful.first.numbers_differ _ _ f c.replace_stand.new.links c.args.stand.now refl c.requires.active c.requires.named (search rules) c.requires.row.lawful.first.writers_rise (c.replace_stand.ensures.writes _ f.before f.after f.cut)
+    again_went m c.args.row.now c.args.stand.now.number c.requires.row.linked c.requires.row.lawful.first.numbers_differ _ _ f c.renew_stand.new.links c.args.stand.now refl c.requires.active c.requires.named (search rules) c.requires.row.lawful.first.writers_rise (c.in_ok-renew_stand.ensures.writes _ f.before f.after f.cut)
 
 pub put_writer-requires-2-clause-missing : goal.put_writer-requires-2-clause-missing
 put_writer-requires-2-clause-missing c =

@@ -9,13 +9,13 @@ index-requires c = rw c.key.ensures (node_there c.self.inside.nodes c.self.insid
 
 pub returns-clause-prev : goal.returns-clause-prev
 returns-clause-prev c =
-    let inv = c.self.invariant in
+    let inv = c.self.invariant.0 in
     rw (c.at.ensures, ← c.self.view_is, ← c.key.ensures) (prev_of_node c.self.inside.nodes c.self.inside.heads c.self.inside.owners inv.queues inv.numbers inv.links c.key.result c.index.result.now c.index.ensures)
 
 pub returns-clause-sound : goal.returns-clause-sound
-returns-clause-sound c = let inv = c.self.invariant in subst IsSound c.self.view_is (IsSound-links c.self.inside.nodes c.self.inside.heads c.self.inside.owners inv.queues inv.numbers inv.links)
+returns-clause-sound c = let inv = c.self.invariant.0 in subst IsSound c.self.view_is (IsSound-links c.self.inside.nodes c.self.inside.heads c.self.inside.owners inv.queues inv.numbers inv.links)
 
 pub returns-clause-there : goal.returns-clause-there
 returns-clause-there c =
-    let inv = c.self.invariant in
+    let inv = c.self.invariant.0 in
     rw (c.at.ensures, ← c.self.view_is) (prev_there c.self.inside.nodes c.self.inside.heads c.self.inside.owners inv.queues inv.numbers inv.links c.key.result c.index.result.now c.index.ensures)

@@ -11,4 +11,4 @@ pub returns-clause-stand : goal.returns-clause-stand
 returns-clause-stand c = rw (← c.self.view_is) (stand_found c.self.inside.nodes c.self.inside.heads c.self.inside.owners c.args.node _ (rw c.key.ensures at c.index-found.ensures))
 
 pub returns-clause-sound : goal.returns-clause-sound
-returns-clause-sound c = let inv = c.self.invariant in subst IsSound c.self.view_is (IsSound-links c.self.inside.nodes c.self.inside.heads c.self.inside.owners inv.queues inv.numbers inv.links)
+returns-clause-sound c = let inv = c.self.invariant.0 in subst IsSound c.self.view_is (IsSound-links c.self.inside.nodes c.self.inside.heads c.self.inside.owners inv.queues inv.numbers inv.links)
