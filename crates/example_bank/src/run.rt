@@ -9,7 +9,7 @@ use crate::transfer::{Teller, teller_of, total, work};
 use anyhow::bail;
 use example_store::{Store, StoreError, StoreSession, passes_back, sessions_of};
 use lt_entry::Entry;
-use lt_table::{Config, Keeping, Ready, Rest, Rests, open, random_start};
+use lt_table::{Config, Keeping, MAX_REQUEST, MAX_WAIT, Ready, Rest, Rests, open, random_start};
 use lt_words::{Name, Pass};
 use std::alloc::{AllocError, Global};
 use std::mem;
@@ -86,8 +86,8 @@ pub fn config_of(plan: &StorePlan) -> Config
         shards: SHARDS,
         passes: (plan.threads as usize).saturating_add(others),
         max_steps: HELD,
-        max_requests: (1 << 40) - 1,
-        max_waits: (1 << 24) - 1,
+        max_requests: MAX_REQUEST,
+        max_waits: MAX_WAIT,
     }
 }
 

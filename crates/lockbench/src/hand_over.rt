@@ -16,7 +16,7 @@ use crate::holding::is_taken;
 use crate::spent::{Spent, Start, tell_nanoseconds, tell_times};
 use crate::words::name_of;
 use anyhow::bail;
-use lt_ids::{Access, Key, Timestamp, TxnId};
+use lt_ids::{Access, Key, MAX_REQUEST, MAX_WAIT, Timestamp, TxnId};
 use lt_rules::{KeyTable, Reply};
 use lt_table::{
     Answer, Config, EnterRefused, Guard, Keeping, LeaveStopped, Left, Poll, Ready, Scan, ScanError,
@@ -342,8 +342,8 @@ fn config_of(load: &HandOver) -> Config {
         shards: 1,
         passes: load.passes(),
         max_steps: 1 << 32,
-        max_requests: (1 << 40) - 1,
-        max_waits: (1 << 24) - 1,
+        max_requests: MAX_REQUEST,
+        max_waits: MAX_WAIT,
     }
 }
 

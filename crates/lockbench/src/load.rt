@@ -16,7 +16,7 @@ use crate::taking::{Piece, Taker, take_until};
 use crate::words::name_of;
 use anyhow::bail;
 use lt_history::print;
-use lt_ids::Key;
+use lt_ids::{Key, MAX_REQUEST, MAX_WAIT};
 use lt_rules::KeyTable;
 use lt_table::{Config, Keeping, Ready, Table, open, prepare_with};
 use lt_test_kit::run::seated;
@@ -307,8 +307,8 @@ fn config_of(load: &Load) -> Config
         shards: load.shards,
         passes: load.passes.saturating_add(load.further_passes()),
         max_steps,
-        max_requests: (1 << 40) - 1,
-        max_waits: (1 << 24) - 1,
+        max_requests: MAX_REQUEST,
+        max_waits: MAX_WAIT,
     }
 }
 

@@ -19,7 +19,7 @@ use crate::memory::resident;
 use crate::taking::{Piece, Taker, take_until};
 use anyhow::bail;
 use lt_history::{Entry, Report, check, compose};
-use lt_ids::Access;
+use lt_ids::{Access, MAX_REQUEST};
 use lt_rules::{KeyTable, Reply};
 use lt_table::{
     Config, Keeping, Poll, Ready, Scan, ScanError, StepError, Table, open, prepare_with,
@@ -511,7 +511,7 @@ fn takers(keeping: Keeping) -> usize {
 fn random_requests(random: &mut Random, keeping: Keeping) -> u64 {
     match keeping {
         Keeping::Whole | Keeping::Streamed => 500 + random.below(20_000),
-        Keeping::Unrecorded => (1 << 40) - 1,
+        Keeping::Unrecorded => MAX_REQUEST,
     }
 }
 

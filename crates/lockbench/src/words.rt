@@ -8,11 +8,8 @@ use crate::soak::Soak;
 use anyhow::bail;
 use clap::error::ErrorKind;
 use clap::{Arg, ArgAction, ArgMatches, Command, Error};
-use lt_table::Keeping;
+use lt_table::{Keeping, MAX_KEY_BYTES, MAX_PASS, MAX_SHARDS};
 use std::alloc::{AllocError, Global};
-
-/// The most passes that a table has.
-const PASSES: u64 = 1024;
 
 /// The job that the command line asks for.
 #[derive(Drop)]
@@ -177,12 +174,12 @@ pub fn name_of(keeping: Keeping) -> &'static str {
 
 fn load_of(matches: &ArgMatches<'_>) -> anyhow::Result<Load> {
     Ok(Load {
-        passes: number_of(matches, "passes", 4, PASSES)? as usize,
+        passes: number_of(matches, "passes", 4, u64::from(MAX_PASS))? as usize,
         keys: number_of(matches, "keys", 1_000, 10_000_000)? as usize,
         steps: number_of(matches, "steps", 1_000_000, 1 << 32)?,
-        shards: number_of(matches, "shards", 4, 64)? as usize,
+        shards: number_of(matches, "shards", 4, MAX_SHARDS as u64)? as usize,
         held: number_between(matches, "held", 0, 1_000_000)?,
-        key_bytes: number_between(matches, "key-bytes", 8, 64)?,
+        key_bytes: number_between(matches, "key-bytes", 8, MAX_KEY_BYTES as u64)?,
         threads: matches.get_flag("threads"),
         waits: matches.get_flag("wait"),
         keeping: keeping_of(matches)?,
@@ -199,7 +196,7 @@ fn check_options(load: &Load) -> anyhow::Result<()> {
     if load.traces && load.keeping != Keeping::Streamed {
         bail!("--trace needs --history streamed");
     }
-    let most = PASSES.saturating_sub(load.further_passes() as u64);
+    let most = u64::from(MAX_PASS).saturating_sub(load.further_passes() as u64);
     if load.passes as u64 > most {
         bail!("--passes is from 1 to {most} with --held or --history streamed");
     }

@@ -1,5 +1,5 @@
 -- The visit that C asks for, and its first fault.
-use Rattle.std.specs.Prelude.{ℕ, ◌^◌, ◌||◌, nat_eq, nat_le, nat_lt, if◌then◌else◌, Option, Some, None}
+use Rattle.std.specs.Prelude.{ℕ, ◌||◌, nat_eq, nat_lt, if◌then◌else◌, Option, Some, None}
 use Rattle.lt_ids.specs.declared.request.Access.TheVariants.{Read, Write}
 use Rattle.lt_rules.specs.declared.call.Call.{Call}
 use Rattle.lt_rules.specs.declared.call.Call.TheVariants.{Visit}
@@ -7,6 +7,7 @@ use Rattle.lt_c.specs.declared.pass_call.PassCall.{PassCall}
 use Rattle.lt_rules.specs.Rules.{Record, Outcome}
 use Rattle.lt_rules.specs.Step.{step}
 use Rattle.lt_c.specs.declared.shapes.LtRequest.{LtRequest}
+use Rattle.lt_ids.specs.declared.limits.TheConstants.{MAX_PASS, MAX_REQUEST, MAX_WAIT}
 
 -- a transaction as C names it, where 0 is none
 abbrev pub optional_txn : ℕ → Option ℕ
@@ -28,9 +29,9 @@ visit_act request = λ r. step r request.pass (requested_visit request)
 -- the code of the first number that is out of its range
 abbrev pub visit_fault : LtRequest → Option ℕ
 visit_fault r =
-    if nat_eq r.number 0 || nat_le (2 ^ 40) r.number then Some 9
-    else if nat_eq r.wait 0 || nat_le (2 ^ 24) r.wait then Some 10
-    else if nat_eq r.pass 0 || nat_lt 1024 r.pass then Some 11
+    if nat_eq r.number 0 || nat_lt MAX_REQUEST r.number then Some 9
+    else if nat_eq r.wait 0 || nat_lt MAX_WAIT r.wait then Some 10
+    else if nat_eq r.pass 0 || nat_lt MAX_PASS r.pass then Some 11
     else None
 
 -- what a call of this pass does to the record of its key

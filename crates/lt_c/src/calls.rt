@@ -5,7 +5,7 @@ ghost use Rattle.lt_c.specs.Calls.{visit_act, visit_fault, act_of};
 use crate::codes::{BAD_NUMBER, BAD_PASS, BAD_WAIT};
 use crate::pass_call::PassCall;
 use crate::shapes::LtRequest;
-use lt_ids::{Access, Ticket, Timestamp, TxnId};
+use lt_ids::{Access, MAX_PASS, MAX_REQUEST, MAX_WAIT, Ticket, Timestamp, TxnId};
 use lt_rules::Call;
 
 /// The visit that C asks for, or the code of its first fault.
@@ -15,15 +15,15 @@ pub fn visit_of(request: &LtRequest) -> Result<PassCall, u32>
     ensures call { IfOk result (λ c. act_of c ≡ visit_act request.now) }
 {
     let number = request.number;
-    if number == 0 || number >= 1 << 40 {
+    if number == 0 || number > MAX_REQUEST {
         return Err(BAD_NUMBER);
     }
     let wait = request.wait;
-    if wait == 0 || wait >= 1 << 24 {
+    if wait == 0 || wait > MAX_WAIT {
         return Err(BAD_WAIT);
     }
     let pass = request.pass;
-    if pass == 0 || pass > 1024 {
+    if pass == 0 || pass > MAX_PASS {
         return Err(BAD_PASS);
     }
     Ok(PassCall {

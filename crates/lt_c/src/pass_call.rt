@@ -1,5 +1,6 @@
 //! A call of the rules, with the pass that makes it.
 ghost use Rattle.std.specs.Prelude.{◌≡◌, ◌≤◌};
+ghost use Rattle.lt_ids.specs.declared.limits.TheConstants.{MAX_PASS};
 
 use lt_rules::Call;
 
@@ -8,7 +9,7 @@ use lt_rules::Call;
 pub struct PassCall {
     pub pass: u32,
     pub call: Call,
-    pub ghost pass_in_range: { (1 ≤ pass) × (pass ≤ 1024) },
+    pub ghost pass_in_range: { (1 ≤ pass) × (pass ≤ MAX_PASS) },
 }
 
 impl PassCall {

@@ -1,5 +1,5 @@
 -- What a line says, how it is written as words, and how it is read from words.
-use Rattle.std.specs.Prelude.{ℕ, ◌≡◌, ◌^◌, ◌≤◌, ◌<◌, if◌then◌else◌, List, [], ◌∷◌, ◌++◌, map, true, Option, Some, None, Result, Ok, Err, decimal, codes}
+use Rattle.std.specs.Prelude.{ℕ, ◌≡◌, ◌^◌, ◌≤◌, ◌<◌, suc, if◌then◌else◌, List, [], ◌∷◌, ◌++◌, map, true, Option, Some, None, Result, Ok, Err, decimal, codes}
 use Rattle.std.specs.Str.{bytes_eq}
 use Rattle.std.specs.List.{join_with_byte, AllByRecursion}
 use Rattle.lt_ids.specs.Key.{IsKey, key_fault}
@@ -17,6 +17,7 @@ use Rattle.lt_text.specs.Calls.{call_words, field_at, call_at}
 use Rattle.lt_entry.specs.Ranges.{IsCall}
 use Rattle.lt_text.specs.Replies.{reply_words, is_reply_of, reply_at}
 use Rattle.lt_entry.specs.Ranges.{IsReply}
+use Rattle.lt_ids.specs.declared.limits.TheConstants.{MAX_PASS}
 
 -- The parts of a line.
 pub record Parts : Type 0 where
@@ -46,7 +47,7 @@ line_text p = join_with_byte 32 (line_words p) ++ 10 ∷ []
 -- The numbers are in their ranges, and the reply belongs to the call.
 pub record IsReadStep (s : LineStep) : Type 0 where
   pub index : (1 ≤ s.index) × (s.index < 2 ^ 64)
-  pub pass : (1 ≤ s.pass) × (s.pass ≤ 1024)
+  pub pass : (1 ≤ s.pass) × (s.pass ≤ MAX_PASS)
   pub call : IsCall s.call
   pub reply : IsReply s.reply
   pub fits : is_reply_of s.call s.reply ≡ true
@@ -86,7 +87,7 @@ equals_of word = if bytes_eq word (codes "=") then Some tt else None
 unfoldable pub step_at : List (List ℕ) → Option (LineStep × List (List ℕ))
 step_at words = do
   index ← field_at (number_within 1 (2 ^ 64)) words
-  pass ← field_at (number_within 1 1025) index.1
+  pass ← field_at (number_within 1 (suc MAX_PASS)) index.1
   call ← call_at pass.1
   equals ← field_at equals_of call.1
   reply ← reply_at equals.1

@@ -9,6 +9,7 @@ ghost use Rattle.lt_rules.specs.Step.{step};
 ghost use Rattle.lt_checker.specs.Lines.{IsLine, parts_of};
 ghost use Rattle.lt_checker.specs.Text.{Follows, IsWrongOr, MayNotComeNext, start, spot_after};
 ghost use Rattle.lt_checker.specs.Cursor.{record_in, spot, IsAtNewKey, IsNoFirst, IsNext, IsNoNext, FollowsRules, IsNotMade, IsGiven};
+ghost use Rattle.lt_ids.specs.declared.limits.TheConstants.{MAX_PASS};
 
 use crate::error::{Fault, HistoryLineError};
 use crate::line::{Line, LineStep};
@@ -122,7 +123,7 @@ fn make_first(
 ) -> Result<Reply, AllocError>
     requires lets { lets.old.items ≡ [] }
     requires pass_low { 1 ≤ pass }
-    requires pass_high { pass ≤ 1024 }
+    requires pass_high { pass ≤ MAX_PASS }
     ensures { IfOk result (λ reply. IsOutcome (step empty pass call.now) (record_in linked.new) reply lets.new.items) }
 {
     let mut own = LinkedRecord::new(*lets.allocator())?;
@@ -140,7 +141,7 @@ fn make(
 ) -> Result<Reply, AllocError>
     requires lets { lets.old.items ≡ [] }
     requires pass_low { 1 ≤ pass }
-    requires pass_high { pass ≤ 1024 }
+    requires pass_high { pass ≤ MAX_PASS }
     ensures { IfOk result (λ reply. IsOutcome (step (record_in linked.old) pass call.now) (record_in linked.new)
         reply lets.new.items) }
 {
@@ -158,7 +159,7 @@ fn make_step(
     tickets: &[Ticket],
 ) -> Result<(), HistoryLineError>
     requires pass_low { 1 ≤ step.now.pass }
-    requires pass_high { step.now.pass ≤ 1024 }
+    requires pass_high { step.now.pass ≤ MAX_PASS }
     ensures ok { IfOk result (λ _. FollowsRules (record_in linked.old) step.now tickets.now (record_in linked.new)) }
     ensures err { IfErr result (λ e. IsNotMade (record_in linked.old) step.now tickets.now e) }
 {

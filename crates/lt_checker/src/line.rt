@@ -3,13 +3,13 @@
 //! `read_line` parses a line, given without its line end, into a key, a step and the tickets that were let
 //! through. It refuses with the fault `Shape`. Read next: `specs/Lines.antt`, which defines how a line is written
 //! and read.
-ghost use Rattle.std.specs.Prelude.{◌≡◌, ◌^◌, ◌++◌, ◌∷◌, [], IfOk, IfErr};
+ghost use Rattle.std.specs.Prelude.{◌≡◌, ◌^◌, suc, ◌++◌, ◌∷◌, [], IfOk, IfErr};
 ghost use Rattle.lt_text.specs.Fields.{number_within};
 ghost use Rattle.lt_text.specs.Calls.{Gives};
 ghost use Rattle.lt_checker.specs.Lines.{IsReadAs, key_at, step_at, tickets_of, lets_in_words, parts_of, parts_at, IsLine, line_text, IsShapeless};
 
 use crate::error::{Fault, HistoryLineError};
-use lt_ids::{IdError, Key, Ticket};
+use lt_ids::{IdError, Key, MAX_PASS, Ticket};
 use lt_rules::{Call, Reply};
 use lt_text::call::call;
 use lt_text::field::ticket;
@@ -58,10 +58,10 @@ fn index(word: &[u8]) -> Option<u64>
 }
 
 fn pass(word: &[u8]) -> Option<u32>
-    ensures { result ≡ number_within 1 1025 word.now }
+    ensures { result ≡ number_within 1 (suc MAX_PASS) word.now }
 {
     let n = number(word)?;
-    if n == 0 || n > 1024 {
+    if n == 0 || n > u64::from(MAX_PASS) {
         return None;
     }
     Some(n as u32)

@@ -9,6 +9,7 @@ use Rattle.lt_rules.specs.declared.call.Call.TheVariants.{Visit, Acquire, Update
 use Rattle.lt_rules.specs.declared.call.Reply.{Reply}
 use Rattle.lt_rules.specs.declared.call.Reply.TheVariants.{WaitFor, WaitFirst, WaitOwn}
 use Rattle.lt_entry.specs.declared.entry.Entry.{Entry}
+use Rattle.lt_ids.specs.declared.limits.TheConstants.{MAX_PASS}
 
 abbrev pub IsTxn : ℕ → Type 0
 IsTxn n = (1 ≤ n) × (n < 2 ^ 64)
@@ -41,7 +42,7 @@ IsReply _ = Unit {0}
 -- leave or a look.
 pub record IsInRange (e : Entry) : Type 0 where
   pub key : IsKey e.key
-  pub pass : (1 ≤ e.pass) × (e.pass ≤ 1024)
+  pub pass : (1 ≤ e.pass) × (e.pass ≤ MAX_PASS)
   pub call : IsCall e.call
   pub reply : IsReply e.reply
   pub lets : AllByRecursion IsTicket (map (λ t. t.ticket) e.lets)

@@ -4,6 +4,7 @@
 ghost use Rattle.std.specs.Prelude.{◌≡◌, ◌≤◌, All};
 ghost use Rattle.lt_entry.specs.Entry.{call_of, reply_of, entry_with, lets_in, txn_in};
 ghost use Rattle.lt_entry.specs.Ranges.{IsTxn, IsOwner, IsTicket, IsTime, IsCall, IsReply, IsInRange, NamesNumber};
+ghost use Rattle.lt_ids.specs.declared.limits.TheConstants.{MAX_PASS};
 
 use lt_ids::{Access, Key, Through, Ticket, Timestamp, TxnId};
 use lt_rules::{Call, Reply};
@@ -455,7 +456,7 @@ impl Entry {
     /// time, the call does nothing.
     pub fn in_range(&self)
         requires low { 1 ≤ self.now.pass }
-        requires high { self.now.pass ≤ 1024 }
+        requires high { self.now.pass ≤ MAX_PASS }
         requires number { NamesNumber self.now.call }
         ensures { IsInRange self.now }
     {
@@ -468,7 +469,7 @@ impl Entry {
     /// Tells the prover the same about an entry that is given by its parts and need not exist.
     pub fn parts_in_range(key: &Key, pass: u32, call: &Call, reply: &Reply, lets: &[Through])
         requires low { 1 ≤ pass }
-        requires high { pass ≤ 1024 }
+        requires high { pass ≤ MAX_PASS }
         requires number { NamesNumber call.now }
         ensures { IsInRange (entry_with key.now pass call.now reply.now lets.now) }
     {

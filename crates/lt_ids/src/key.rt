@@ -12,6 +12,7 @@ ghost use Rattle.lt_ids.specs.Key.{IsKey, IsKeyUnlessMemory, key_fault, is_key_b
 ghost use Rattle.lt_ids.specs.Bytes.{bytes_of, hash_writes, AreWithin, NeedTheirRoom, ArePadded};
 
 use crate::IdError;
+use crate::limits::MAX_KEY_BYTES;
 use std::alloc::{AllocError, Global};
 use std::cmp::Ordering;
 use std::fmt::{self, Debug, Formatter, Write};
@@ -28,7 +29,7 @@ pub(crate) enum Bytes {
 impl Bytes {
     /// Stores these bytes, at most 64. Up to 22 bytes allocate nothing.
     fn from_slice(alloc: Global, bytes: &[u8]) -> Result<Bytes, AllocError>
-        requires { length bytes.now ≤ 64 }
+        requires { length bytes.now ≤ MAX_KEY_BYTES }
         ensures bytes { IfOk result (λ b. bytes_of b ≡ bytes.now) }
         ensures within { IfOk result AreWithin }
         ensures needed { IfOk result NeedTheirRoom }
@@ -90,7 +91,7 @@ impl Bytes {
 
 /// The cells of a long key with these bytes.
 fn cells_of_64(bytes: &[u8]) -> [u8; 64]
-    requires { length bytes.now ≤ 64 }
+    requires { length bytes.now ≤ MAX_KEY_BYTES }
     ensures bytes { take (length bytes.now) result ≡ bytes.now }
     ensures padded { AllByRecursion (λ b. b ≡ 0) (drop (length bytes.now) result) }
 {
@@ -197,7 +198,7 @@ impl Key {
         if bytes.is_empty() {
             return Err(IdError::KeyEmpty);
         }
-        if bytes.len() > 64 {
+        if bytes.len() > MAX_KEY_BYTES {
             return Err(IdError::KeyTooLong);
         }
         if let Some(place) = bad_byte(bytes) {

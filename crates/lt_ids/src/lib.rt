@@ -15,6 +15,7 @@
 
 mod error;
 mod key;
+mod limits;
 mod request;
 mod ticket;
 mod timestamp;
@@ -22,6 +23,7 @@ mod txn;
 
 pub use error::IdError;
 pub use key::Key;
+pub use limits::{MAX_KEY_BYTES, MAX_PASS, MAX_REQUEST, MAX_SHARDS, MAX_STEPS, MAX_WAIT};
 pub use request::{Access, Request};
 pub use ticket::{Through, Ticket};
 pub use timestamp::Timestamp;

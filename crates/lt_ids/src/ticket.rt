@@ -2,6 +2,7 @@ ghost use Rattle.std.specs.Prelude.{◌≡◌, ◌<◌, ◌↔◌, IsSome, IfSom
 ghost use Rattle.std.specs.Cmp.{partial_equiv_from_equiv};
 ghost use Rattle.lt_ids.specs.Ids.{value_of, same_wait, same_wait_equiv, IsNumber, IsWaitNumber, IsOnlyWaitOf};
 
+use crate::limits::{MAX_REQUEST, MAX_WAIT};
 use std::fmt::{self, Debug, Formatter, Write};
 use std::marker::Model;
 
@@ -25,13 +26,13 @@ impl Model for Ticket {
 }
 
 impl Ticket {
-    /// The ticket of one wait of one request, or `None` unless the request's number is 1 to 2^40 - 1 and the wait
-    /// number is 1 to 2^24 - 1.
+    /// The ticket of one wait of one request, or `None` unless the request's number is 1 to [`MAX_REQUEST`] and the
+    /// wait number is 1 to [`MAX_WAIT`].
     pub fn new(number: u64, wait: u32) -> Option<Ticket>
         ensures some { IsSome result ↔ (IsNumber number × IsWaitNumber wait) }
         ensures value { IfSome result (λ t. t ≡ record { number = number; wait = wait }) }
     {
-        if number == 0 || number >= 1 << 40 || wait == 0 || wait >= 1 << 24 {
+        if number == 0 || number > MAX_REQUEST || wait == 0 || wait > MAX_WAIT {
             return None;
         }
         Some(Ticket {

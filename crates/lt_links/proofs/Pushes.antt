@@ -1,8 +1,6 @@
 -- A new node comes into a queue and into its number's list.
 use Rattle.std.proofs.Common.{◌≡◌, ◌≢◌, ◌⊎◌, ℕ, true, cond, Option, Some, None, List, [], ◌∷◌, ◌++◌, refl, sym, ap, ◌∙◌, inl, inr, subst, unwrap_or, map, length}
-use Rattle.std.specs.Ordering.{nat_cmp}
 use Rattle.std.specs.FinMap.{from_entries}
-use Rattle.std.specs.BTreeMap.{is_at}
 use Rattle.std.specs.Map.{lookup}
 use Rattle.std.specs.Prelude.{nat_eq, is_some}
 use Rattle.slab.specs.Slab.{Slab, get, Updates}
@@ -241,7 +239,7 @@ module _ (nodes nodes1 : Slab Node) (heads : Slab Heads) (owners : Owners) (queu
 -- The maps depend only on the slots and the entries.
 module _ (nodes nodes' : Slab Node) (heads : Slab Heads) (owners owners' : Owners) (slots : nodes'.slots ≡ nodes.slots) (entries : owners'.entries ≡ owners.entries) where
   ends_same : (k : ℕ) → ends_of owners' k ≡ ends_of owners k
-  ends_same k = ap (lookup (is_at (nat_cmp k))) entries
+  ends_same k = ap (lookup (nat_eq k)) entries
 
   owned_unchanged : (k : ℕ) (a : Option ℕ) → owned_at nodes owners' k a ≡ owned_at nodes owners k a
   owned_unchanged k None = ap (λ o. unwrap_or o no_joint) (ends_same k)

@@ -1,9 +1,7 @@
 -- What the links show about the maps.
 use Rattle.std.proofs.Common.{◌≡◌, ℕ, true, Option, Some, None, List, [], ◌∷◌, ◌++◌, length, refl, sym, ap, ◌∙◌, subst, get_or, unwrap_or}
-use Rattle.std.specs.Ordering.{nat_cmp}
-use Rattle.std.specs.BTreeMap.{is_at}
 use Rattle.std.specs.Map.{lookup}
-use Rattle.std.specs.Prelude.{is_some, slice_get, IfSome}
+use Rattle.std.specs.Prelude.{is_some, nat_eq, slice_get, IfSome}
 use Rattle.slab.specs.Slab.{Slab, get}
 use Rattle.lt_links.specs.declared.node.Joint.{Joint}
 use Rattle.lt_links.specs.declared.node.Node.{Node}
@@ -167,7 +165,7 @@ IsLinked-none nodes heads owners n h o =
         };
         heads_there = λ m q e. absurd (no_node m q e);
         owners_there = λ m k e. absurd (no_number m k e);
-        owners_needed = λ k e. absurd (true≢false (sym e ∙ ap (λ es. is_some (lookup (is_at (nat_cmp k)) es)) o));
+        owners_needed = λ k e. absurd (true≢false (sym e ∙ ap (λ es. is_some (lookup (nat_eq k) es)) o));
       };
       lens = λ q. ap (λ l. len_of (get_or l q.id None) q.kind) h;
     }
@@ -188,7 +186,7 @@ IsLinked-none nodes heads owners n h o =
     no_head' q = ap (λ l. (head_of (get_or l q.id None) q.kind).prev) h
 
     no_owner : (k : ℕ) → owned_at nodes owners k None ≡ no_joint
-    no_owner k = ap (λ es. unwrap_or (lookup (is_at (nat_cmp k)) es) no_joint) o
+    no_owner k = ap (λ es. unwrap_or (lookup (nat_eq k) es) no_joint) o
 
     empty_ring : (next prev : Link) → next None ≡ None → prev None ≡ None → Ring next prev []
     empty_ring next prev a b = record { path = a; back = λ x i. by_case x i; distinct = tt }

@@ -1,8 +1,6 @@
 -- The stored count of each transaction stays the number of its nodes.
 use Rattle.std.proofs.Common.{◌≡◌, ◌≢◌, ℕ, zero, suc, ◌-◌, ◌<◌, Bool, true, false, cond, nat_eq, Option, Some, None, [], ◌∷◌, unwrap_or, refl, sym, ap, ◌∙◌, inl, inr, subst, arith}
 use Rattle.std.specs.Prelude.{IfSome}
-use Rattle.std.specs.Ordering.{nat_cmp}
-use Rattle.std.specs.BTreeMap.{is_at}
 use Rattle.std.specs.Map.{lookup}
 use mathlib.Core.Bool.{true≢false}
 use Rattle.std.proofs.lemmas.Bool.Decides.{nat_tests}
@@ -14,7 +12,7 @@ use Rattle.lt_links.proofs.Rings.{same_or_apart, same_neighbours, is_itself, has
 
 -- what is stored depends only on the entries
 pub stored_kept : (txns txns' : Txns) → txns'.entries ≡ txns.entries → (t : ℕ) → stored_of txns' t ≡ stored_of txns t
-stored_kept txns txns' e t = ap (lookup (is_at (nat_cmp t))) e
+stored_kept txns txns' e t = ap (lookup (nat_eq t)) e
 
 -- the count as it is stored tells the count
 pub count_is : (txns : Txns) (t n : ℕ) → stored_of txns t ≡ as_stored n → count_of txns t ≡ n
@@ -35,7 +33,7 @@ AreTallied-same m m' txns txns' same kept tallied t =
 -- without nodes
 pub AreTallied-none : (m : Maps) (txns : Txns) → ((i : ℕ) → stand m i ≡ None) → txns.entries ≡ [] → AreTallied m txns
 AreTallied-none m txns none empty t =
-    (0, record { nodes = []; distinct = tt; are = λ i. sym (ap (λ s. is_node_of s t) (none i)); count = refl }, ap (lookup (is_at (nat_cmp t))) empty)
+    (0, record { nodes = []; distinct = tt; are = λ i. sym (ap (λ s. is_node_of s t) (none i)); count = refl }, ap (lookup (nat_eq t)) empty)
 
 one_less : (n : ℕ) → suc n - 1 ≡ n
 one_less n = omega arith

@@ -1,10 +1,9 @@
-use Rattle.std.proofs.Common.{◌≡◌, ◌≢◌, ℕ, zero, suc, ◌+◌, ◌<◌, ◌≤◌, length, map, true, false, cond, Option, Some, None, List, [], ◌∷◌, refl, sym, ap, ◌∙◌, inl, inr, arith, get_or, unwrap_or}
-use Rattle.std.specs.Prelude.{is_some}
+use Rattle.std.proofs.Common.{◌≡◌, ◌≢◌, ℕ, zero, suc, ◌+◌, ◌<◌, ◌≤◌, length, map, true, false, Option, Some, None, List, [], ◌∷◌, refl, sym, ap, ◌∙◌, inl, inr, arith, get_or, unwrap_or}
+use Rattle.std.specs.Prelude.{is_some, nat_eq}
 use mathlib.Core.Bool.{true≢false}
 use Rattle.std.specs.Ordering.{nat_cmp, eq_by_cmp}
 use Rattle.std.specs.FinMap.{find, from_entries, get-from_entries}
 use Rattle.std.specs.FinMap as map
-use Rattle.std.specs.BTreeMap.{is_at}
 use Rattle.std.specs.Map.{lookup}
 use Rattle.std.specs.Cmp.{nat_cmp_total}
 use Rattle.std.proofs.lemmas.Bool.Decides.{nat_tests}
@@ -89,9 +88,13 @@ module _ {V X : Type 0} (g : ℕ → V → X) where
         | inr o ↦ rw (untied k e.0 o.0) (find_entry k es)
       ]
 
-find_lookup : {V : Type 0} (k : ℕ) (es : List (ℕ × V)) → find nat_cmp k es ≡ lookup (is_at (nat_cmp k)) es
+find_lookup : {V : Type 0} (k : ℕ) (es : List (ℕ × V)) → find nat_cmp k es ≡ lookup (nat_eq k) es
 find_lookup k [] = refl
-find_lookup k (e ∷ es) = ap (cond (is_at (nat_cmp k) e.0) (Some e.1)) (find_lookup k es)
+find_lookup k (e ∷ es) =
+    elim (same_or_apart k e.0) [
+      | inl s ↦ rw (tied k e.0 s.0) (rw s.1 refl)
+      | inr o ↦ rw (untied k e.0 o.0) (rw o.1 (find_lookup k es))
+    ]
 
 module _ (nodes : Slab Node) (heads : Slab Heads) (owners : Owners) where
   abbrev maps : Maps

@@ -1,9 +1,9 @@
 -- The neighbors that the nodes in the slab and the ends of the lists store, the stored lengths of the queues, and the
 -- changes to them.
-use Rattle.std.specs.Prelude.{◌≡◌, ◌≢◌, ◌⊎◌, ℕ, true, false, Option, Some, None, is_some, List, unwrap_or}
-use Rattle.std.specs.Ordering.{nat_cmp}
-use Rattle.std.specs.BTreeMap as tree
-use Rattle.std.specs.BTreeMap.{BTreeMap}
+use Rattle.std.specs.Prelude.{◌≡◌, ◌≢◌, ◌⊎◌, ℕ, true, false, nat_eq, Option, Some, None, is_some, List, unwrap_or}
+use Rattle.std.specs.HashMap as hash
+use Rattle.std.specs.HashMap.{HashMap}
+use Rattle.lt_links.specs.declared.hashing.KeyHashing.{KeyHashing}
 use Rattle.slab.specs.Slab.{Slab, get}
 use Rattle.lt_links.specs.declared.node.Joint.{Joint}
 use Rattle.lt_links.specs.declared.node.Node.{Node}
@@ -154,10 +154,10 @@ unowned None = None
 unowned (Some d) = Some (record d { owned = no_joint })
 
 abbrev pub Owners : Type 0
-Owners = BTreeMap ℕ Joint
+Owners = HashMap ℕ Joint KeyHashing
 
 abbrev pub ends_of : Owners → ℕ → Option Joint
-ends_of owners number = tree.get nat_cmp owners number
+ends_of owners number = hash.get nat_eq owners number
 
 -- the neighbors of a node in its number's list, or the ends of such a list
 abbrev pub owned_at : Slab Node → Owners → ℕ → Option ℕ → Joint

@@ -1,18 +1,18 @@
 -- How many nodes a transaction has: what the map of counts stores, and what a contract sees of it.
 use Rattle.std.specs.Prelude.{◌≡◌, ◌≢◌, ◌-◌, ℕ, zero, suc, Bool, false, nat_eq, Option, Some, None, List, length, unwrap_or}
-use Rattle.std.specs.Ordering.{nat_cmp}
-use Rattle.std.specs.BTreeMap as tree
-use Rattle.std.specs.BTreeMap.{BTreeMap}
+use Rattle.std.specs.HashMap as hash
+use Rattle.std.specs.HashMap.{HashMap}
+use Rattle.lt_links.specs.declared.hashing.KeyHashing.{KeyHashing}
 use Rattle.lt_links.specs.declared.stand.Stand.{Stand}
 use Rattle.lt_links.specs.Ring.{has, Distinct}
 use Rattle.lt_links.specs.Maps.{Maps, stand}
 
 -- for each transaction with a node, how many it has
 abbrev pub Txns : Type 0
-Txns = BTreeMap ℕ ℕ
+Txns = HashMap ℕ ℕ KeyHashing
 
 abbrev pub stored_of : Txns → ℕ → Option ℕ
-stored_of txns t = tree.get nat_cmp txns t
+stored_of txns t = hash.get nat_eq txns t
 
 abbrev pub count_of : Txns → ℕ → ℕ
 count_of txns t = unwrap_or (stored_of txns t) 0
@@ -26,6 +26,10 @@ as_stored (suc n) = Some (suc n)
 pub record SetsCount (old new : Txns) (t n : ℕ) : Type 0 where
   pub here : stored_of new t ≡ as_stored n
   pub others : (k : ℕ) → k ≢ t → stored_of new k ≡ stored_of old k
+
+-- every count stays
+abbrev pub KeepsCounts : Txns → Txns → Type 0
+KeepsCounts old new = (t : ℕ) → stored_of new t ≡ stored_of old t
 
 -- a node comes: the count of its transaction, if it has one, is greater by one
 abbrev pub CountsIn : Txns → Txns → Option ℕ → Type 0

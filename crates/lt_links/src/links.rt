@@ -3,15 +3,16 @@
 ghost use Rattle.std.specs.Prelude.{◌≡◌, length};
 
 use crate::ends::{join, link};
-use crate::node::{Heads, Joint, Node};
-use crate::owners::{follow_last, owner_ends, push_owner, unlink_owned};
+use crate::hashing::KeyHashing;
+use crate::node::{Heads, Node};
+use crate::owners::{Owners, follow_last, owner_ends, push_owner, unlink_owned};
 use crate::queues::{count_in, count_out, queued, stored_len};
-use crate::txns::{count_of, retally, tally_in, tally_out};
+use crate::txns::{Txns, count_of, retally, tally_in, tally_out};
 use crate::{NodeId, Queue, RecordId, Stand};
 use lt_ids::TxnId;
 use slab::Slab;
 use std::alloc::{AllocError, Global};
-use std::collections::BTreeMap;
+use std::collections::HashMap;
 use std::marker::Model;
 
 #[cfg(test)]
@@ -22,8 +23,8 @@ mod tests;
 pub struct Links {
     nodes: Slab<Node>,
     heads: Slab<Heads>,
-    owners: BTreeMap<u64, Joint>,
-    txns: BTreeMap<u64, usize>,
+    owners: Owners,
+    txns: Txns,
 }
 
 impl Model for Links {
@@ -49,16 +50,16 @@ impl Links {
     ghost use Rattle.lt_links.specs.declared.ids.Queue.{Queue};
     ghost use Rattle.std.specs.Prelude.{Some, None, true, false, IfOk, IfSome, OnOk, OnErr, IsOk, ℕ, List, ◌∷◌, ◌++◌, slice_get};
 
-    /// Links without records or nodes.
-    pub fn new(alloc: Global) -> Self
+    /// Links without records or nodes, whose numbers and transactions are hashed from this start.
+    pub fn new(alloc: Global, start: u64) -> Self
         ensures none { result ≡ no_maps }
         ensures sound { IsSound result }
     {
         Links {
             nodes: Slab::new(alloc),
             heads: Slab::new(alloc),
-            owners: BTreeMap::new(alloc),
-            txns: BTreeMap::new(alloc),
+            owners: HashMap::with_hasher(alloc, KeyHashing::new(start)),
+            txns: HashMap::with_hasher(alloc, KeyHashing::new(start)),
         }
     }
 

@@ -6,12 +6,16 @@ ghost use Rattle.slab.specs.Slab.{get};
 ghost use Rattle.lt_links.specs.Cells.{ends_of, no_joint, HasOwned, UnlinksOwned, PushesOwner, FollowsLast};
 
 use crate::ends::{Ends, join};
+use crate::hashing::KeyHashing;
 use crate::node::{Joint, Node};
 use slab::Slab;
-use std::alloc::AllocError;
-use std::collections::BTreeMap;
+use std::alloc::{AllocError, Global};
+use std::collections::HashMap;
 
-impl Ends for BTreeMap<u64, Joint> {
+/// For each number with a node, the ends of its list.
+pub(crate) type Owners = HashMap<u64, Joint, KeyHashing, Global>;
+
+impl Ends for Owners {
     ghost use Rattle.lt_links.specs.Cells.{owned_at, HasOwned, KeepsOwned};
     ghost use Rattle.lt_links.specs.Keeps.{KeepsOwned-twice, HasOwned-kept};
 
@@ -55,7 +59,7 @@ impl Ends for BTreeMap<u64, Joint> {
 }
 
 /// The ends of a number's list, which is empty if the map has no list for the number.
-pub(crate) fn owner_ends(owners: &BTreeMap<u64, Joint>, number: u64) -> Joint
+pub(crate) fn owner_ends(owners: &Owners, number: u64) -> Joint
     ensures { result ≡ unwrap_or (ends_of owners.now number) no_joint }
 {
     match owners.get(&number) {
@@ -70,27 +74,24 @@ pub(crate) fn owner_ends(owners: &BTreeMap<u64, Joint>, number: u64) -> Joint
 /// Makes a node the last of a number's list, and creates the list if there is none. Returns the previous last
 /// node.
 pub(crate) fn push_owner(
-    owners: &mut BTreeMap<u64, Joint>,
+    owners: &mut Owners,
     number: u64,
     node: usize,
 ) -> Result<Option<usize>, AllocError>
     ensures ok { IfOk result (λ last. PushesOwner owners.old owners.new number last node) }
     ensures err { OnErr result (owners.new.entries ≡ owners.old.entries) }
 {
-    if let Some(ends) = owners.get_mut(&number) {
-        if let Some(last) = ends.prev {
-            ends.prev = Some(node);
-            return Ok(Some(last));
-        }
+    let alone = Joint {
+        prev: Some(node),
+        next: Some(node),
+    };
+    let Some(ends) = owners.insert(number, alone)? else {
+        return Ok(None);
+    };
+    if ends.prev.is_some() {
+        owners.get_mut(&number).unwrap().next = ends.next;
     }
-    owners.insert(
-        number,
-        Joint {
-            prev: Some(node),
-            next: Some(node),
-        },
-    )?;
-    Ok(None)
+    Ok(ends.prev)
 }
 
 /// Makes a node the neighbor of the previous last node, if there is one.
@@ -107,7 +108,7 @@ pub(crate) fn follow_last(nodes: &mut Slab<Node>, last: Option<usize>, node: usi
 
 /// Removes a node from a number's list, and drops the list with its last node.
 pub(crate) fn unlink_owned(
-    owners: &mut BTreeMap<u64, Joint>,
+    owners: &mut Owners,
     nodes: &mut Slab<Node>,
     number: u64,
     prev: Option<usize>,

@@ -1,3 +1,4 @@
 pub mod Tables
 pub mod LoneLocks
 pub mod SortedKeys
+pub mod LeastKeys

@@ -72,14 +72,20 @@ find_at m q (k ∷ ks) =
       | false ↦ λ e. find_at m q ks
     ] refl)
 
--- the sorted keys of the rows are the keys of their records
-pub sorted_keys : (m : Maps) (rows : Rows) (all : List (List ℕ)) → hash.IsUnique bytes_eq rows → IsPermutation (hash.keys rows) all → IsSorted order all → all ≡ keys (records_of m rows)
-sorted_keys m rows all unique permutation sorted =
+-- keys that rise, among which are those of the rows and no others, are the keys of their records
+pub rising_keys_of_rows : (m : Maps) (rows : Rows) (all : List (List ℕ)) → IsStrictlySortedBy order all → ((q : List ℕ) → list_any (bytes_eq q) all ≡ list_any (bytes_eq q) (hash.keys rows)) → all ≡ keys (records_of m rows)
+rising_keys_of_rows m rows all rise among =
     let records : Records = records_of m rows in
-    let rise : IsStrictlySortedBy order all = rising all sorted (IsDistinct-IsPermutation bytes_eq flips (hash.keys rows) all permutation unique) in
     let same : records ≡ from_entries (entries_at records all) = same_records _ _ (λ q.
     sym (get-from_entries nat_list_cmp_total (entries_at records all) q
     ∙ find_at records q all
-    ∙ ap (λ b. cond b (Some (record_at records q)) None) (sym (list_any-IsPermutation (bytes_eq q) (hash.keys rows) all permutation) ∙ has_key (bytes_eq q) rows.entries ∙ sym (same_some (record_of m) (row_at rows q)) ∙ ap is_some (sym (get_of m rows q)))
+    ∙ ap (λ b. cond b (Some (record_at records q)) None) (among q ∙ has_key (bytes_eq q) rows.entries ∙ sym (same_some (record_of m) (row_at rows q)) ∙ ap is_some (sym (get_of m rows q)))
     ∙ same_option (get records q))) in
     sym (ap keys same ∙ keys-from_entries (entries_at records all) (subst (IsStrictlySortedBy order) (sym (keys_at records all)) rise) ∙ keys_at records all)
+
+-- the sorted keys of the rows are the keys of their records
+pub sorted_keys : (m : Maps) (rows : Rows) (all : List (List ℕ)) → hash.IsUnique bytes_eq rows → IsPermutation (hash.keys rows) all → IsSorted order all → all ≡ keys (records_of m rows)
+sorted_keys m rows all unique permutation sorted =
+    rising_keys_of_rows m rows all
+    (rising all sorted (IsDistinct-IsPermutation bytes_eq flips (hash.keys rows) all permutation unique))
+    (λ q. sym (list_any-IsPermutation (bytes_eq q) (hash.keys rows) all permutation))

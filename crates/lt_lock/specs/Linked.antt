@@ -9,7 +9,7 @@ use Rattle.lt_rules.specs.declared.call.Reply.{Reply}
 use Rattle.lt_rules.specs.Rules.{Record, Outcome, is_empty}
 use Rattle.lt_rules.specs.Table.{Records, AreSound, IsStep, without_empty}
 use Rattle.lt_links.specs.Maps.{Maps, has_record, IsSound}
-use Rattle.lt_lock.specs.declared.hashing.KeyHashing.{KeyHashing}
+use Rattle.lt_links.specs.declared.hashing.KeyHashing.{KeyHashing}
 use Rattle.lt_lock.specs.declared.row_table.RowStep.{RowStep}
 use Rattle.lt_row.specs.declared.row.Row.{Row}
 use Rattle.lt_row.specs.Row.{record_of, HasQueues}

@@ -38,10 +38,6 @@ abbrev pub StepsWithLone : Option LoneLock → Option LoneLock → Records → R
 StepsWithLone lone after old new key act lets = λ reply.
     IsStep (with_lone lone old) key act reply lets (with_lone after new)
 
--- No record has changed, and there are no lets.
-abbrev pub KeepsWithLone : Option LoneLock → Option LoneLock → Records → Records → List Through → Type 0
-KeepsWithLone lone after old new lets = (with_lone after new ≡ with_lone lone old) × (lets ≡ [])
-
 -- whether a visit by a request of this transaction passes a lock of this holder, for which nobody waits
 abbrev pub passes_held : Holder → Option ℕ → Timestamp → Access → Bool
 passes_held h txn ts Read = is_txn txn h.txn || is_below ts h.ts

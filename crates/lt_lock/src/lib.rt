@@ -10,8 +10,9 @@
 //! the place of its key by one search, whether the key has a row or gets one. A row that becomes empty is dropped in the
 //! same call. No call at a key walks the map of keys, and `lt_row` says which calls walk a queue.
 //!
-//! The hash begins from a start that the table is opened with (`hashing`). Whoever chooses the keys can make many of
-//! them meet only if he knows it. The map is in no order, so the list of all keys is sorted when it is asked for.
+//! The hash begins from a start that the table is opened with. Whoever chooses the keys can make many of them meet only if
+//! he knows it. The map is in no order, so the list of all keys is sorted when it is asked for, and a part of it comes from
+//! one pass over the rows (`keys`).
 //!
 //! A call makes all its allocations, lets included, before it changes a record. So after an error, nothing has
 //! changed.
@@ -20,7 +21,7 @@
 //! table, over `lone`, the lone lock, and `row_table`, the rows. `lt_row` has what a call does to one row.
 #![tactic(auto)]
 
-mod hashing;
+mod keys;
 mod lone;
 mod row_table;
 mod table;

@@ -1,22 +1,24 @@
 //! How does the table keep many keys, and the requests that wait for them? [`RowTable`] has a row for each key that
 //! is held, reserved or waited for, over one set of links. `lt_row` has what a call does to one row; here a call
 //! finds the row of its key, adds it, and drops it once it is empty.
-ghost use Rattle.std.specs.Prelude.{◌≡◌, ◌≢◌, ◌≤◌, ◌↔◌, [], true, length, vec_capacity, IfOk, OnOk, OnErr, IsOk};
+ghost use Rattle.std.specs.Prelude.{◌≡◌, ◌≢◌, ◌<◌, ◌≤◌, ◌↔◌, [], true, length, vec_capacity, IfOk, OnOk, OnErr, IsOk, IsTrue};
 ghost use Rattle.std.specs.HashMap.{keys, IsUnique};
 ghost use Rattle.std.specs.Str.{bytes_eq};
 ghost use Rattle.std.specs.FinMap as map;
+ghost use Rattle.std.specs.Option.{option_copied};
 ghost use Rattle.lt_rules.specs.declared.call.Call.TheVariants.{Acquire};
 ghost use Rattle.lt_rules.specs.declared.call.Reply.TheVariants.{Taken};
 ghost use Rattle.lt_rules.specs.Rules.{empty, acquire, take_lock};
 ghost use Rattle.lt_rules.specs.Step.{step, look};
-ghost use Rattle.lt_rules.specs.Table.{AreSound, MakesCall, IsStep, UsesNoMemoryAt, record_at, without_empty};
+ghost use Rattle.lt_rules.specs.Table.{AreSound, MakesCall, IsStep, UsesNoMemoryAt, record_at, keys_after, without_empty};
 ghost use Rattle.lt_rules.specs.Memory.{MayLack, HasRoom};
 ghost use Rattle.lt_row.specs.Row.{HasQueues};
 ghost use Rattle.lt_lock.specs.Linked.{records_of, AreLinked, IsTable, IsEmptied, KeepsRows, UpdatesRows, MakesAtRow, emptied_id};
+ghost use Rattle.lt_ids.specs.declared.limits.TheConstants.{MAX_PASS};
 
-use crate::hashing::KeyHashing;
+use crate::keys::keys_after;
 use lt_ids::{Key, Through, Timestamp, TxnId};
-use lt_links::{Links, RecordId};
+use lt_links::{KeyHashing, Links, RecordId};
 use lt_row::{Row, acquire, is_empty, lengths, look, state, step};
 use lt_rules::free_key::{AtFreeKey, at_free_key};
 use lt_rules::{Call, Holder, KeyState, QueueLengths, Reply};
@@ -48,7 +50,7 @@ impl Model for RowTable {
     ghost invariant = { λ t. IsTable t.links t.rows };
 }
 
-type Rows = HashMap<Key, Row, KeyHashing, Global>;
+pub(crate) type Rows = HashMap<Key, Row, KeyHashing, Global>;
 
 /// What a call at a key's row came to: its reply, and the queues of the row if it is now empty.
 #[derive(Clone, Copy)]
@@ -95,7 +97,7 @@ fn step_row(
     requires table { IsTable links.old rows.old }
     requires lets { lets.old.items ≡ [] }
     requires low { 1 ≤ pass }
-    requires high { pass ≤ 1024 }
+    requires high { pass ≤ MAX_PASS }
     ensures ok { IfOk result (MakesAtRow links.old links.new rows.old rows.new key.now
         (λ r. step r pass call.now) lets.new.items) }
     ensures linked { AreLinked links.new rows.new }
@@ -262,8 +264,16 @@ fn acquire_found(
     acquire(links, row, txn, ts, lets)
 }
 
+/// Whether a copy of the key takes memory.
+#[inline(always)]
+fn is_long(key: &Key) -> bool
+    ensures { IsTrue result ↔ 22 < length key.now }
+{
+    key.as_bytes().len() > 22
+}
+
 /// A transaction acquires the key. A key of up to 22 bytes is copied without memory, so this finds its place in the
-/// map by one search. A longer key may have a row, and then needs no copy.
+/// map by one search. A longer key is copied only if it has no row.
 fn acquire_key(
     links: &mut Links,
     rows: &mut Rows,
@@ -283,6 +293,9 @@ fn acquire_key(
         (vec_capacity lets.old)) }
     ensures kept { vec_capacity lets.old ≤ vec_capacity lets.new }
 {
+    if is_long(key) && rows.contains_key(key) {
+        return acquire_found(links, rows, key, txn, ts, lets);
+    }
     let Ok(copy) = key.copy() else {
         return acquire_found(links, rows, key, txn, ts, lets);
     };
@@ -296,7 +309,7 @@ impl RowTable {
         ensures { result ≡ map.empty }
     {
         RowTable {
-            links: Links::new(alloc),
+            links: Links::new(alloc, start),
             rows: HashMap::with_hasher(alloc, KeyHashing::new(start)),
         }
     }
@@ -329,7 +342,7 @@ impl RowTable {
     ) -> Result<Reply, AllocError>
         requires lets { lets.old.items ≡ [] }
         requires low { 1 ≤ pass }
-        requires high { pass ≤ 1024 }
+        requires high { pass ≤ MAX_PASS }
         ensures ok { IfOk result (MakesCall (λ t. t) self.old self.new key.now pass call.now lets.new.items) }
         ensures err { OnErr result ((self.new ≡ self.old) × (lets.new.items ≡ [])) }
         ensures sound { AreSound self.new }
@@ -384,5 +397,17 @@ impl RowTable {
         ensures { IfOk result (λ all. all.items ≡ map.keys self.now) }
     {
         all_keys(&self.links, &self.rows, alloc)
+    }
+
+    /// The first keys that have a record and come after the key `after`: at most `at_most`, in byte order.
+    pub fn keys_after(
+        &self,
+        alloc: Global,
+        after: Option<&Key>,
+        at_most: usize,
+    ) -> Result<Vec<Key>, AllocError>
+        ensures { IfOk result (λ all. all.items ≡ keys_after self.now (option_copied after.entry) at_most) }
+    {
+        keys_after(&self.links, &self.rows, alloc, after, at_most)
     }
 }

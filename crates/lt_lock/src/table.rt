@@ -1,14 +1,16 @@
 //! How does the linked table keep its locks? In one of two ways. While it has a single lock and nobody waits, it
 //! keeps a lone lock. Once a second key is locked or somebody has to wait, the lock gets a row, and the table keeps
 //! rows until the last of them is dropped. Read `lone.rt` and `row_table.rt` next, which have the two.
-ghost use Rattle.std.specs.Prelude.{◌≡◌, ◌∷◌, ◌≤◌, ◌↔◌, ℕ, [], true, length, vec_capacity, IfOk, OnOk, OnErr, IsOk, None};
+ghost use Rattle.std.specs.Prelude.{◌≡◌, ◌∷◌, ◌≤◌, ◌↔◌, ℕ, [], true, length, IfOk, OnOk, OnErr, IsOk, None};
 ghost use Rattle.std.specs.FinMap as finmap;
+ghost use Rattle.std.specs.Option.{option_copied};
 ghost use Rattle.lt_rules.specs.Rules.{TakesNoMemory, empty};
 ghost use Rattle.lt_rules.specs.Step.{step, look};
-ghost use Rattle.lt_rules.specs.Table.{UsesNoMemoryAt, record_at};
-ghost use Rattle.lt_rules.specs.Memory.{MayLack, HasRoom};
-ghost use Rattle.lt_lock.specs.Lone.{held, with_lone, IsWithLone, StepsWithLone, StepsAlone, KeepsWithLone, NeedsRows};
+ghost use Rattle.lt_rules.specs.Table.{record_at, keys_after};
+ghost use Rattle.lt_rules.specs.Memory.{MayLack};
+ghost use Rattle.lt_lock.specs.Lone.{held, with_lone, IsWithLone, StepsAlone};
 
+use crate::keys::one_key_after;
 use crate::lone::{LoneLock, step_alone, taken};
 use crate::row_table::RowTable;
 use lt_ids::{Key, Through};
@@ -57,6 +59,7 @@ impl LinkedTable {
 }
 
 /// Gives the lone lock a row, if there is one.
+#[inline(always)]
 fn add_row(lone: &mut Option<LoneLock>, rows: &mut RowTable) -> Result<(), AllocError>
     requires with_lone { IsWithLone lone.old rows.old }
     ensures none { OnOk result (lone.new ≡ None) }
@@ -96,34 +99,6 @@ fn step_first(lone: &mut Option<LoneLock>, key: &Key, call: &Call) -> Result<Rep
             Ok(Reply::Taken)
         }
     }
-}
-
-/// Makes a call that needs a row, or that finds the table with rows.
-fn step_rows(
-    lone: &mut Option<LoneLock>,
-    rows: &mut RowTable,
-    key: &Key,
-    pass: u32,
-    call: &Call,
-    lets: &mut Vec<Through>,
-) -> Result<Reply, AllocError>
-    requires with_lone { IsWithLone lone.old rows.old }
-    requires needs { NeedsRows lone.old key.now call.now }
-    requires lets { lets.old.items ≡ [] }
-    requires low { 1 ≤ pass }
-    requires high { pass ≤ 1024 }
-    ensures ok { IfOk result (StepsWithLone lone.old lone.new rows.old rows.new key.now
-        (λ r. step r pass call.now) lets.new.items) }
-    ensures with_lone { IsWithLone lone.new rows.new }
-    ensures err { OnErr result (KeepsWithLone lone.old lone.new rows.old rows.new lets.new.items) }
-    ensures no_memory { UsesNoMemoryAt (with_lone lone.old) rows.old key.now (λ r. step r pass call.now) → IsOk result }
-    ensures full { OnErr result (MayLack (record_at (with_lone lone.old rows.old) key.now) call.now
-        (vec_capacity lets.old)) }
-    ensures room { HasRoom (with_lone lone.old rows.old) (vec_capacity lets.old) →
-        HasRoom (with_lone lone.new rows.new) (vec_capacity lets.new) }
-{
-    add_row(lone, rows)?;
-    rows.step(key, pass, call, lets)
 }
 
 /// The state of a key that this holder has locked, and for which nobody waits.
@@ -202,6 +177,22 @@ fn keys_with(
     }
 }
 
+/// The first keys that have a record and come after the key `after`: at most `at_most`, in byte order.
+fn keys_after_with(
+    lone: &Option<LoneLock>,
+    rows: &RowTable,
+    alloc: Global,
+    after: Option<&Key>,
+    at_most: usize,
+) -> Result<Vec<Key>, AllocError>
+    ensures { IfOk result (λ all. all.items ≡ keys_after (with_lone lone.now rows.now) (option_copied after.entry) at_most) }
+{
+    match lone {
+        None => rows.keys_after(alloc, after, at_most),
+        Some(alone) => one_key_after(alloc, &alone.key, after, at_most),
+    }
+}
+
 impl KeyTable for LinkedTable {
     ghost records = { λ t. t };
 
@@ -219,7 +210,8 @@ impl KeyTable for LinkedTable {
         if has_no_lock(&self.lone, &self.rows) {
             return step_first(&mut self.lone, key, call);
         }
-        step_rows(&mut self.lone, &mut self.rows, key, pass, call, lets)
+        add_row(&mut self.lone, &mut self.rows)?;
+        self.rows.step(key, pass, call, lets)
     }
 
     fn look(&self, key: &Key, number: u64) -> Reply {
@@ -236,5 +228,14 @@ impl KeyTable for LinkedTable {
 
     fn keys(&self, alloc: Global) -> Result<Vec<Key>, AllocError> {
         keys_with(&self.lone, &self.rows, alloc)
+    }
+
+    fn keys_after(
+        &self,
+        alloc: Global,
+        after: Option<&Key>,
+        at_most: usize,
+    ) -> Result<Vec<Key>, AllocError> {
+        keys_after_with(&self.lone, &self.rows, alloc, after, at_most)
     }
 }

@@ -1,14 +1,15 @@
 -- The record of a row after a request comes to wait, or stops waiting to read.
 use Rattle.std.proofs.Common.{◌≡◌, ◌≢◌, ◌<◌, ℕ, true, false, List, [], ◌∷◌, ◌++◌, map, refl, sym, ap, ◌∙◌, subst, arith, nat_eq}
+use Rattle.std.specs.Prelude.{if◌then◌else◌}
 use Rattle.std.specs.List.{AllByRecursion, IsDistinct, list_any}
 use Rattle.std.proofs.lemmas.List.{map-append}
 use Rattle.std.proofs.lemmas.Bool.Decides.{nat_tests}
 use Rattle.lt_rules.specs.declared.queued.QueuedRequest.{QueuedRequest}
 use Rattle.lt_rules.specs.declared.queued.QueuedWriter.{QueuedWriter}
 use Rattle.lt_rules.specs.declared.call.Reply.{Reply}
-use Rattle.lt_rules.specs.declared.call.Reply.TheVariants.{MustWait}
+use Rattle.lt_rules.specs.declared.call.Reply.TheVariants.{MustWait, TooLong}
 use Rattle.lt_rules.specs.Rules.{Record, number_of, writer_number, unchanged, stop_reading, without_reader}
-use Rattle.lt_rules.specs.Visit.{enqueue, waiting, is_queued, wait_to_write, wait_to_read}
+use Rattle.lt_rules.specs.Visit.{enqueue, waiting, is_queued, is_too_long, wait_to_write, join_writers, wait_to_read}
 use Rattle.lt_rules.specs.Lawful.{Rises, numbers}
 use Rattle.lt_rules.proofs.Cases.{all_append, all_front, all_back}
 use Rattle.lt_links.specs.declared.stand.Stand.{Stand}
@@ -19,7 +20,7 @@ use Rattle.lt_links.specs.Maps.{Maps, queue}
 use Rattle.lt_row.specs.declared.row.Row.{Row}
 use Rattle.lt_row.specs.Row.{stand_at, stands_at, line, queue_at, record_of, request_of, writer_of, IsNamed, HasQueues}
 use Rattle.lt_row.specs.Found.{IsFound, IsMissing, WritesQueue, PutsWriter, MovesToFront}
-use Rattle.lt_row.specs.RowStepped.{KeepsOthers, IsRewritten, RowStepped}
+use Rattle.lt_row.specs.RowStepped.{KeepsOthers, IsRewritten, RowStepped, VisitsRow}
 use Rattle.lt_row.proofs.Rows.{HasNot, StandsAlone, found_alone, none_among, one_among, without_none, record_lines, line_written, linked_written, others_written, others_twice, others_same}
 use Rattle.lt_row.proofs.Acts.{few_others}
 use Rattle.lt_row.proofs.Leaves.{left, left_row, left_linked, other_readers, other_writers, left_readers}
@@ -252,3 +253,9 @@ module _ (old : Maps) (r : Row) (n : ℕ) (linked : HasQueues old r.id) (distinc
             linked = linked_written mid new r.id Readers (left old r n linked distinct kind node found) taken (put_linked old mid r s linked named puts) (few_others Readers (left old r n linked distinct kind node found) (λ f. cc)) rest;
             others = others_twice old mid new r.id (put_others old mid r s linked named puts) (others_written mid new r.id Readers _ taken);
           }
+
+-- if the writers are not too many, a request that joins them waits to write
+pub waits : (m new : Maps) (row : Row) (s : Stand) (longest : ℕ) → is_too_long (record_of m row).writers (request_of s) longest ≡ false → VisitsRow m new row s (λ r q. wait_to_write r q) MustWait → VisitsRow m new row s (λ r q. join_writers r q longest) MustWait
+waits m new row s longest few went =
+    let r = stop_reading (record_of m row) s.number in
+    subst (λ b. RowStepped m new row row.id (if b then unchanged r TooLong else wait_to_write r (request_of s)) MustWait []) (sym few) went

@@ -125,12 +125,6 @@ RewritesAt old new node entries =
     (q : Queue) (xs ys : List ℕ) → queue old q ≡ xs ++ node ∷ ys →
     WritesQueue old new q (entries (stands_at old xs) (stands_at old ys))
 
--- The entry is inserted immediately after the node in its queue.
-abbrev pub InsertsBehind : Maps → Maps → ℕ → Stand → Type 0
-InsertsBehind old new node s =
-    (q : Queue) (xs ys : List ℕ) → queue old q ≡ xs ++ node ∷ ys →
-    WritesQueue old new q (stands_at old xs ++ stand_at old node ∷ s ∷ stands_at old ys) × KeepsNodes old new q
-
 -- The node moves from its queue to the front of a queue.
 abbrev pub MovesNode : Maps → Maps → ℕ → Queue → Type 0
 MovesNode old new node to =

@@ -29,6 +29,7 @@ fn put_request(stand: &Stand, all: &mut Vec<QueuedRequest>) -> Result<(), AllocE
     requires { IsNamed stand.now }
     ensures { OnOk result (all.new.items ≡ all.old.items ++ request_of stand.now ∷ []) }
 {
+    // The parts name their types, which is necessary when a whole request is passed on.
     let QueuedRequest {
         ticket,
         txn,
@@ -65,6 +66,7 @@ fn put_writer(stand: &Stand, all: &mut Vec<QueuedWriter>) -> Result<(), AllocErr
     requires { IsNamed stand.now }
     ensures { OnOk result (all.new.items ≡ all.old.items ++ writer_of stand.now ∷ []) }
 {
+    // The parts name their types, which is necessary when a whole request is passed on.
     let QueuedRequest {
         ticket,
         txn,

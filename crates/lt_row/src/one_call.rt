@@ -4,6 +4,7 @@ ghost use Rattle.lt_rules.specs.Step.{step};
 ghost use Rattle.lt_rules.specs.Memory.{MayLack, how_many};
 ghost use Rattle.lt_row.specs.Row.{record_of};
 ghost use Rattle.lt_row.specs.RowStepped.{IsRow, UpdatesRow, RowUsesNoMemory};
+ghost use Rattle.lt_ids.specs.declared.limits.TheConstants.{MAX_PASS};
 
 use crate::row::{self, Row};
 use crate::visit::{stand_of, visit};
@@ -27,7 +28,7 @@ pub fn step(
     requires row { IsRow links.old row.old }
     requires lets { lets.old.items ≡ [] }
     requires low { 1 ≤ pass }
-    requires high { pass ≤ 1024 }
+    requires high { pass ≤ MAX_PASS }
     ensures ok { IfOk result (UpdatesRow links.old links.new row.old row.new
         (λ r. step r pass call.now) lets.new.items) }
     ensures err { OnErr result ((links.new ≡ links.old) × (row.new ≡ row.old) × (lets.new.items ≡ [])) }

@@ -3,7 +3,7 @@ ghost use Rattle.std.specs.Prelude.{◌≡◌, ◌∷◌, ◌++◌, true, false,
 ghost use Rattle.lt_links.specs.declared.ids.Queue.{Queue};
 ghost use Rattle.lt_links.specs.Maps.{has_record, HasNode, queue, IsSound};
 ghost use Rattle.lt_row.specs.Row.{line, stand_at};
-ghost use Rattle.lt_row.specs.Found.{WritesQueue, KeepsNodes, RewritesAt, InsertsBehind, MovesNode};
+ghost use Rattle.lt_row.specs.Found.{WritesQueue, KeepsNodes, RewritesAt, MovesNode};
 
 use lt_links::{Links, NodeId, Queue, Stand};
 use std::alloc::AllocError;
@@ -17,21 +17,6 @@ pub(crate) fn insert_first(links: &mut Links, to: &Queue, stand: &Stand) -> Resu
     ensures err { OnErr result (links.new ≡ links.old) }
 {
     links.push_front(*to, *stand)?;
-    Ok(())
-}
-
-/// Puts an entry immediately after a node in its queue.
-pub(crate) fn insert_behind(
-    links: &mut Links,
-    node: NodeId,
-    stand: &Stand,
-) -> Result<(), AllocError>
-    requires there { HasNode links.old node }
-    requires sound { IsSound links.old }
-    ensures ok { OnOk result (InsertsBehind links.old links.new node stand.now) }
-    ensures err { OnErr result (links.new ≡ links.old) }
-{
-    links.insert_after(node, *stand)?;
     Ok(())
 }
 

@@ -5,6 +5,7 @@ ghost use Rattle.lt_rules.specs.Rules.{empty, IsOutcome, TakesNoMemory};
 ghost use Rattle.lt_rules.specs.Step.{step};
 ghost use Rattle.lt_row.specs.Row.{record_of};
 ghost use Rattle.lt_row.specs.RowStepped.{IsRow, has_nobody};
+ghost use Rattle.lt_ids.specs.declared.limits.TheConstants.{MAX_PASS};
 
 use crate::copy::state;
 use crate::one_call::step;
@@ -53,10 +54,13 @@ fn add_row(links: &mut Links) -> Result<Row, AllocError>
 impl LinkedRecord {
     /// The record of a key that nobody has locked and nobody waits for. This call and later ones allocate from this
     /// allocator. The only error is that memory ran out.
+    ///
+    /// Its requests and transactions are hashed from a start that anybody can know. So whoever chooses their numbers can
+    /// make its calls slow, as he can by a long queue.
     pub fn new(alloc: Global) -> Result<Self, AllocError>
         ensures { IfOk result (λ r. r ≡ empty) }
     {
-        let mut links = Links::new(alloc);
+        let mut links = Links::new(alloc, 0);
         let row = add_row(&mut links)?;
         Ok(LinkedRecord { links, row })
     }
@@ -86,7 +90,7 @@ impl LinkedRecord {
     ) -> Result<Reply, AllocError>
         requires lets { lets.old.items ≡ [] }
         requires pass_low { 1 ≤ pass }
-        requires pass_high { pass ≤ 1024 }
+        requires pass_high { pass ≤ MAX_PASS }
         ensures ok { IfOk result (λ reply. IsOutcome (step self.old pass call.now) self.new reply lets.new.items) }
         ensures err { OnErr result ((self.new ≡ self.old) × (lets.new.items ≡ [])) }
         ensures no_memory { TakesNoMemory self.old (step self.old pass call.now) → IsOk result }

@@ -7,11 +7,11 @@ ghost use Rattle.lt_row.specs.Row.{line, queue_at};
 ghost use Rattle.lt_row.specs.RowStepped.{IsRow};
 ghost use Rattle.lt_row.specs.SameTxn.{own_one, HasOnly, HasNone};
 
-use crate::row::Row;
+use crate::row::{Row, queue};
 use crate::settle::reserved;
 use crate::txn::is_of;
 use lt_ids::TxnId;
-use lt_links::{Links, Stand};
+use lt_links::{Links, QueueKind, Stand};
 
 /// A count of the transaction's entries, less this entry if it is one of them.
 fn less_own(count: usize, stand: &Stand, txn: TxnId) -> usize
@@ -40,12 +40,15 @@ fn has_only(links: &Links, txn: TxnId, number: u64) -> bool
     left == 0
 }
 
-/// Whether it is certain that no writer of the transaction is queued at the key: it has no entries, or only those of
-/// the request that holds the reservation.
+/// Whether it is certain that no writer of the transaction is queued at the key: no writer is, or the transaction has no
+/// entries, or only those of the request that holds the reservation.
 pub(crate) fn has_none(links: &Links, row: &Row, txn: TxnId) -> bool
     requires { IsRow links.now row.now }
     ensures { result ≡ true → HasNone txn (line links.now (queue_at row.now.id Writers)) }
 {
+    if links.len(queue(row, QueueKind::Writers)) == 0 {
+        return true;
+    }
     match reserved(links, row) {
         Some(own) if is_of(&own, txn) => has_only(links, txn, own.number),
         _ => links.nodes_of(txn) == 0,

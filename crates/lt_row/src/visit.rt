@@ -8,16 +8,14 @@ ghost use Rattle.lt_ids.specs.declared.request.Access.TheVariants.{Read, Write};
 ghost use Rattle.lt_rules.specs.Rules.{stop_reading};
 ghost use Rattle.lt_rules.specs.Memory.{how_many};
 ghost use Rattle.lt_rules.specs.Lawful.{Rises};
-ghost use Rattle.lt_rules.specs.Visit.{pass, is_queued, is_too_long, wait_to_write, join_writers, wait_to_read, displace, visit_case};
+ghost use Rattle.lt_rules.specs.Visit.{pass, is_queued, is_too_long, join_writers, wait_to_read, displace, visit_case};
 ghost use Rattle.lt_links.specs.Maps.{has_record, IsSound};
 ghost use Rattle.lt_row.specs.Row.{line, queue_at, record_of, request_of, writer_of, HasQueues, IsNamed};
 ghost use Rattle.lt_row.specs.Found.{Finds, PutsWriter};
 ghost use Rattle.lt_row.specs.RowStepped.{IsRow, IsRewritten, UpdatesRow, RowUsesNoMemory, VisitsRow, RowVisitUsesNoMemory, MakesRoom, taken_over, visit_by};
 
 use crate::find::{Found, find};
-use crate::queue_edit::{
-    insert_behind, insert_first, move_to_front, renew_stand, replace_stand, take_out,
-};
+use crate::queue_edit::{insert_first, move_to_front, renew_stand, replace_stand, take_out};
 use crate::queue_walk::{has_at_least, position_of};
 use crate::row::{Row, queue};
 use crate::settle::{reserved, settle};
@@ -85,7 +83,10 @@ fn put_writer(links: &mut Links, to: &Queue, stand: &Stand) -> Result<(), AllocE
 {
     match position_of(links, to, stand.number) {
         None => insert_first(links, to, stand),
-        Some(node) => insert_behind(links, node, stand),
+        Some(node) => {
+            links.insert_after(node, *stand)?;
+            Ok(())
+        }
     }
 }
 
@@ -112,37 +113,6 @@ fn pass(links: &mut Links, row: &Row, found: &Option<Found>, stand: &Stand) -> R
 {
     stop_reading(links, row, found, stand);
     Reply::Passed
-}
-
-/// The request waits at its position among the writers. If it is there already, this visit replaces its entry.
-fn wait_to_write(
-    links: &mut Links,
-    row: &Row,
-    found: &Option<Found>,
-    stand: &Stand,
-) -> Result<Reply, AllocError>
-    requires row { IsRow links.old row.now }
-    requires found { Finds links.old row.now.id stand.now.number found.now }
-    requires active { stand.now.active ≡ true }
-    requires named { IsNamed stand.now }
-    ensures ok { IfOk result (VisitsRow links.old links.new row.now stand.now (λ r q. wait_to_write r q)) }
-    ensures err { OnErr result (links.new ≡ links.old) }
-{
-    let writers = queue(row, QueueKind::Writers);
-    let Some(found) = found else {
-        put_writer(links, &writers, stand)?;
-        return Ok(Reply::MustWait);
-    };
-    if found.kind == QueueKind::Writers {
-        renew_stand(links, found.node, stand)?;
-        return Ok(Reply::MustWait);
-    }
-    put_writer(links, &writers, stand)?;
-    if found.kind == QueueKind::Readers {
-        take_out(links, found.node);
-        return Ok(Reply::MustWait);
-    }
-    Ok(Reply::MustWait)
 }
 
 /// Whether the request is among the writers.
@@ -173,7 +143,8 @@ fn is_too_long(links: &Links, row: &Row, found: &Option<Found>, stand: &Stand, l
         && has_at_least(links, &queue(row, QueueKind::Writers), longest)
 }
 
-/// The request joins the writers, unless they are too many for it.
+/// The request waits at its position among the writers, unless they are too many for it. If it is there already, this
+/// visit replaces its entry.
 fn join_writers(
     links: &mut Links,
     row: &Row,
@@ -200,7 +171,22 @@ fn join_writers(
         return Ok(Reply::TooLong);
     }
     make_room(links, row, lets)?;
-    wait_to_write(links, row, found, stand)
+    let writers = queue(row, QueueKind::Writers);
+    let Some(found) = found else {
+        put_writer(links, &writers, stand)?;
+        return Ok(Reply::MustWait);
+    };
+    if found.kind == QueueKind::Writers {
+        renew_stand(links, found.node, stand)?;
+        return Ok(Reply::MustWait);
+    }
+    put_writer(links, &writers, stand)?;
+    // Each case answers for itself, as in the definition, so that its proof speaks of this case alone.
+    if found.kind == QueueKind::Readers {
+        take_out(links, found.node);
+        return Ok(Reply::MustWait);
+    }
+    Ok(Reply::MustWait)
 }
 
 /// The request waits at the front of the readers. If it is among the writers already, it waits there.
@@ -222,11 +208,14 @@ fn wait_to_read(
         insert_first(links, &readers, stand)?;
         return Ok(Reply::MustWait);
     };
+    // A key that is locked has no reservation, so this case does not arise. It stands because the definition has it, and the
+    // contract does not ask whether the key is locked.
     if found.kind == QueueKind::Reservation {
         insert_first(links, &readers, stand)?;
         return Ok(Reply::MustWait);
     }
     renew_stand(links, found.node, stand)?;
+    // Each case answers for itself, as in the definition, so that its proof speaks of this case alone.
     if found.kind == QueueKind::Readers {
         move_to_front(links, found.node, &readers);
         return Ok(Reply::MustWait);

@@ -1,8 +1,8 @@
 -- The records of all keys of a table, the sound ones, and one step of such records.
-use Rattle.std.specs.Prelude.{ℕ, ◌≡◌, ◌≢◌, if◌then◌else◌, List, unwrap_or, false, IfSome}
-use Rattle.std.specs.Ordering.{nat_cmp}
+use Rattle.std.specs.Prelude.{ℕ, ◌≡◌, ◌≢◌, if◌then◌else◌, Bool, List, take, filter, Option, Some, None, unwrap_or, true, false, IfSome}
+use Rattle.std.specs.Ordering.{nat_cmp, is_lt}
 use Rattle.std.specs.Cmp.Lexicographic.{slice_cmp}
-use Rattle.std.specs.FinMap.{FinMap, get, insert, remove}
+use Rattle.std.specs.FinMap.{FinMap, get, insert, remove, keys}
 use Rattle.lt_ids.specs.declared.ticket.Through.{Through}
 use Rattle.lt_ids.specs.declared.request.Request.{Request}
 use Rattle.lt_rules.specs.declared.queued.QueuedRequest.{QueuedRequest}
@@ -28,6 +28,15 @@ with_record m key r = if is_empty r then remove m key else insert m key r
 -- the same records; an empty record at this key is not kept
 abbrev pub without_empty : Records → List ℕ → Records
 without_empty m key = with_record m key (record_at m key)
+
+-- whether the key comes after this one in byte order; every key comes after none
+abbrev pub comes_after : Option (List ℕ) → List ℕ → Bool
+comes_after None key = true
+comes_after (Some low) key = is_lt (slice_cmp nat_cmp low key)
+
+-- the first keys that have a record and come after this one: at most so many, in byte order
+abbrev pub keys_after : Records → Option (List ℕ) → ℕ → List (List ℕ)
+keys_after m after at_most = take at_most (filter (comes_after after) (keys m))
 
 -- A record that a table may keep.
 pub record IsKept (r : Record) : Type 0 where

@@ -3,13 +3,15 @@
 //! is given as a value; the calls with names are made through it. Read `specs/Table.antt` next: `UpdatesKey` is the
 //! promise that these calls share. `specs/Memory.antt` says when memory may be refused.
 ghost use Rattle.std.specs.Prelude.{◌≡◌, ◌≤◌, IfOk, OnOk, OnErr, IsOk, [], length, vec_capacity};
+ghost use Rattle.std.specs.Option.{option_copied};
 ghost use Rattle.std.specs.FinMap as finmap;
 ghost use Rattle.lt_ids.specs.Ids.{IsWaitNumber};
 ghost use Rattle.lt_rules.specs.declared.call.Call.TheVariants.{Acquire, Update, Finish, Leave};
 ghost use Rattle.lt_rules.specs.Rules.{acquire, update, finish, leave};
 ghost use Rattle.lt_rules.specs.Step.{step, look};
-ghost use Rattle.lt_rules.specs.Table.{Records, AreSound, UpdatesKey, MakesCall, UsesNoMemoryAt, record_at, visit_of};
+ghost use Rattle.lt_rules.specs.Table.{Records, AreSound, UpdatesKey, MakesCall, UsesNoMemoryAt, record_at, visit_of, comes_after, keys_after};
 ghost use Rattle.lt_rules.specs.Memory.{MayLack, HasRoom};
+ghost use Rattle.lt_ids.specs.declared.limits.TheConstants.{MAX_PASS};
 
 use crate::{Call, KeyState, Reply};
 use lt_ids::{Access, Key, Request, Through, Ticket, Timestamp, TxnId};
@@ -20,6 +22,17 @@ use std::alloc::{AllocError, Global};
 pub struct QueueLengths {
     pub writers: usize,
     pub readers: usize,
+}
+
+/// Whether the key comes after the key `after` in byte order. Every key comes after `None`.
+#[inline]
+pub fn comes_after(after: Option<&Key>, key: &Key) -> bool
+    ensures { result ≡ comes_after (option_copied after.entry) key.now }
+{
+    match after {
+        None => true,
+        Some(low) => *low < *key,
+    }
 }
 
 /// A lock table for one thread: a record for each key that is held, reserved or waited for.
@@ -48,7 +61,7 @@ pub trait KeyTable {
     ) -> Result<Reply, AllocError>
         requires lets { lets.old.items ≡ [] }
         requires low { 1 ≤ pass }
-        requires high { pass ≤ 1024 }
+        requires high { pass ≤ MAX_PASS }
         ensures ok { IfOk result (MakesCall records self.old self.new key.now pass call.now lets.new.items) }
         ensures err { OnErr result ((records self.new ≡ records self.old) × (lets.new.items ≡ [])) }
         ensures sound { AreSound (records self.new) }
@@ -77,6 +90,17 @@ pub trait KeyTable {
     /// fails only when an allocation fails.
     fn keys(&self, alloc: Global) -> Result<Vec<Key>, AllocError>
         ensures { IfOk result (λ all. all.items ≡ finmap.keys (records self.now)) };
+
+    /// The first of these keys that come after the key `after`, or after none: at most `at_most` of them, in byte
+    /// order. `after` need not have a record. At no time does the call keep more copies of keys than `at_most` and one.
+    /// It fails only when an allocation fails.
+    fn keys_after(
+        &self,
+        alloc: Global,
+        after: Option<&Key>,
+        at_most: usize,
+    ) -> Result<Vec<Key>, AllocError>
+        ensures { IfOk result (λ all. all.items ≡ keys_after (records self.now) (option_copied after.entry) at_most) };
 
     /// A request visits the key. `wait` is the number of the wait that begins if the request has to wait. A
     /// request with a bound that would have to join that many writers or more joins none of them and gets

@@ -25,5 +25,5 @@ mod queued;
 
 pub use call::{Call, Reply};
 pub use key_state::KeyState;
-pub use key_table::{KeyTable, QueueLengths};
+pub use key_table::{KeyTable, QueueLengths, comes_after};
 pub use queued::{Holder, QueuedRequest, QueuedWriter};

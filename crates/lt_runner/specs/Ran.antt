@@ -15,6 +15,7 @@ use Rattle.lt_runner.specs.Worked.{HasEnded, answer_line, line_of_executed, pass
 use Rattle.lt_runner.specs.Turns.{IsAmong, AreInOrder}
 use Rattle.lt_runner.specs.Standing.{AllStandAtTheEnd, AreAll, run_numbers}
 use Rattle.lt_runner.specs.Closing.{finish_all}
+use Rattle.lt_ids.specs.declared.limits.TheConstants.{MAX_REQUEST, MAX_WAIT}
 
 -- The machine of the pass, starting without a request, answers a prefix of the pass's lines. How the pass ended
 -- tells what happened to the rest.
@@ -38,7 +39,7 @@ all_entries histories = flat_map (λ h. h.items) histories
 
 -- The limits of a script's run. Requests and waits have the greatest limits possible.
 abbrev pub run_rules : ℕ → Option ℕ → Rules
-run_rules max_steps turns = record { max_waits = 16777215; max_steps = max_steps; max_requests = 1099511627775; turns = turns }
+run_rules max_steps turns = record { max_waits = MAX_WAIT; max_steps = max_steps; max_requests = MAX_REQUEST; turns = turns }
 
 -- The machine of each pass answers a prefix of its lines, and all of them if the run is done. On one thread the
 -- lines are executed in their order. The final histories, one for each shard, hold exactly the steps that the

@@ -11,6 +11,7 @@ ghost use Rattle.lt_runner.specs.Turns.{AreNumbered, IsAmong};
 ghost use Rattle.lt_runner.specs.Closing.{AreHanded, CountAlike, GainsAtMostOne, IsPut, finish_all, join};
 ghost use Rattle.lt_runner.specs.Planned.{PlanHasRun, PlanIsRan, plan_rules};
 ghost use Rattle.lt_runner.specs.Ran.{run_rules};
+ghost use Rattle.lt_ids.specs.declared.limits.TheConstants.{MAX_SHARDS};
 
 use crate::answer::AnswerLine;
 use crate::gate::Gate;
@@ -18,6 +19,7 @@ use crate::outcome::{Finish, OutOfMemory, Ran, RunFault, Work};
 use crate::plan::{Host, Plan};
 use crate::running::{run_in_turn, run_on_threads, seats_of};
 use crate::session::Session;
+use lt_ids::{MAX_REQUEST, MAX_WAIT};
 use lt_rules::KeyTable;
 use lt_script::Command;
 use lt_table_core::{CloseError, Config, Guard, Ready, open_with, prepare};
@@ -224,7 +226,7 @@ pub fn run<T: KeyTable + Drop + Send, G: Gate + Sync, R: Threads + Wait + Sync>(
     plan: &Plan<'_, G>,
 ) -> Result<Ran, RunFault>
     requires some_shards { 1 ≤ length tables.items }
-    requires few_shards { length tables.items ≤ 64 }
+    requires few_shards { length tables.items ≤ MAX_SHARDS }
     requires empty { All (λ t. T.records t ≡ finmap.empty) tables.items }
     requires some_steps { 1 ≤ max_steps }
     requires few_steps { max_steps ≤ 2 ^ 32 }
@@ -234,8 +236,8 @@ pub fn run<T: KeyTable + Drop + Send, G: Gate + Sync, R: Threads + Wait + Sync>(
         shards: tables.len(),
         passes: most_passes(plan.commands),
         max_steps,
-        max_requests: 1099511627775,
-        max_waits: 16777215,
+        max_requests: MAX_REQUEST,
+        max_waits: MAX_WAIT,
     };
     let Ok(ready) = prepare(alloc, config) else {
         return Err(RunFault::Memory);

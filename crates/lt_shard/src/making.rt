@@ -5,6 +5,7 @@ ghost use Rattle.lt_rules.specs.Memory.{MayLack, HasRoom};
 ghost use Rattle.lt_entry.specs.Ranges.{IsInRange, NamesNumber};
 ghost use Rattle.lt_words.specs.Row.{made};
 ghost use Rattle.lt_shard.specs.Shards.{IsMade, StepTakesNoMemory};
+ghost use Rattle.lt_ids.specs.declared.limits.TheConstants.{MAX_PASS};
 
 use lt_entry::Entry;
 use lt_ids::{Key, Through};
@@ -44,7 +45,7 @@ pub(crate) fn make_step<'a, T: KeyTable>(
 ) -> Result<MadeStep<'a>, AllocError>
     requires lets { lets.old.items ≡ [] }
     requires low { 1 ≤ pass }
-    requires high { pass ≤ 1024 }
+    requires high { pass ≤ MAX_PASS }
     requires number { NamesNumber call.now }
     ensures made { IfOk result (λ s. IsMade (T.records table.old) key.now pass call.now s.entry (T.records table.new)) }
     ensures place { IfOk result (λ s. s.place ≡ place) }

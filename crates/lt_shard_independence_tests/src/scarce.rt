@@ -144,4 +144,13 @@ impl KeyTable for Scarce {
     fn keys(&self, alloc: Global) -> Result<Vec<Key>, AllocError> {
         self.table.keys(alloc)
     }
+
+    fn keys_after(
+        &self,
+        alloc: Global,
+        after: Option<&Key>,
+        at_most: usize,
+    ) -> Result<Vec<Key>, AllocError> {
+        self.table.keys_after(alloc, after, at_most)
+    }
 }

@@ -113,4 +113,13 @@ impl<'a> KeyTable for Watched<'a> {
     fn keys(&self, alloc: Global) -> Result<Vec<Key>, AllocError> {
         self.table.keys(alloc)
     }
+
+    fn keys_after(
+        &self,
+        alloc: Global,
+        after: Option<&Key>,
+        at_most: usize,
+    ) -> Result<Vec<Key>, AllocError> {
+        self.table.keys_after(alloc, after, at_most)
+    }
 }

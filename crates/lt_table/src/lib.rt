@@ -137,8 +137,8 @@
 //! # Asking a running table
 //!
 //! [`Table::inspect`] gives the record of a key. [`Table::locked_keys`] gives the keys of a shard that are locked,
-//! reserved or waited for. Both answers are true after the steps of the shard that the pass has then seen. Neither
-//! call is in any history.
+//! reserved or waited for, and [`Table::locked_keys_after`] a part of these keys. Each answer is true after the steps of
+//! the shard that the pass has then seen. None of the calls is in any history.
 //!
 //! # Passes and threads
 //!
@@ -178,6 +178,7 @@ mod linked;
 mod start;
 
 pub use linked::{linked_tables, open, open_waking};
+pub use lt_ids::{MAX_KEY_BYTES, MAX_PASS, MAX_REQUEST, MAX_SHARDS, MAX_STEPS, MAX_WAIT};
 pub use lt_lock::LinkedTable;
 pub use lt_table_core::{
     Answer, CloseError, CloseRefused, Config, EnterError, EnterRefused, Gone, Guard, Histories,

@@ -113,7 +113,7 @@ met_before : (of : Opening) (old mid new : PassState) (s : ℕ) (es : List Entry
 met_before of old mid new s es m more = record { legal = m.legal; home = m.home; in_range = m.in_range; within = prefix_trans (part s old.seen) (part s mid.seen) es (part_prefix s old.seen mid.seen more) m.within; behind = m.behind; shown = m.shown }
 
 -- a fact of the item at each index of a list with one more item
-at_each : {A : Type 0} (P : ℕ → A → Type 0) (xs : List A) (x : A) (n : ℕ) → n ≡ length xs → ((s : ℕ) (d : A) → s < n → P s (get_or xs s d)) → P n x → (s : ℕ) (d : A) → s < n + 1 → P s (get_or (xs ++ x ∷ []) s d)
+pub at_each : {A : Type 0} (P : ℕ → A → Type 0) (xs : List A) (x : A) (n : ℕ) → n ≡ length xs → ((s : ℕ) (d : A) → s < n → P s (get_or xs s d)) → P n x → (s : ℕ) (d : A) → s < n + 1 → P s (get_or (xs ++ x ∷ []) s d)
 at_each P xs x n many each last s d lt =
     dite (ℕ_discrete s n)
     (λ same. subst (λ k. P k (get_or (xs ++ x ∷ []) k d)) (sym same) (subst (λ k. P n (get_or (xs ++ x ∷ []) k d)) (sym many) (subst (P n) (sym (get_or-append_seam xs x [] d)) last)))

@@ -177,7 +177,7 @@ ends_none (Some x) end p a e = absurd (let never : Ok Proceed ≡ Err (of_step e
 past_end : {A : Type 0} (xs : List A) (i : ℕ) → nat_lt i (length xs) ≡ false → drop i xs ≡ []
 past_end xs i e = grind (arith, common_steps)
 
-from_proceeds : (asked : Asked) (max_waits : ℕ) (p : Progress) (steps : List Step) (after : WalkState) → AllByRecursion (λ x. IsVisitReply x.answer.reply) steps → IsScanFrom asked max_waits p steps (Ok Proceed) after →
+pub from_proceeds : (asked : Asked) (max_waits : ℕ) (p : Progress) (steps : List Step) (after : WalkState) → AllByRecursion (λ x. IsVisitReply x.answer.reply) steps → IsScanFrom asked max_waits p steps (Ok Proceed) after →
     (drop p.index (map (λ k. k.0) asked.keys) ≡ map (λ x. x.key) steps) × AllByRecursion (λ a. a.reply ≡ Passed) after.answers
 from_proceeds asked max_waits p steps after all s =
     let at_end : (is_awaiting s.last.mode ≡ false) × (is_stopped s.last.mode ≡ false) × (nat_lt s.last.index (length asked.keys) ≡ false) = proceed_end (length asked.keys) s.last (ends_none (next_visit asked max_waits s.last) (scan_end (length asked.keys) s.last) s.last after.progress s.ends) in
@@ -189,6 +189,12 @@ pub begins_free : (max_waits : ℕ) (old : WalkState) (word : ℕ) (steps : List
 begins_free max_waits old word steps result after free scan =
     let begins : scan_start (after_status old.asked.number old.progress word) ≡ Ok old.progress = free_start_in old.progress.mode _ old.progress.index old.progress.waits old.progress.waited free in
     rw begins at scan
+
+-- and so does each status word
+pub from_is_scan : (max_waits : ℕ) (old : WalkState) (word : ℕ) (steps : List Step) (result : Result Scan ScanError) (after : WalkState) → old.progress.mode ≡ Free → IsScanFrom old.asked max_waits old.progress steps result after → IsWalkScan max_waits old word steps result after
+from_is_scan max_waits old word steps result after free from =
+    let begins : scan_start (after_status old.asked.number old.progress word) ≡ Ok old.progress = free_start_in old.progress.mode _ old.progress.index old.progress.waits old.progress.waited free in
+    rw begins from
 
 pub proceeds_after_all : ProceedsAfterAll
 proceeds_after_all max_waits old word steps after at_start free all scan =

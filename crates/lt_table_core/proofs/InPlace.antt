@@ -45,7 +45,7 @@ later_stands old mid new x of number begins s =
       later = omega (arith, part_length (shard_at old x) old.seen mid.seen begins, after);
     }
 
-all_later : (old mid new : PassState) (xs : List runs.Step) → mid.of ≡ old.of → mid.number ≡ old.number → IsPrefix old.seen mid.seen → AllByRecursion (Stands mid new) xs → AllByRecursion (Stands old new) xs
+pub all_later : (old mid new : PassState) (xs : List runs.Step) → mid.of ≡ old.of → mid.number ≡ old.number → IsPrefix old.seen mid.seen → AllByRecursion (Stands mid new) xs → AllByRecursion (Stands old new) xs
 all_later old mid new [] of number begins a = tt
 all_later old mid new (x ∷ xs) of number begins a = (later_stands old mid new x of number begins a.0, all_later old mid new xs of number begins a.1)
 
@@ -116,7 +116,7 @@ numbers_of_guards_differ shards whole old old' given given' txn txn' ts ts' long
 
 -- ---- the close
 
-each_at : (P : PassState → Type 0) (ps : List PassState) (k : ℕ) (p : PassState) → AllByRecursion P ps → k < length ps → p ≡ get_or ps k p → P p
+pub each_at : (P : PassState → Type 0) (ps : List PassState) (k : ℕ) (p : PassState) → AllByRecursion P ps → k < length ps → p ≡ get_or ps k p → P p
 each_at P [] k p a lt is = absurd (omega arith)
 each_at P (q ∷ qs) zero p a lt is = subst P (sym is) a.0
 each_at P (q ∷ qs) (suc k) p a lt is = each_at P qs k p a.1 (omega arith) is

@@ -17,3 +17,6 @@ pub mod Waking
 pub mod Takes
 pub mod Waits
 pub mod Lives
+pub mod Joins
+mod Resumed
+mod Theorem

@@ -15,7 +15,8 @@ use Rattle.lt_words.specs.Row.{Opening, PassState, SeesMore, fresh}
 use Rattle.lt_words.proofs.Prefixes.{prefix_trans, prefix_get}
 use Rattle.lt_words.proofs.Histories.{part_prefix, part_length}
 use Rattle.lt_table_core.specs.Machine as runs
-use Rattle.lt_table_core.specs.Closed.{counts_at}
+use Rattle.lt_words.specs.declared.event.Event.{Event}
+use Rattle.lt_table_core.specs.Closed.{counts_at, IsFinal}
 use Rattle.lt_table_core.specs.Reported.{shard_at, Reported, AreReported, steps_at}
 use Rattle.lt_table_core.specs.Laws.{Lived, AreLives, at_index, at_index_of, EachStepIsReportedOnce, OneHolderAtClose, ReadsPassAtClose, LivesGoOn}
 use Rattle.lt_table_core.proofs.Ends.{sees_on}
@@ -264,14 +265,22 @@ lives_counted of s (xs ∷ lives) (p ∷ ps) l lt =
     let lived : slice_index p.counts s ≡ slice_index (replicate of.shards 0) s + steps_at of.shards s xs = life_counted (fresh of p.number) p xs s l.0 in
     omega (arith, none, lived, length-append (indices of.shards s xs) (all_indices of.shards s lives), many_indices of.shards s xs, lives_counted of s lives ps l.2 lt)
 
-pub each_step_is_reported_once : EachStepIsReportedOnce
-each_step_is_reported_once of ps shards draws lives s n d closed l here lt =
-    let es = (get_or shards s d).items in
-    let final = closed.each s d here in
+-- At most one step of the passes is at an index of a history that extends what each of them has seen.
+pub once_so_far : (of : Opening) (ps : List PassState) (s : ℕ) (es : List Entry) (lives : List (List runs.Step)) (n : ℕ) → AreLives of lives ps → AllByRecursion (λ q. IsPrefix (part s q.seen) es) ps → at_index_of of.shards s n lives ≤ 1
+once_so_far of ps s es lives n l begins =
+    subst (λ t. t ≤ 1) (sym (at_all_indices of.shards s n lives)) (at_most_once n (all_indices of.shards s lives) (lives_differ of s es lives ps l begins))
+
+-- Exactly one step of the passes is at an index of a final history.
+pub once_in_final : (of : Opening) (ps : List PassState) (whole : List Event) (s : ℕ) (es : List Entry) (lives : List (List runs.Step)) (n : ℕ) → IsFinal of ps whole s es → AreLives of lives ps → s < of.shards → n < length es → at_index_of of.shards s n lives ≡ 1
+once_in_final of ps whole s es lives n final l here lt =
     let many : length (all_indices of.shards s lives) ≡ length es = lives_counted of s lives ps l here ∙ sym final.counted in
     let below : AllByRecursion (λ k. k < length (all_indices of.shards s lives)) (all_indices of.shards s lives) = subst (λ j. AllByRecursion (λ k. k < j) (all_indices of.shards s lives)) (sym many) (lives_below of s es lives ps l final.seen) in
     let inside : n < length (all_indices of.shards s lives) = subst (λ j. n < j) (sym many) lt in
     at_all_indices of.shards s n lives ∙ exactly_once n (all_indices of.shards s lives) (lives_differ of s es lives ps l final.seen) below inside
+
+pub each_step_is_reported_once : EachStepIsReportedOnce
+each_step_is_reported_once of ps shards draws lives s n d closed l here lt =
+    once_in_final of ps closed.whole s (get_or shards s d).items lives n (closed.each s d here) l here lt
 
 pub one_holder_at_close : OneHolderAtEachKey → OneHolderAtClose
 one_holder_at_close law of ps shards draws s d key past rest T U closed here is t u = law (get_or shards s d).items key past rest T U (closed.each s d here).legal is t u
@@ -285,14 +294,14 @@ life_sees : (p q r : PassState) (xs : List runs.Step) → Lived p xs q → SeesM
 life_sees p q r [] l more = sees_on p q r l more
 life_sees p q r (x ∷ xs) l more = (l.0, l.1, l.2, l.3, life_sees l.1 q r xs l.4 more)
 
-sees_same : (p : PassState) → SeesMore p p
+pub sees_same : (p : PassState) → SeesMore p p
 sees_same p = record { of = refl; number = refl; counts = refl; seen = prefix_same p.seen p.seen refl; shown = prefix_same p.shown p.shown refl }
 
 reported_lived : (p q : PassState) (xs : List runs.Step) → AreReported p xs q → Lived p xs q
 reported_lived p q [] r = subst (λ s. SeesMore p s) (sym r) (sees_same p)
 reported_lived p q (x ∷ xs) r = (p, r.0, sees_same p, r.1, reported_lived r.0 q xs r.2)
 
-sees_then : (p q r : PassState) (xs : List runs.Step) → SeesMore p q → Lived q xs r → Lived p xs r
+pub sees_then : (p q r : PassState) (xs : List runs.Step) → SeesMore p q → Lived q xs r → Lived p xs r
 sees_then p q r [] more l = sees_on p q r more l
 sees_then p q r (x ∷ xs) more l = (l.0, l.1, sees_on p q l.0 more l.2, l.3, l.4)
 

@@ -23,7 +23,7 @@ use Rattle.lt_words.specs.History.{part, steps_of, IsLegalHistory}
 use Rattle.lt_words.specs.Row.{PassState}
 use Rattle.lt_table_core.specs.declared.walk_progress.Progress.{Progress}
 use Rattle.lt_table_core.specs.declared.scan_results.Scan.TheVariants.{Proceed}
-use Rattle.lt_table_core.specs.Machine.{Asked, met, may_visit, visit_call, Visits, WalkState, IsScanFrom, IsScanBegun}
+use Rattle.lt_table_core.specs.Machine.{Asked, met, may_visit, visit_call, Visits, IsScanFrom}
 use Rattle.lt_table_core.specs.Machine as runs
 use Rattle.lt_table_core.specs.Reported.{shard_at}
 use Rattle.lt_table_core.specs.Laws.{Stands, ProceedHasPassedEach}
@@ -92,7 +92,7 @@ is_a_visit : (o : Option (List ℕ × Access)) (f : Access → Call) (key : List
 is_a_visit None f key call e = absurd cc
 is_a_visit (Some k) f key call e = (k.1, sym (pair_same k.0 key (f k.1) call e).1)
 
-visits_fine : (asked : Asked) (max_waits : ℕ) (p : Progress) (xs : List runs.Step) (q : Progress) (shards : ℕ) (old new : PassState) → IsLegalHistory shards new.seen → Visits asked max_waits p xs q → AllByRecursion (Stands old new) xs → AllByRecursion (λ x. IsVisitReply x.answer.reply) xs
+pub visits_fine : (asked : Asked) (max_waits : ℕ) (p : Progress) (xs : List runs.Step) (q : Progress) (shards : ℕ) (old new : PassState) → IsLegalHistory shards new.seen → Visits asked max_waits p xs q → AllByRecursion (Stands old new) xs → AllByRecursion (λ x. IsVisitReply x.answer.reply) xs
 visits_fine asked max_waits p [] q shards old new legal v s = tt
 visits_fine asked max_waits p (x ∷ xs) q shards old new legal v s =
     let due = guarded (may_visit (length asked.keys) max_waits p) _ _ v.0 in

@@ -1,12 +1,16 @@
--- Takes of a shard's steps that follow one another.
-use Rattle.std.proofs.Common.{◌≡◌, ◌≤◌, List, ◌++◌, length, take, drop, ap, sym, ◌∙◌, arith}
-use Rattle.std.proofs.Math.Seq.{take-append_seam}
+-- Takes of a shard's steps that follow one another, and the close that follows them.
+use Rattle.std.proofs.Common.{◌≡◌, ◌≤◌, List, ◌++◌, length, take, drop, get_or, ap, sym, ◌∙◌, arith}
+use Rattle.std.proofs.Math.Seq.{take-append_seam, drop-append_seam}
 use Rattle.std.proofs.lemmas.List.{length-drop, drop-append-le, take-append-le, take-append-drop}
 use mathlib.Core.List.{IsPrefix}
 use Rattle.lt_entry.specs.declared.entry.Entry.{Entry}
 use Rattle.lt_words.specs.History.{part}
 use Rattle.lt_words.proofs.Histories.{part_prefix}
-use Rattle.lt_table_core.specs.Taken.{TakesJoin}
+use Rattle.lt_words.proofs.Prefixes.{prefix_trans}
+use Rattle.lt_shard.specs.declared.holding.Rest.{Rest}
+use Rattle.lt_table_core.specs.Closed.{IsRest}
+use Rattle.lt_table_core.specs.Taken.{RestJoins, TakesJoin}
+use Rattle.lt_table_core.proofs.InPlace.{each_at}
 
 -- of two prefixes of one list, the shorter is a prefix of the longer
 shorter : {A : Type 0} (xs ys zs : List A) → IsPrefix xs zs → IsPrefix ys zs → length xs ≤ length ys → take (length xs) ys ≡ xs
@@ -25,3 +29,14 @@ takes_join shard from from' whole seen seen' es es' pre pre' t t' fits =
       within = omega (arith, t.within, le);
       are = ap (λ (l : List Entry). l ++ es') t.are ∙ (sym (drop-append-le from xs es' t.within) ∙ ap (drop from) (sym cut));
     }
+
+pub rest_joins : RestJoins
+rest_joins of ps rests draws k s from p seen es d closed here lt is began t fits =
+    let left : Rest = get_or rests s d in
+    let m : IsRest of ps closed.whole closed.whole_shown s left.from left.entries.items = closed.each s d here in
+    let xs : List Entry = part s seen in
+    let before : IsPrefix (part s p.seen) m.all = each_at (λ q. IsPrefix (part s q.seen) m.all) ps k p m.final.seen lt is in
+    let begins : IsPrefix xs m.all = prefix_trans xs (part s p.seen) m.all (part_prefix s seen p.seen began) before in
+    let at : left.from ≡ length xs = omega (arith, fits, ap length t.are, length-drop from xs, t.within) in
+    let rest : left.entries.items ≡ begins.0 = m.rest ∙ (ap (λ n. drop n m.all) at ∙ (ap (drop (length xs)) (sym begins.1) ∙ drop-append_seam xs begins.0)) in
+    ap (λ (l : List Entry). l ++ left.entries.items) t.are ∙ (ap (λ (l : List Entry). drop from xs ++ l) rest ∙ (sym (drop-append-le from xs begins.0 t.within) ∙ ap (drop from) begins.1))

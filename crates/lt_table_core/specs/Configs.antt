@@ -1,10 +1,12 @@
 -- The numbers with which a table is opened, their ranges, and what a table is opened over.
-use Rattle.std.specs.Prelude.{ℕ, ◌≡◌, ◌⊎◌, ◌&&◌, ◌<◌, ◌≤◌, ◌^◌, Bool, nat_le, if◌then◌else◌, Option, Some, None, List, length, slice_index_or}
+use Rattle.std.specs.Prelude.{ℕ, ◌≡◌, ◌⊎◌, ◌&&◌, ◌<◌, ◌≤◌, Bool, nat_le, if◌then◌else◌, Option, Some, None, List, length, slice_index_or}
 use Rattle.lt_words.specs.Row.{Opening}
 use Rattle.lt_shard.specs.Shards.{View, new_shard}
 use Rattle.lt_table_core.specs.declared.config.Config.{Config}
+use Rattle.lt_table_core.specs.declared.table.Label.{Label}
 use Rattle.lt_table_core.specs.declared.config.PrepareError.{PrepareError}
 use Rattle.lt_table_core.specs.declared.config.PrepareError.TheVariants.{Shards, Passes, Steps, Requests, Waits, Memory}
+use Rattle.lt_ids.specs.declared.limits.TheConstants.{MAX_PASS, MAX_REQUEST, MAX_SHARDS, MAX_STEPS, MAX_WAIT}
 
 abbrev pub is_between : ℕ → ℕ → ℕ → Bool
 is_between low high n = nat_le low n && nat_le n high
@@ -12,11 +14,11 @@ is_between low high n = nat_le low n && nat_le n high
 -- the first number that is out of its range
 abbrev pub fault : Config → Option PrepareError
 fault c =
-    if is_between 1 64 c.shards
-    then if is_between 1 1024 c.passes
-    then if is_between 1 (2 ^ 32) c.max_steps
-    then if is_between 1 1099511627775 c.max_requests
-    then if is_between 1 16777215 c.max_waits then None else Some Waits
+    if is_between 1 MAX_SHARDS c.shards
+    then if is_between 1 MAX_PASS c.passes
+    then if is_between 1 MAX_STEPS c.max_steps
+    then if is_between 1 MAX_REQUEST c.max_requests
+    then if is_between 1 MAX_WAIT c.max_waits then None else Some Waits
     else Some Requests
     else Some Steps
     else Some Passes
@@ -30,15 +32,15 @@ IsUnprepared c e = (fault c ≡ Some e) ⊎ ((fault c ≡ None) × (e ≡ Memory
 -- Each number is in its range.
 pub record IsConfig (c : Config) : Type 0 where
   pub some_shards : 1 ≤ c.shards
-  pub few_shards : c.shards ≤ 64
+  pub few_shards : c.shards ≤ MAX_SHARDS
   pub some_passes : 1 ≤ c.passes
-  pub few_passes : c.passes ≤ 1024
+  pub few_passes : c.passes ≤ MAX_PASS
   pub some_steps : 1 ≤ c.max_steps
-  pub few_steps : c.max_steps ≤ 2 ^ 32
+  pub few_steps : c.max_steps ≤ MAX_STEPS
   pub some_requests : 1 ≤ c.max_requests
-  pub few_requests : c.max_requests ≤ 1099511627775
+  pub few_requests : c.max_requests ≤ MAX_REQUEST
   pub some_waits : 1 ≤ c.max_waits
-  pub few_waits : c.max_waits ≤ 16777215
+  pub few_waits : c.max_waits ≤ MAX_WAIT
 
 -- Each number is in its range, and the book has the configuration's numbers of shards and passes.
 pub record IsOpened (c : Config) (of : Opening) : Type 0 where
@@ -54,3 +56,8 @@ pub record ReadyState : Type 0 where
 -- Each of these shards has its index, may hold max_steps steps, and has made none.
 abbrev pub AreNewShards : Opening → ℕ → List View → Type 0
 AreNewShards of max_steps vs = (s : ℕ) (v : View) → s < length vs → slice_index_or vs s v ≡ new_shard of s max_steps
+
+-- The slots with these labels were opened with one shard each, in the order of their indices. Each shard may hold
+-- max_steps steps.
+abbrev pub AreInPlace : ℕ → List Label → Type 0
+AreInPlace max_steps labels = (s : ℕ) (d : Label) → s < length labels → slice_index_or labels s d ≡ record { index = s; max_steps = max_steps }

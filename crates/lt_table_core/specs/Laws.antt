@@ -16,6 +16,7 @@ use Rattle.lt_words.specs.Shown.{IsShown}
 use Rattle.lt_words.specs.declared.event.Event.{Event}
 use Rattle.lt_words.specs.Row.{Opening, PassState, SeesMore, fresh}
 use Rattle.lt_shard.specs.declared.answer.Answer.{Answer}
+use Rattle.lt_shard.specs.declared.answer.StepError.{StepError}
 use Rattle.lt_table_core.specs.declared.walk_progress.Mode.TheVariants.{Free, Awaiting}
 use Rattle.lt_table_core.specs.declared.walk_progress.Progress.{Progress}
 use Rattle.lt_table_core.specs.declared.scan_results.Scan.{Scan}
@@ -24,9 +25,9 @@ use Rattle.lt_table_core.specs.declared.scan_results.ScanError.{ScanError}
 use Rattle.lt_table_core.specs.declared.scan_results.ScanError.TheVariants.{StillWaiting}
 use Rattle.lt_table_core.specs.declared.scan_results.Poll.{Poll}
 use Rattle.lt_table_core.specs.declared.scan_results.Poll.TheVariants.{Through}
-use Rattle.lt_table_core.specs.Machine.{Asked, after_status, polled, scan_start, restarted, visit_call, Step, answer_of}
+use Rattle.lt_table_core.specs.Machine.{Asked, after_status, polled, scan_start, restarted, visit_call, Step, answer_of, of_step, IsWalkScan}
 use Rattle.lt_table_core.specs.Keys.{IsKeyList}
-use Rattle.lt_table_core.specs.Reported.{shard_at, Reported, AreReported, steps_at, GuardState, IsScan, IsPoll, current_wait}
+use Rattle.lt_table_core.specs.Reported.{shard_at, Reported, AreReported, steps_at, GuardState, GuardStays, IsScan, IsPoll, current_wait}
 use Rattle.lt_table_core.specs.Entered.{IsEntered}
 use Rattle.lt_table_core.specs.Closed.{IsClosed}
 
@@ -76,6 +77,59 @@ pub record IsTooLong (old new : GuardState) (index : ℕ) : Type 0 where
 abbrev pub ProceedHasPassedEach : Type 0
 ProceedHasPassedEach = (max_waits : ℕ) (old new : GuardState) (shards : ℕ) → IsLegalHistory shards new.pass.seen → old.walk.progress.index ≡ 0 → old.walk.progress.mode ≡ Free →
     (scan : IsScan max_waits old new (Ok Proceed)) → PassedEach old.walk.asked scan.steps new.walk.answers
+
+-- ---- scans that were refused partway
+
+-- Between two scans of a request its pass may see more and make other steps. The request stays where it is.
+pub record StaysInPlace (old new : GuardState) : Type 0 where
+  pub stays : GuardStays old new
+  pub place : new.walk.progress ≡ old.walk.progress
+
+-- what a scan made that was refused partway: its steps, and the answers that it left
+pub record Partway : Type 0 where
+  pub steps : List Step
+  pub answers : List Answer
+
+-- These scans of a request were refused partway, because its history was full or memory ran out. Each began at the key where
+-- the one before had stopped.
+abbrev pub RefusedPartway : ℕ → GuardState → List Partway → GuardState → Type 0
+RefusedPartway max_waits old [] new = StaysInPlace old new
+RefusedPartway max_waits old (x ∷ xs) new =
+    (begun : GuardState) × (ended : GuardState) × StaysInPlace old begun
+    × (e : StepError) × (scan : IsScan max_waits begun ended (Err (of_step e))) × (x.steps ≡ scan.steps) × (x.answers ≡ ended.walk.answers)
+    × RefusedPartway max_waits ended xs new
+
+-- the steps of all of them, in order
+abbrev pub steps_partway : List Partway → List Step
+steps_partway [] = []
+steps_partway (x ∷ xs) = x.steps ++ steps_partway xs
+
+-- the answers of all of them, in order
+abbrev pub answers_partway : List Partway → List Answer
+answers_partway [] = []
+answers_partway (x ∷ xs) = x.answers ++ answers_partway xs
+
+-- If what is then seen is legal, any number of scans that were refused partway, the first of which began at the list's
+-- start, and one more that answers Proceed, have passed each key of the request: in order, and each once.
+abbrev pub ResumedHasPassedEach : Type 0
+ResumedHasPassedEach = (max_waits : ℕ) (old mid new : GuardState) (partway : List Partway) (shards : ℕ) → IsLegalHistory shards new.pass.seen → old.walk.progress.index ≡ 0 → old.walk.progress.mode ≡ Free →
+    RefusedPartway max_waits old partway mid → (scan : IsScan max_waits mid new (Ok Proceed)) → PassedEach old.walk.asked (steps_partway partway ++ scan.steps) (answers_partway partway ++ new.walk.answers)
+
+-- They are as one scan, whatever the last one answers, and whichever status word that one scan reads. Premise: the first
+-- began with no wait.
+abbrev pub ResumedIsOneScan : Type 0
+ResumedIsOneScan = (max_waits : ℕ) (old mid new : GuardState) (partway : List Partway) (result : Result Scan ScanError) → old.walk.progress.mode ≡ Free → RefusedPartway max_waits old partway mid → (scan : IsScan max_waits mid new result) →
+    (word : ℕ) → IsWalkScan max_waits old.walk word (steps_partway partway ++ scan.steps) result (record new.walk { answers = answers_partway partway ++ new.walk.answers })
+
+-- How a caller comes to that premise: before its first scan nothing was refused; the request stays in place between two
+-- scans; and one more scan is refused partway.
+abbrev pub RefusedPartwayGoesOn : Type 0
+RefusedPartwayGoesOn = (max_waits : ℕ) (old mid new : GuardState) (partway : List Partway) →
+    RefusedPartway max_waits old [] old
+    × (RefusedPartway max_waits old partway mid → StaysInPlace mid new → RefusedPartway max_waits old partway new)
+    × ((e : StepError) → RefusedPartway max_waits old partway mid → (scan : IsScan max_waits mid new (Err (of_step e))) → RefusedPartway max_waits old (partway ++ record { steps = scan.steps; answers = new.walk.answers } ∷ []) new)
+
+-- ---- lets
 
 -- After a poll that answered Through, a scan begins whatever status word it reads.
 abbrev pub ThroughGoesOn : Type 0

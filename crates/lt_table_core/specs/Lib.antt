@@ -5,6 +5,7 @@ pub mod Entered
 pub mod Configs
 pub mod Closed
 pub mod Laws
+pub mod Theorem
 pub mod Sound
 pub mod Taken
 pub mod Inspected

@@ -1,10 +1,13 @@
 -- What a take of a shard's steps gives.
-use Rattle.std.specs.Prelude.{ℕ, ◌≡◌, ◌+◌, ◌≤◌, ◌++◌, List, length, drop}
+use Rattle.std.specs.Prelude.{ℕ, ◌≡◌, ◌+◌, ◌<◌, ◌≤◌, ◌++◌, List, length, drop, slice_index_or}
 use mathlib.Core.List.{IsPrefix}
 use Rattle.lt_entry.specs.declared.entry.Entry.{Entry}
 use Rattle.lt_words.specs.declared.event.Event.{Event}
 use Rattle.lt_words.specs.History.{part}
+use Rattle.lt_words.specs.Row.{Opening, PassState}
+use Rattle.lt_shard.specs.declared.holding.Rest.{Rest}
 use Rattle.lt_table_core.specs.declared.taking.Reader.{Reader}
+use Rattle.lt_table_core.specs.Closed.{IsClosedRest}
 
 -- These are all steps of the shard's part of what was seen, from this index on.
 pub record IsTaken (shard : ℕ) (seen : List Event) (from : ℕ) (entries : List Entry) : Type 0 where
@@ -20,3 +23,11 @@ reader_after reader entries = record reader { next = reader.next + length entrie
 abbrev pub TakesJoin : Type 0
 TakesJoin = (shard from from' : ℕ) (whole seen seen' : List Event) (es es' : List Entry) → IsPrefix seen whole → IsPrefix seen' whole →
     IsTaken shard seen from es → IsTaken shard seen' from' es' → from' ≡ from + length es → IsTaken shard seen' from (es ++ es')
+
+-- If what a close leaves of a shard begins at the index at which a take ended, the steps of the take and then those
+-- that are left are the shard's final history from the take's first index on: none is missing, and none is there
+-- twice. A pass that was handed back had seen what the take's pass had then seen.
+abbrev pub RestJoins : Type 0
+RestJoins = (of : Opening) (ps : List PassState) (rests : List Rest) (draws k s from : ℕ) (p : PassState) (seen : List Event) (es : List Entry) (d : Rest) (closed : IsClosedRest of ps rests draws) (here : s < of.shards) →
+    k < length ps → p ≡ slice_index_or ps k p → IsPrefix seen p.seen → IsTaken s seen from es → (slice_index_or rests s d).from ≡ from + length es →
+    es ++ (slice_index_or rests s d).entries.items ≡ drop from (closed.each s d here).all

@@ -8,10 +8,11 @@ ghost use Rattle.std.specs.List.{All, AllByRecursion};
 ghost use mathlib.Core.List.{IsPrefix};
 ghost use Rattle.lt_shard.specs.Shards.{View};
 ghost use Rattle.lt_words.specs.Row.{SeesMore};
+ghost use Rattle.lt_table_core.specs.Configs.{AreInPlace};
 ghost use Rattle.lt_table_core.specs.Closed.{counts_at, passes_of, IsCounted, AreCounted, IsMiscount, IsEnded, AreEnded, IsClosed, IsClosedRest, AreRestsOf, AreWhole, IsRoomFor, IsUnclosed, IsGivenBack};
 
 use crate::guard::Guard;
-use crate::table::{Slot, Table};
+use crate::table::{Label, Slot, Table};
 use lt_entry::Entry;
 use lt_rules::KeyTable;
 use lt_shard::{Rest, Shard};
@@ -280,6 +281,27 @@ fn each_into<A: Drop, B: Drop, F: Fn(A) -> B>(items: Vec<A>, mut made: Vec<B>, m
     made
 }
 
+/// Puts each shard back behind a lock, in order. `slots` is empty and has room for them.
+fn slots_back<N: Name, T: KeyTable + Drop>(
+    shards: Vec<Shard<N, T>>,
+    max_steps: u64,
+    mut slots: Vec<Slot<N, T>>,
+) -> Vec<Slot<N, T>>
+    requires empty { slots.items ≡ [] }
+    requires room { length shards.items ≤ vec_capacity slots }
+    ensures many { length result.items ≡ length shards.items }
+    ensures each { AreInPlace max_steps (map (λ s. s.label) result.items) }
+{
+    for shard in shards {
+        let label = Label {
+            index: slots.len(),
+            max_steps,
+        };
+        slots.push_reserved(Slot::back(shard, label));
+    }
+    slots
+}
+
 /// Room for the shards, for their locks if the table comes back, for what is left of them, and for their histories.
 #[derive(Drop)]
 struct CloseRoom<N: Name, T: KeyTable> {
@@ -425,7 +447,7 @@ impl<N: Name, T: KeyTable + Drop, W: Waker + Drop> Table<N, T, W> {
             max_steps: config.max_steps,
         };
         if let Some(error) = count_fault(&shards, wanted, &passes, &guards) {
-            let shards = each_into(shards, room.slots, |shard| Slot::new(shard));
+            let shards = slots_back(shards, config.max_steps, room.slots);
             let table = Table {
                 config,
                 book,

@@ -3,6 +3,7 @@
 ghost use Rattle.std.specs.Prelude.{◌≡◌, None, IfOk, IfErr, OnOk};
 ghost use Rattle.lt_table_core.specs.Configs.{is_between, fault, IsOpened, IsUnprepared};
 
+use lt_ids::{MAX_PASS, MAX_REQUEST, MAX_SHARDS, MAX_STEPS, MAX_WAIT};
 use lt_words::{Book, Keeping, Pass, abandon_all};
 use std::alloc::{AllocError, Global};
 use std::marker::Model;
@@ -11,25 +12,25 @@ use thiserror::Error;
 /// The numbers with which a table is opened.
 #[derive(Clone, Copy, Debug, PartialEq, Eq)]
 pub struct Config {
-    /// The number of shards: 1 to 64. Each has a lock of its own.
+    /// The number of shards: 1 to [`MAX_SHARDS`]. Each has a lock of its own.
     pub shards: usize,
-    /// The number of passes: 1 to 1,024. Each serves one caller at a time.
+    /// The number of passes: 1 to [`MAX_PASS`]. Each serves one caller at a time.
     pub passes: usize,
-    /// How many steps a shard may hold: 1 to 2^32. If each step is held until the close, this is also how many
+    /// How many steps a shard may hold: 1 to [`MAX_STEPS`]. If each step is held until the close, this is also how many
     /// steps a shard may make.
     pub max_steps: u64,
-    /// How many requests may enter: 1 to 2^40 - 1.
+    /// How many requests may enter: 1 to [`MAX_REQUEST`].
     pub max_requests: u64,
-    /// How many waits a request may begin: 1 to 2^24 - 1.
+    /// How many waits a request may begin: 1 to [`MAX_WAIT`].
     pub max_waits: u32,
 }
 
 /// Why nothing was prepared: the first number that is out of its range, in this order, or out of memory.
 #[derive(Clone, Copy, Debug, PartialEq, Eq, Drop, Error)]
 pub enum PrepareError {
-    #[error("a table has 1 to 64 shards")]
+    #[error("a table has 1 to {} shards", MAX_SHARDS)]
     Shards,
-    #[error("a table has 1 to 1024 passes")]
+    #[error("a table has 1 to {} passes", MAX_PASS)]
     Passes,
     #[error("a shard makes 1 to 2^32 steps")]
     Steps,
@@ -62,11 +63,11 @@ fn is_between(low: u64, high: u64, n: u64) -> bool
 fn fault(config: Config) -> Option<PrepareError>
     ensures fault { result ≡ fault config }
 {
-    if is_between(1, 64, config.shards as u64) {
-        if is_between(1, 1024, config.passes as u64) {
-            if is_between(1, 1 << 32, config.max_steps) {
-                if is_between(1, 1099511627775, config.max_requests) {
-                    if is_between(1, 16777215, u64::from(config.max_waits)) {
+    if is_between(1, MAX_SHARDS as u64, config.shards as u64) {
+        if is_between(1, u64::from(MAX_PASS), config.passes as u64) {
+            if is_between(1, MAX_STEPS, config.max_steps) {
+                if is_between(1, MAX_REQUEST, config.max_requests) {
+                    if is_between(1, u64::from(MAX_WAIT), u64::from(config.max_waits)) {
                         None
                     } else {
                         Some(PrepareError::Waits)

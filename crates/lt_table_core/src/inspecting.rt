@@ -1,8 +1,9 @@
 //! What can a caller ask a running table? The record of a key, and which keys of a shard have one.
 ghost use Rattle.std.specs.Prelude.{◌≡◌, ◌<◌, IfOk, OnErr};
+ghost use Rattle.std.specs.Option.{option_copied};
 ghost use Rattle.lt_words.specs.History.{part};
 ghost use Rattle.lt_words.specs.Row.{SeesMore};
-ghost use Rattle.lt_shard.specs.Shards.{AreLockedKeys};
+ghost use Rattle.lt_shard.specs.Shards.{AreLockedKeys, AreLockedKeysAfter};
 ghost use Rattle.lt_table_core.specs.Inspected.{seen_record};
 
 use crate::guard::Guard;
@@ -81,6 +82,39 @@ impl<N: Name, T: KeyTable, W: Waker> Table<N, T, W> {
             let inside = &mut *locked;
             if inside.index() == shard {
                 return inside.locked_keys(rt, &self.book, pass);
+            }
+        }
+        unreachable!()
+    }
+
+    /// The first of these keys that come after the key `after`, or after none: at most `at_most` of them, each once, in
+    /// byte order. `after` need not be locked. A list shorter than `at_most` is the last: no locked key comes after its
+    /// keys. Waits for the shard's lock, looks at every lock of the shard once while holding it, copies no more than
+    /// `at_most` keys into the list, and changes nothing. Fails if an allocation fails.
+    ///
+    /// The next part begins after the last key of this one. Each part is as of a moment of its own: a key that is
+    /// locked from before the first part until after the last is in exactly one of them.
+    pub fn locked_keys_after<R: Wait>(
+        &self,
+        rt: &R,
+        pass: &mut Pass,
+        shard: usize,
+        after: Option<&Key>,
+        at_most: usize,
+    ) -> Result<Vec<Key>, AllocError>
+        requires pass { pass.old.of ≡ N.of }
+        requires shard { shard < N.of.shards }
+        ensures keys { IfOk result (λ first. AreLockedKeysAfter (part shard pass.new.seen)
+            (option_copied after.entry) at_most first.items) }
+        ensures more { SeesMore pass.old pass.new }
+        ensures err { OnErr result (pass.new ≡ pass.old) }
+    {
+        let lock = &self.shards[shard].lock;
+        for _ in rt.forever() {
+            let mut locked = lock.lock(rt);
+            let inside = &mut *locked;
+            if shard == inside.index() {
+                return inside.locked_keys_after(rt, &self.book, pass, after, at_most);
             }
         }
         unreachable!()

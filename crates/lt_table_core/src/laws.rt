@@ -2,11 +2,12 @@
 //!
 //! Each law is the contract of a function that does no work; `specs/Laws.antt` has the statements, over the
 //! definitions alone.
-ghost use Rattle.lt_table_core.specs.Laws.{OneKeyList, ReportedStand, ProceedHasPassedEach, ThroughGoesOn, ShownIsThrough, ShownGoesOn, NoWakeUpIsLost, NumbersOfGuardsDiffer, ReportedStandAtClose, OneHolderAtClose, ReadsPassAtClose, LivesGoOn, EachStepIsReportedOnce};
+ghost use Rattle.lt_table_core.specs.Laws.{OneKeyList, ReportedStand, ProceedHasPassedEach, ThroughGoesOn, ShownIsThrough, ShownGoesOn, NoWakeUpIsLost, NumbersOfGuardsDiffer, ReportedStandAtClose, OneHolderAtClose, ReadsPassAtClose, LivesGoOn, EachStepIsReportedOnce, ResumedHasPassedEach, ResumedIsOneScan, RefusedPartwayGoesOn};
 ghost use Rattle.lt_table_core.specs.Reported.{StepIndicesRise};
-ghost use Rattle.lt_table_core.specs.Taken.{TakesJoin};
+ghost use Rattle.lt_table_core.specs.Taken.{RestJoins, TakesJoin};
+ghost use Rattle.lt_table_core.specs.Theorem.{TheMainTheorem, TheTheoremSoFar, FreshHaveHeardNothing, HearingGoesOn, ThroughIsTold, CloseIsEnd, RestIsEnd};
 
-use lt_words::laws::{one_holder_at_each_key, reads_pass_at_each_key};
+use lt_words::laws::{lets_stay, one_holder_at_each_key, parts_are_legal, reads_pass_at_each_key};
 
 /// The accesses of a request determine its key list.
 pub fn one_key_list()
@@ -23,6 +24,25 @@ pub fn reported_stand()
 /// is `Passed`.
 pub fn proceed_has_passed_each()
     ensures { ProceedHasPassedEach }
+{}
+
+/// Any number of scans that ended because memory ran out or a history was full, the first of which began at the list's
+/// start, and one more that answers `Proceed`, have together one answer for each key, in the list's order, and each is
+/// `Passed`. Between two of the scans the request's pass may see more and make other steps.
+pub fn resumed_has_passed_each()
+    ensures { ResumedHasPassedEach }
+{}
+
+/// Such scans, and one more, are as one scan of the request: with the steps and the answers of all, and with the last
+/// one's result.
+pub fn resumed_is_one_scan()
+    ensures { ResumedIsOneScan }
+{}
+
+/// How a caller comes to what these two laws take: each refused scan, and each call between two scans that leaves the
+/// request in its place, extends what was refused before.
+pub fn refused_partway_goes_on()
+    ensures { RefusedPartwayGoesOn }
 {}
 
 /// After a poll that answered `Through`, a scan is not refused at once.
@@ -68,6 +88,12 @@ pub fn takes_join()
     ensures { TakesJoin }
 {}
 
+/// The steps of a take, and then those that a close leaves of the shard, are the shard's final history from the take's
+/// first index on, if what is left begins where the take ended.
+pub fn rest_joins()
+    ensures { RestJoins }
+{}
+
 /// In what a close gives, no two transactions hold a key's lock at the same point of its history.
 pub fn one_holder_at_close()
     ensures { OneHolderAtClose }
@@ -92,4 +118,51 @@ pub fn lives_go_on()
 /// of the close.
 pub fn each_step_is_reported_once()
     ensures { EachStepIsReportedOnce }
+{}
+
+/// The main theorem. Each key step that a returned call reports stands with its reply in one legal table history, once
+/// and after all that its caller had seen; a request read as let through was let through in that history; no key ever
+/// has two holders; and a reader passes another transaction's lock only where its timestamp is below the lock's.
+pub fn main_theorem()
+    ensures { TheMainTheorem }
+{
+    one_holder_at_each_key();
+    reads_pass_at_each_key();
+    lets_stay();
+}
+
+/// The same of what callers have been told so far, while the table is open.
+pub fn theorem_so_far()
+    ensures { TheTheoremSoFar }
+{
+    one_holder_at_each_key();
+    reads_pass_at_each_key();
+    lets_stay();
+    parts_are_legal();
+}
+
+/// The passes that `open` hands out have different numbers, and their callers have been told nothing.
+pub fn fresh_have_heard_nothing()
+    ensures { FreshHaveHeardNothing }
+{}
+
+/// Each call of a pass extends what its caller was told.
+pub fn hearing_goes_on()
+    ensures { HearingGoesOn }
+{}
+
+/// A poll or a wait that answered `Through`, and a scan that went on after a let, tell their caller that its request was
+/// let through: no further call is needed to add that to what the caller was told.
+pub fn through_is_told()
+    ensures { ThroughIsTold }
+{}
+
+/// `close` tells an end of which the main theorem speaks.
+pub fn close_is_end()
+    ensures { CloseIsEnd }
+{}
+
+/// So does `close_rest`.
+pub fn rest_is_end()
+    ensures { RestIsEnd }
 {}

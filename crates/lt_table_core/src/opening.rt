@@ -1,14 +1,14 @@
 //! How is a table opened over a prepared book and one empty table for each shard?
 //!
 //! `lt_table` calls `open_with` and `open_waking_with` with linked tables. Read next `src/table.rt`.
-ghost use Rattle.std.specs.Prelude.{◌≡◌, ◌≤◌, ◌^◌, IfOk, length};
+ghost use Rattle.std.specs.Prelude.{◌≡◌, ◌≤◌, ◌^◌, IfOk, length, map};
 ghost use Rattle.std.specs.List.{All};
 ghost use Rattle.std.specs.FinMap as finmap;
 ghost use Rattle.lt_words.specs.Row.{fresh_passes};
-ghost use Rattle.lt_table_core.specs.Configs.{AreNewShards};
+ghost use Rattle.lt_table_core.specs.Configs.{AreNewShards, AreInPlace};
 
 use crate::config::Ready;
-use crate::table::{Slot, Table};
+use crate::table::{Label, Slot, Table};
 use lt_rules::KeyTable;
 use lt_shard::Shard;
 use lt_words::{Book, Name, Pass, Waker, abandon_all};
@@ -37,16 +37,23 @@ fn shards_over<N: Name, T: KeyTable + Drop>(
     Ok(shards)
 }
 
-/// Puts each shard behind a lock of its own.
+/// Puts each of these new shards behind a lock of its own, in order.
 fn slots_of<N: Name, T: KeyTable + Drop>(
     alloc: Global,
     shards: Vec<Shard<N, T>>,
+    max_steps: u64,
 ) -> Result<Vec<Slot<N, T>>, AllocError>
-    ensures { IfOk result (λ slots. length slots.items ≡ length shards.items) }
+    requires new { AreNewShards N.of max_steps shards.items }
+    ensures many { IfOk result (λ slots. length slots.items ≡ length shards.items) }
+    ensures each { IfOk result (λ slots. AreInPlace max_steps (map (λ s. s.label) slots.items)) }
 {
     let mut slots = Vec::new(alloc);
     for shard in shards {
-        slots.push(Slot::new(shard))?;
+        let label = Label {
+            index: slots.len(),
+            max_steps,
+        };
+        slots.push(Slot::new(shard, label))?;
     }
     Ok(slots)
 }
@@ -63,14 +70,19 @@ fn slots_over<N: Name, T: KeyTable + Drop>(
     requires empty { All (λ t. T.records t ≡ finmap.empty) tables.items }
     requires low { 1 ≤ max_steps }
     requires high { max_steps ≤ 2 ^ 32 }
-    ensures { IfOk result (λ slots. length slots.items ≡ N.of.shards) }
+    ensures many { IfOk result (λ slots. length slots.items ≡ N.of.shards) }
+    ensures each { IfOk result (λ slots. AreInPlace max_steps (map (λ s. s.label) slots.items)) }
 {
-    slots_of(alloc, shards_over(alloc, book, tables, max_steps)?)
+    let shards = shards_over(alloc, book, tables, max_steps)?;
+    slots_of(alloc, shards, max_steps)
 }
 
 /// Opens the table of a prepared book over these tables: one for each shard, in order, all of them empty. The
 /// passes have seen nothing and made no step. `N` names the book that was prepared. If an allocation fails, the
 /// passes are given up with the book.
+///
+/// Each lock is given the shard of its index, which has made no step and may hold as many steps as the configuration
+/// says: the invariant of [`Table`] asks for that.
 pub fn open_with<N: Name, T: KeyTable + Drop>(
     alloc: Global,
     ready: Ready,

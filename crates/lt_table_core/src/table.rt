@@ -3,6 +3,7 @@ ghost use Rattle.std.specs.Prelude.{◌≡◌, ◌≢◌, ◌<◌, true, IfOk, I
 ghost use Rattle.lt_rules.specs.Memory.{gives_up};
 ghost use Rattle.lt_entry.specs.Ranges.{NamesNumber};
 ghost use Rattle.lt_words.specs.History.{shard_of};
+ghost use Rattle.lt_shard.specs.Shards.{new_shard};
 ghost use Rattle.lt_table_core.specs.Reported.{ReportsCall};
 
 use crate::config::Config;
@@ -13,18 +14,41 @@ use lt_words::{Book, Keeping, Name, Pass, Waker, shard_of};
 use std::marker::Model;
 use std::sync::{Mutex, Wait};
 
+/// Which shard a slot was opened with: its index in the book, and how many steps it may hold.
+#[derive(Clone, Copy, Debug)]
+pub(crate) struct Label {
+    pub index: usize,
+    pub max_steps: u64,
+}
+
 /// A shard behind its lock. The padding keeps the lock and the hot fields of the next shard on other cache lines.
+///
+/// No contract says what a lock guards. So contracts follow a shard to its slot and no further, and `label` keeps
+/// what they knew of it there.
 #[derive(Drop)]
 pub(crate) struct Slot<N: Name, T: KeyTable> {
     pub lock: Mutex<Shard<N, T>>,
-    _rest: [u64; 8],
+    pub label: Label,
+    _rest: [u64; 6],
 }
 
 impl<N: Name, T: KeyTable> Slot<N, T> {
-    pub fn new(shard: Shard<N, T>) -> Slot<N, T> {
+    /// Puts a new shard, which is as the label says, behind its lock.
+    pub fn new(shard: Shard<N, T>, label: Label) -> Slot<N, T>
+        requires new { shard ≡ new_shard N.of label.index label.max_steps }
+        ensures label { result.label ≡ label }
+    {
+        Slot::back(shard, label)
+    }
+
+    /// Puts a shard that came out of the slot with this label back behind a lock.
+    pub fn back(shard: Shard<N, T>, label: Label) -> Slot<N, T>
+        ensures label { result.label ≡ label }
+    {
         Slot {
             lock: Mutex::new(shard),
-            _rest: [0; 8],
+            label,
+            _rest: [0; 6],
         }
     }
 
@@ -45,15 +69,17 @@ pub struct Table<N: Name, T: KeyTable, W: Waker = ()> {
 }
 
 impl<N: Name, T: KeyTable, W: Waker> Model for Table<N, T, W> {
-    ghost use Rattle.std.specs.Prelude.{◌≡◌, length};
+    ghost use Rattle.std.specs.Prelude.{◌≡◌, length, map};
     ghost use Rattle.lt_table_core.specs.declared.config.Config.{Config};
-    ghost use Rattle.lt_table_core.specs.Configs.{IsOpened};
+    ghost use Rattle.lt_table_core.specs.Configs.{IsOpened, AreInPlace};
 
     ghost Value = { Config };
 
     ghost view = { λ t. t.config };
 
-    ghost invariant = { λ t. IsOpened t.config N.of × (t.book ≡ N.of) × (length t.shards.items ≡ N.of.shards) };
+    ghost invariant = { λ t.
+        IsOpened t.config N.of × (t.book ≡ N.of) × (length t.shards.items ≡ N.of.shards)
+        × AreInPlace t.config.max_steps (map (λ s. s.label) t.shards.items) };
 }
 
 impl<N: Name, T: KeyTable, W: Waker> Table<N, T, W> {

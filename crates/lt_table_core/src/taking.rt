@@ -83,11 +83,10 @@ impl<N: Name, T: KeyTable, W: Waker> Table<N, T, W> {
             let mut locked = lock.lock(rt);
             let inside = &mut *locked;
             if inside.index() == index {
-                if inside.before() != reader.next {
-                    return Err(Gone(inside.before()));
-                }
-                let count = inside.count();
-                inside.take(rt, &self.book, pass, steps);
+                let count = match inside.take_next(rt, &self.book, pass, reader.next, steps) {
+                    Ok(count) => count,
+                    Err(gone) => return Err(Gone(gone)),
+                };
                 reader.next = count;
                 return Ok(());
             }

@@ -1,6 +1,6 @@
 //! Is a history legal? Its steps are repeated on a fresh plain table and compared.
 use lt_entry::Entry;
-use lt_ids::Through;
+use lt_ids::{MAX_PASS, Through};
 use lt_plain::PlainTable;
 use lt_rules::KeyTable;
 use std::alloc::Global;
@@ -8,7 +8,7 @@ use std::alloc::Global;
 /// Repeats the entry's step on the table, and compares the reply and the lets. None if an allocation fails.
 fn is_made_again<T: KeyTable>(alloc: Global, table: &mut T, entry: &Entry) -> Option<bool> {
     let pass = entry.pass();
-    if pass < 1 || 1024 < pass {
+    if pass < 1 || MAX_PASS < pass {
         return Some(false);
     }
     let mut lets: Vec<Through> = Vec::new(alloc);

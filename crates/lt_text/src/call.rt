@@ -7,6 +7,7 @@ ghost use Rattle.lt_text.specs.Calls.{Gives, bound_at, visit_at, acquire_at, upd
 use crate::field::{access, bound, is_bound, owner, ticket, timestamp, txn};
 use crate::number::number;
 use crate::words::Words;
+use lt_ids::MAX_REQUEST;
 use lt_rules::Call;
 
 /// The bound at the start of the remaining words, or 0 if the next word does not begin as a bound does.
@@ -65,7 +66,7 @@ pub fn request_number(word: &[u8]) -> Option<u64>
     ensures { result ≡ number_within 1 (2 ^ 40) word.now }
 {
     let n = number(word)?;
-    if n == 0 || n >= 1 << 40 {
+    if n == 0 || n > MAX_REQUEST {
         return None;
     }
     Some(n)

@@ -15,6 +15,7 @@ use Rattle.lt_words.specs.Rules.{word_at, shards_in, passes_in, keeping_in, hist
 use Rattle.lt_entry.specs.declared.entry.Entry.{Entry}
 use Rattle.lt_rules.specs.declared.call.Call.{Call}
 use Rattle.lt_rules.specs.declared.call.Reply.{Reply}
+use Rattle.lt_ids.specs.declared.limits.TheConstants.{MAX_PASS}
 
 -- the entry with these parts
 abbrev pub made : List ℕ → ℕ → Call → Reply → List Through → Entry
@@ -25,7 +26,7 @@ pub record AreSizes (shards passes : ℕ) : Type 0 where
   pub some_shards : 0 < shards
   pub few_shards : shards ≤ 64
   pub some_passes : 0 < passes
-  pub few_passes : passes ≤ 1024
+  pub few_passes : passes ≤ MAX_PASS
 
 -- which book it is, its numbers of shards and passes, and how its table keeps the steps that are made of it
 pub record Opening : Type 0 where
@@ -83,7 +84,7 @@ pass_state number sight counts = record { of = sight.of; number = number; seen =
 pub record IsPass (p : PassState) : Type 0 where
   pub low : 0 < p.number
   pub high : p.number ≤ p.of.passes
-  pub few : p.number ≤ 1024
+  pub few : p.number ≤ MAX_PASS
   pub many : length p.counts ≡ p.of.shards
   pub within : (s : ℕ) → slice_index p.counts s ≤ length (part s p.seen)
 

@@ -70,7 +70,7 @@ fn expect_owned(rt: &impl Abort, links: &Links, number: u64, nodes: &[NodeId]) {
 
 #[test]
 fn nodes_are_found_from_both_ends_and_by_their_number(rt: HostRuntime) -> Result<(), Fail> {
-    let mut links = Links::new(rt.alloc());
+    let mut links = Links::new(rt.alloc(), 0);
     let id = links.add_record()?;
     let writers = Queue {
         id,
@@ -109,7 +109,7 @@ fn expect_len(rt: &impl Abort, links: &Links, queue: &Queue, len: usize) {
 
 #[test]
 fn a_queue_counts_its_nodes(rt: HostRuntime) -> Result<(), Fail> {
-    let mut links = Links::new(rt.alloc());
+    let mut links = Links::new(rt.alloc(), 0);
     let id = links.add_record()?;
     let writers = Queue {
         id,
@@ -254,8 +254,8 @@ fn grow_fourteen_times(
 // repeats it, and gets the same answer from both links.
 #[test]
 fn refused_memory_changes_no_later_answer(rt: HostRuntime) -> Result<(), Fail> {
-    let mut one = Links::new(rt.alloc());
-    let mut other = Links::new(rt.alloc());
+    let mut one = Links::new(rt.alloc(), 0);
+    let mut other = Links::new(rt.alloc(), 0);
     grow_fourteen_times(&rt, &mut one, &mut other)?;
     Ok(())
 }

@@ -22,7 +22,7 @@ slots_over-requires-clause-book g c = ap (λ r. r.of) c.ready.view_is ∙ c.requ
 pub invariant_of-table : goal.invariant_of-table
 invariant_of-table g c =
     let same : c.ready.inside.book ≡ g.N.Name.of = ap (λ r. r.of) c.ready.view_is ∙ c.requires.named in
-    (subst (λ (of : Opening). IsOpened c.ready.inside.config of) same c.ready.invariant.0, same, c.in-Ok.ensures)
+    (subst (λ (of : Opening). IsOpened c.ready.inside.config of) same c.ready.invariant.0, same, c.in-Ok.ensures.many, c.in-Ok.ensures.each)
 
 pub returns-clause-config : goal.returns-clause-config
 returns-clause-config g c = ap (λ r. r.config) c.ready.view_is

@@ -14,7 +14,7 @@ use Rattle.lt_links.proofs.Counts.{AreCounted-with, len_below_slots, Links-recou
 use Rattle.lt_links.proofs.Shows.{IsSound-links}
 use Rattle.lt_links.specs.Tallies.{is_node_of, AreTallied}
 use Rattle.lt_links.specs.Maps.{stand}
-use Rattle.lt_links.proofs.Tallies.{AreTallied-same, AreTallied-in, AreTallied-back, stored_kept}
+use Rattle.lt_links.proofs.Tallies.{AreTallied-same, AreTallied-in, AreTallied-back}
 use Rattle.lt_links.proofs.links.Links.put_after.Goals as goal
 
 on_err : {T E P : Type 0} (r : Result T E) → P → OnErr r P
@@ -44,7 +44,7 @@ invariant_of-self-in_err-tally_in c =
         links = Links-slots c.self.inside.nodes c.reserve.new.self c.self.inside.heads c.self.inside.owners inv.queues inv.numbers (ap (λ s. s.slots) c.reserve.ensures.rest_kept) inv.links;
         lens = inv.lens;
       },
-      AreTallied-same (maps_of c.self.inside.nodes c.self.inside.heads c.self.inside.owners) _ c.self.inside.txns c.tally_in.new.txns (λ i t. ap (λ (m : Maps). is_node_of (stand m i) t) maps) (stored_kept c.self.inside.txns c.tally_in.new.txns c.in_err-tally_in.ensures.err) c.self.invariant.1,
+      AreTallied-same (maps_of c.self.inside.nodes c.self.inside.heads c.self.inside.owners) _ c.self.inside.txns c.tally_in.new.txns (λ i t. ap (λ (m : Maps). is_node_of (stand m i) t) maps) c.in_err-tally_in.ensures.err c.self.invariant.1,
     )
 
 pub invariant_of-self-in_default : goal.invariant_of-self-in_default

@@ -9,7 +9,7 @@ use Rattle.lt_links.specs.View.{maps_of}
 use Rattle.lt_links.proofs.Edits.{Links-set, SetsStand-set, number_there, number_same}
 use Rattle.lt_links.proofs.Shows.{IsSound-links}
 use Rattle.lt_links.proofs.Steps.{stand_found}
-use Rattle.lt_links.proofs.Tallies.{AreTallied-same, AreTallied-retallied, out_positive, stored_kept}
+use Rattle.lt_links.proofs.Tallies.{AreTallied-same, AreTallied-retallied, out_positive}
 use Rattle.lt_links.proofs.links.Links.set_stand.Goals as goal
 
 pub index-requires : goal.index-requires
@@ -24,7 +24,7 @@ retally-requires c =
 
 pub invariant_of-self : goal.invariant_of-self
 invariant_of-self c =
-    (c.self.invariant.0, AreTallied-same _ _ c.self.inside.txns c.retally.new.txns (λ i t. refl) (stored_kept c.self.inside.txns c.retally.new.txns c.in_err-retally.ensures.err) c.self.invariant.1)
+    (c.self.invariant.0, AreTallied-same _ _ c.self.inside.txns c.retally.new.txns (λ i t. refl) c.in_err-retally.ensures.err c.self.invariant.1)
 
 pub returns-in_err-retally-clause-same_txn : goal.returns-in_err-retally-clause-same_txn
 returns-in_err-retally-clause-same_txn c = λ same.

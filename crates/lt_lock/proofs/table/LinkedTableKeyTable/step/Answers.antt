@@ -1,4 +1,5 @@
-use Rattle.std.proofs.Common.{◌≡◌, ◌∙◌, IsSome, vec_capacity, None, refl, sym, ap, subst}
+use Rattle.std.proofs.Common.{rules, ◌≡◌, ◌∙◌, IsSome, vec_capacity, None, refl, sym, ap, subst}
+use mathlib.Core.Bool.{true≢false}
 use Rattle.std.proofs.lemmas.Result.{IfOk-weaker, on_err_weaker}
 use Rattle.std.specs.FinMap as finmap
 use Rattle.lt_rules.specs.Rules.{TakesNoMemory, empty}
@@ -52,6 +53,12 @@ returns-then-has_no_lock-clause-full c =
 pub returns-then-has_no_lock-clause-room : goal.returns-then-has_no_lock-clause-room
 returns-then-has_no_lock-clause-room c = λ has. subst (λ m. HasRoom (with_lone c.step_first.new.lone m) (vec_capacity c.args.lets.now)) (sym (rows_none c)) (nobody_waits c.step_first.new.lone (vec_capacity c.args.lets.now))
 
+-- the lone lock got no row
+pub returns-in_err-add_row-clause-sound : goal.returns-in_err-add_row-clause-sound
+returns-in_err-add_row-clause-sound c = sound_with c.add_row.new.lone c.add_row.new.rows c.add_row.ensures.with_lone
+
 -- the rows made the step
 pub returns-clause-sound : goal.returns-clause-sound
-returns-clause-sound c = sound_with c.step_rows.new.lone c.step_rows.new.rows c.step_rows.ensures.with_lone
+returns-clause-sound c =
+    let none : c.add_row.new.lone ≡ None = search rules in
+    sound_with c.add_row.new.lone c.step.new.self (record { alone = λ some. absurd (true≢false (sym (subst IsSome none some))); sound = c.step.ensures.sound })

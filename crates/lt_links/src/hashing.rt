@@ -1,4 +1,4 @@
-//! How does a table hash its keys? By the kit's hasher, from a start that each table has for itself. So whoever
+//! How are the keys of a hash map hashed, be they the keys of a table or numbers? By the kit's hasher, from a start that each table has for itself. So whoever
 //! chooses the keys does not know which of them meet, unless he knows the start. The hash is not cryptographic.
 ghost use Rattle.std.specs.Prelude.{◌≡◌};
 
@@ -6,7 +6,7 @@ use std::hash::{BuildHasher, FoldHasher, Hasher};
 
 /// Makes the hasher for each key: one that has read the table's start.
 #[derive(Clone, Copy)]
-pub(crate) struct KeyHashing {
+pub struct KeyHashing {
     first: FoldHasher,
 }
 

@@ -1,0 +1,7 @@
+use Rattle.lt_theorem_tests.proofs.Hearing.{told_left}
+use Rattle.lt_theorem_tests.proofs.caller.leave.Goals as goal
+
+pub returns-then-note_all-clause-told : goal.returns-then-note_all-clause-told
+returns-then-note_all-clause-told g c =
+    rw (c.if-note_all.ensures, c.deref.ensures.value, c.into_parts-guard.ensures.notes)
+    (told_left c.hearing_goes_on.ensures c.args.requester.guard c.into_parts-guard.result.0 c.in-Ok.field-0.pass _ _ _ c.into_parts-guard.ensures.guard c.requires.staying c.in-Ok.ensures.leave c.requires.told)
