@@ -1,0 +1,8 @@
+mod Lists
+mod Owned
+mod Holders
+mod Held
+mod Serial
+mod Committed
+mod Ordered
+mod Example

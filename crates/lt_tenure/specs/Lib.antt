@@ -1,0 +1,4 @@
+pub mod Tenure
+pub mod Committed
+pub mod Laws
+pub mod Example
