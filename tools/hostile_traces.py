@@ -94,6 +94,13 @@ def run_trial(run, trial, **refused):
         return Ran(status, out, drawn, err, sorted({*os.listdir(folder)} - {'text', 'picture'})), counts
 
 
+# What `explain` says if the second reading of a faulty file fails.
+NOT_READ_AGAIN = b'no explanation: read a second time, the file failed or had changed\n'
+
+# How the message of a failed temporary file begins; its folder comes after it.
+TEMPORARY = b'cannot use a temporary file in '
+
+
 def is_as_documented(trial, kind, is_last, ran, whole):
     """Whether a run ended as docs/FORMATS.md says if something of this kind was refused, the last of its kind or not. `whole` is how it
     ends otherwise. A short write changes nothing, of refused memory a smaller piece may be enough, and a check of a file reads a piece
@@ -105,14 +112,18 @@ def is_as_documented(trial, kind, is_last, ran, whole):
     is_prefix = whole.out.startswith(ran.out) and whole.picture.startswith(ran.picture)
     has_nothing = not ran.out and not ran.picture
     command = trial.words.split(' ')[0]
+    if (command, kind) == ('explain', 'refuse_read') and whole.status == 1:
+        verdict = whole.out[:whole.out.index(b'\n') + 1]  # the second reading failed
+        if ran == whole._replace(out=verdict + NOT_READ_AGAIN):
+            return True
     endings = {
         'refuse_memory': [(4, b'memory', command == 'show')],
-        'refuse_read': [(5, b'read', command == 'show'), (5, b'temporary file', False)],
-        'refuse_write': [(5, b'write', True), (5, b'temporary file', False)],
+        'refuse_read': [(5, b'cannot read ', command == 'show'), (5, TEMPORARY, False)],
+        'refuse_write': [(5, b'cannot write ', True), (5, TEMPORARY, False)],
     }
     for status, message, may_be_prefix in endings.get(kind, []):
-        if (ran.status, ran.err, ran.left) == (status, b'locktrace: %s\n' % message, []):
-            may_end_so = message != b'temporary file' or '--temporary' in trial.words
+        if (ran.status, ran.left) == (status, []) and ran.err.startswith(b'locktrace: ' + message) and ran.err.count(b'\n') == 1:
+            may_end_so = message != TEMPORARY or '--temporary' in trial.words
             return may_end_so and (is_prefix if may_be_prefix else has_nothing)
     return False
 
@@ -161,7 +172,8 @@ def write_to_full_device(report):
             run = to_full_device
         ran, _ = run_trial(run, trial)
         tried += 1
-        if ran != Ran(5, b'', b'', b'locktrace: write\n', []):
+        target = b'/dev/full' if '/dev/full' in trial.words else b'standard output'
+        if ran != Ran(5, b'', b'', b'locktrace: cannot write %s: no space is left\n' % target, []):
             faults.append(f'{trial.words}, {trial.ending[1]!r}: status {ran.status}, {ran.err!r}')
     report.tell(f'locktrace: {tried} commands that write to a full device', faults)
 
@@ -195,7 +207,7 @@ LIMITS = [(0, '1', False), (10, '1', False), (100, '1', False), (1000, '1', Fals
 def fill_folders(report):
     """Sorts whose temporary files cannot be made, or cannot grow."""
     keys = all_keys()
-    full = Ran(5, b'', b'', b'locktrace: temporary file\n', [])
+    full = Ran(5, b'', b'', b'', [])
     killed = Ran(-signal.SIGXFSZ, b'', b'', b'', [])
     whole = Ran(0, text_of(keys), b'', b'', [])
     rows = [('{folder}/absent', '1', plainly, full), ('/dev/null', '1', plainly, full)]
@@ -209,6 +221,10 @@ def fill_folders(report):
     for number, (folder, memory, run, expected) in enumerate(rows):
         trial = Trial(f'sort --memory {memory} --temporary {folder}', trace_of(keys, 'words'), None)
         ran, _ = run_trial(run, trial)
+        if expected is full and ran.err.startswith(b'locktrace: ' + TEMPORARY) and ran.err.count(b'\n') == 1:
+            ran = ran._replace(err=b'')
+        elif expected is full:
+            faults.append(f'row {number}, {trial.words}: no temporary file is named')
         if ran != expected:
             faults.append(f'row {number}, {trial.words}: {said_of(ran)}')
     report.tell(f"locktrace: {len(rows)} sorts whose temporary folder is absent, limited{' or full' if can_mount else ''}", faults)
@@ -249,19 +265,17 @@ class Cutter:
         status, err = (1, f'locktrace: {verdict}\n'.encode()) if found else LEGAL
         by_lockrun = plainly([built('lockrun'), 'check'], front)[:3]
         explained = self.answer(['explain', file])
-        begin = b'' if not found or found[0] == 1 else verdict.encode() + b'\n    ' + front.split(b'\n')[found[0] - 1] + b'\n'
+        begin = verdict.encode() + b'\n    ' + front.split(b'\n')[found[0] - 1] + b'\n' if found else report
         return (
             by_lockrun == (status, report, err.replace(b'locktrace', b'lockrun'))
             and self.answer(['check'], front) == self.answer(['check', file]) == (status, report, err)
             and (explained[0], explained[2]) == (status, err)
-            and (explained[1].startswith(begin or report) if begin or report else not explained[1])
+            and explained[1].startswith(begin)
             and self.is_table_right(self.answer(['show', file]), table, max(steps, 0), status, err)
         )
 
     def is_table_right(self, shown, table, steps, status, err):
-        """Whether `show` wrote the rows of so many steps, and ended as `check` does, unless there is no step."""
-        if not steps and not status:
-            return shown == (1, b'', b'locktrace: no such step\n')
+        """Whether `show` wrote the rows of so many steps, and ended as `check` does."""
         lines = table.splitlines(True)
         rows = [at for at, line in enumerate(lines) if re.match(rb' *\d', line)]
         return shown == (status, b''.join(lines[:rows[steps - 1] + 1]) if steps else b'', err)

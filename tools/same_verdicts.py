@@ -7,7 +7,7 @@ The programs are those of crates/lockrun/out and crates/locktrace/out, unless th
 histories, or in one case of sixteen a text of some 150 KiB made of them. Bytes of it are changed as there, or a word of a line is
 replaced by another word of the same kind, or a line loses its last word, or two lines exchange their steps. Both checks must end
 with the same status, write the same, and name the same line and fault; `locktrace check` reads a file and standard input in turn.
-Where a line is refused, `explain` must name it and quote it, and say what the rules give if they were asked. The last line has how
+Where a line is refused, `explain` must name it and quote it in printable bytes, and say what the rules give if they were asked. The last line has how
 often each verdict came about: `N texts: .., W wrong`.
 """
 
@@ -86,6 +86,11 @@ def text_of(seed):
     return (changed if rng.randrange(2) else with_changed_words)(rng, text)
 
 
+def printable(line):
+    """The bytes as `explain` writes them."""
+    return b''.join(b'%c' % byte if 32 <= byte <= 126 else b'\\x%02X' % byte for byte in line)
+
+
 class Programs:
     """The two programs, with a file for each thread."""
 
@@ -114,7 +119,8 @@ class Programs:
         explained = self.answer(self.locktrace, ['explain', file])
         line, fault = int(refusal[1]), refusal[2].decode()
         quoted = text.split(b'\n')[line - 1]
-        begin = b'' if fault == 'Header' else err + b'    ' + quoted + b'\n'
+        quoted = printable(quoted[:80] if fault == 'Header' else quoted)
+        begin = err + b'    ' + quoted + b'\n'
         has_rules = b'\nthe rules give:\n' in explained[1].replace(quoted, b'', 1)
         is_explained = explained[0] == 1 and explained[2] == err and explained[1].startswith(begin)
         is_right = (status, out) == (1, b'') and is_explained and (has_rules or not fault.startswith('Wrong'))

@@ -47,6 +47,9 @@
  * table owns is memory of the three functions below, which work on every thread; and no two calls use one table at the
  * same time. The Rust type LockTable is Send for these reasons.
  *
+ * WAITING. The table says who waits and who is let through. How a caller waits and is woken is up to the program, and a
+ * caller that gives up leaves. The head of bindings/rust/src/sync/mod.rs has six rules for this. They hold in C too.
+ *
  * CODES. A call answers one code. From LT_FIRST_REPLY on it is a reply of the rules, and the call took effect. Below
  * that it is LT_DONE or a refusal. A call that is refused changes nothing: the table, the lets that are left, and what
  * the caller's pointers point to are as they were. (lt_check alone fills its report also for a text that it refuses.)

@@ -1,27 +1,49 @@
-//! Where is the archive? In the folder that LOCKTABLE_LIB names, or else `rt lib` builds it from crates/lt_c, which
-//! proves that crate and every crate below it.
+//! Where is the archive? In the folder that `LOCKTABLE_LIB` names, or else `rt lib` builds it from `crates/lt_c`. That
+//! proves `lt_c` and every crate below it, which takes long. `crates.txt` says which crates these are, and after a change
+//! in any of them the archive is built again.
 
+use std::collections::BTreeSet;
+use std::fmt::Display;
+use std::fs;
 use std::path::{Path, PathBuf};
 use std::process::{exit, Command};
 
+/// The folders of a crate that go into its library.
+const PARTS: [&str; 3] = ["src", "specs", "proofs"];
+
 /// Ends the build, and says why.
-fn stop(why: String) -> ! {
+fn stop(why: &dyn Display) -> ! {
     eprintln!("locktable: {why}; set LOCKTABLE_LIB to the folder of liblt_c.a, or build where rt is");
     exit(1)
 }
 
+/// The crate and those below it: a line of `crates.txt` is a crate, perhaps with options, a colon, and what it uses.
+fn with_those_below<'a>(name: &'a str, list: &'a str, found: &mut BTreeSet<&'a str>) {
+    let of_name = |line: &&str| line.split([' ', ':']).next() == Some(name);
+    if let Some((_, uses)) = list.lines().find(of_name).and_then(|line| line.split_once(':')) {
+        if found.insert(name) {
+            uses.split_whitespace().for_each(|below| with_those_below(below, list, found));
+        }
+    }
+}
+
 fn built() -> PathBuf {
-    let source = Path::new(env!("CARGO_MANIFEST_DIR")).join("../../crates/lt_c");
-    if !source.is_dir() {
-        stop(format!("there is no folder {}", source.display()));
+    let top = Path::new(env!("CARGO_MANIFEST_DIR")).join("../..");
+    let list = top.join("crates.txt");
+    let text = fs::read_to_string(&list).unwrap_or_else(|error| stop(&format!("{}: {error}", list.display())));
+    let mut crates = BTreeSet::new();
+    with_those_below("lt_c", &text, &mut crates);
+    let parts = crates.iter().flat_map(|name| PARTS.map(|part| top.join("crates").join(name).join(part)));
+    for watched in parts.filter(|part| part.is_dir()).chain([list]) {
+        println!("cargo:rerun-if-changed={}", watched.display());
     }
-    for part in ["src", "specs", "proofs"] {
-        println!("cargo:rerun-if-changed={}", source.join(part).display());
-    }
+    println!("cargo:warning=rt lib has proved lt_c and all below it. LOCKTABLE_LIB=FOLDER takes an archive instead");
+    eprintln!("locktable: rt lib proves {}", crates.into_iter().collect::<Vec<_>>().join(", "));
+    let source = top.join("crates/lt_c");
     match Command::new("rt").arg("lib").current_dir(&source).status() {
         Ok(status) if status.success() => source.join("out"),
-        Ok(status) => stop(format!("rt lib in {}: {status}", source.display())),
-        Err(error) => stop(format!("rt lib: {error}")),
+        Ok(status) => stop(&format!("rt lib in {}: {status}", source.display())),
+        Err(error) => stop(&format!("rt lib: {error}")),
     }
 }
 
@@ -34,7 +56,7 @@ fn main() {
     let folder = given.unwrap_or_else(built);
     let archive = folder.join("liblt_c.a");
     if !archive.is_file() {
-        stop(format!("there is no archive {}", archive.display()));
+        stop(&format!("there is no archive {}", archive.display()));
     }
     println!("cargo:rustc-link-search=native={}", folder.display());
     println!("cargo:rustc-link-lib=static=lt_c");

@@ -22,7 +22,7 @@
 #[path = "../../rust/tests/rules/mod.rs"]
 mod rules;
 
-use locktable::{Access, LockTable, Reply, Request, Through, Timestamp, TxnId};
+use locktable::{Access, LockTable, Reply, Request, Through, Ticket, Timestamp, TxnId};
 use rules::PlainTable;
 use std::hint::black_box;
 use std::process::ExitCode;
@@ -138,7 +138,8 @@ fn two_keys<T: Table>(table: &mut T, lets: &mut Vec<Through>, keys: &[String], r
     for round in 1..=rounds {
         let (first, second) = (black_box(next_key()), black_box(next_key()));
         let (txn, ts) = (TxnId::new(round).expect("rounds are counted from 1"), Timestamp { wall: round, logical: 0 });
-        let writes = Request { txn: Some(txn), ..Request::new(round, ts, Access::Write) };
+        let first_wait = Ticket { number: round, wait: 1 };
+        let writes = Request { txn: Some(txn), ..Request::new(first_wait, 1, ts, Access::Write) };
         let reads = Request { access: Access::Read, ..writes };
         assert_eq!(table.visit(first, &writes, lets), Some(Reply::Passed));
         assert_eq!(table.visit(second, &reads, lets), Some(Reply::Passed));

@@ -297,12 +297,20 @@ fn block_at(at: *mut c_void) -> Block {
 // block is aligned to 16 bytes, which is the most that the archive asks for.
 #[no_mangle]
 unsafe extern "C" fn rattle_alloc(size: usize, align: usize) -> Block {
+    #[cfg(test)]
+    if scarce::refuses() {
+        return block_at(core::ptr::null_mut());
+    }
     block_at(malloc(if size > 0 { size } else { align }))
 }
 
 // SAFETY: as `rattle_alloc`; `at` is a block that one of these two functions gave and that was not freed.
 #[no_mangle]
 unsafe extern "C" fn rattle_realloc(at: *mut c_void, _kept: usize, size: usize, align: usize) -> Block {
+    #[cfg(test)]
+    if scarce::refuses() {
+        return block_at(core::ptr::null_mut());
+    }
     block_at(realloc(at, if size > 0 { size } else { align }))
 }
 
@@ -310,4 +318,31 @@ unsafe extern "C" fn rattle_realloc(at: *mut c_void, _kept: usize, size: usize, 
 #[no_mangle]
 unsafe extern "C" fn rattle_dealloc(at: *mut c_void) {
     free(at);
+}
+
+/// For tests: which requests of the archive for memory fail on this thread.
+#[cfg(test)]
+pub(crate) mod scarce {
+    use std::cell::Cell;
+
+    std::thread_local! {
+        /// How many requests succeed, and how many fail after them.
+        static NEXT: Cell<(u32, u32)> = const { Cell::new((0, 0)) };
+    }
+
+    pub(crate) fn fail(after: u32, many: u32) {
+        NEXT.set((after, many));
+    }
+
+    /// No more requests fail. Answers whether all that were to fail did.
+    pub(crate) fn stop() -> bool {
+        NEXT.replace((0, 0)).1 == 0
+    }
+
+    /// Whether this request fails.
+    pub(super) fn refuses() -> bool {
+        let (after, many) = NEXT.get();
+        NEXT.set(if after > 0 { (after - 1, many) } else { (0, many.saturating_sub(1)) });
+        after == 0 && many > 0
+    }
 }

@@ -17,6 +17,7 @@ pub struct Report {
 
 /// What is wrong in a line, in the order in which each line is tested.
 #[derive(Clone, Copy, Debug, PartialEq, Eq, Hash)]
+#[non_exhaustive]
 pub enum Fault {
     /// The first line is not that of a version.
     Header,
@@ -32,8 +33,23 @@ pub enum Fault {
     WrongLets,
 }
 
+/// The name that `lockrun check` and `locktrace check` print.
+impl fmt::Display for Fault {
+    fn fmt(&self, f: &mut fmt::Formatter<'_>) -> fmt::Result {
+        f.write_str(match self {
+            Fault::Header => "Header",
+            Fault::Shape => "Shape",
+            Fault::KeyOrder => "KeyOrder",
+            Fault::Index => "Index",
+            Fault::WrongReply => "WrongReply",
+            Fault::WrongLets => "WrongLets",
+        })
+    }
+}
+
 /// Why a text was not accepted.
 #[derive(Clone, Copy, Debug, PartialEq, Eq, Hash)]
+#[non_exhaustive]
 pub enum CheckError {
     /// The text is not legal.
     Refused {
@@ -49,7 +65,7 @@ pub enum CheckError {
 impl fmt::Display for CheckError {
     fn fmt(&self, f: &mut fmt::Formatter<'_>) -> fmt::Result {
         match self {
-            CheckError::Refused { line, fault } => write!(f, "line {line}: {fault:?}"),
+            CheckError::Refused { line, fault } => write!(f, "line {line}: {fault}"),
             CheckError::Memory => f.write_str("an allocation failed"),
         }
     }
@@ -59,6 +75,11 @@ impl Error for CheckError {}
 
 /// Checks whether a text is a text of legal histories (`docs/FORMATS.md`, "The text of key histories"). It accepts
 /// exactly the legal texts, and otherwise names the first fault of the first faulty line. The text may have any length.
+///
+/// # Errors
+///
+/// [`CheckError::Refused`] for every text that is not legal; [`CheckError::Memory`] if an allocation failed before that
+/// was known.
 ///
 /// ```
 /// use locktable::{check, CheckError, Fault};

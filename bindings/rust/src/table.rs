@@ -19,7 +19,8 @@ const NO_LET: Through = Through { number: 0, wait: 0, pass: 0 };
 ///
 /// A step (`visit`, `acquire`, `update`, `finish`, `leave`) changes the record of one key as `docs/RULES.md` says. It
 /// empties `lets` and fills it with the requests that it let through, in order. A caller hands in the same vector each
-/// time, so that it is allocated once. The caller wakes these requests: the table does not know how they wait.
+/// time, so that it is allocated once. The caller wakes these requests, of every step: the table does not know how they
+/// wait. The [`sync`](crate::sync) module does that. Its head has the rules for a caller that does it by other means.
 ///
 /// Dropping the table frees all of its memory, also if keys are held.
 ///
@@ -56,8 +57,12 @@ pub struct LockTable {
 }
 
 impl LockTable {
-    /// Opens an empty table. It is refused only for memory. Its keys are hashed from a start that nobody can guess, as
-    /// those of the standard library's `HashMap` are.
+    /// Opens an empty table. Its keys are hashed from a start that nobody can guess, as those of the standard library's
+    /// `HashMap` are.
+    ///
+    /// # Errors
+    ///
+    /// [`Refused::Memory`].
     pub fn open() -> Result<LockTable, Refused> {
         match Handle::open(RandomState::new().build_hasher().finish()) {
             Ok(handle) => Ok(LockTable { handle, room: [NO_LET; ROOM] }),
@@ -67,6 +72,13 @@ impl LockTable {
 
     /// A request visits the key to read or to write: [`Reply::Passed`], [`Reply::MustWait`] or [`Reply::TooLong`]. A
     /// visit lets nobody through.
+    ///
+    /// A visit that passed holds nothing: another transaction may take the lock before the request acquires it.
+    ///
+    /// # Errors
+    ///
+    /// The first of these that applies: [`Refused::Number`], [`Refused::Wait`], [`Refused::Pass`], [`Refused::KeyEmpty`],
+    /// [`Refused::KeyLong`], [`Refused::KeyByte`], [`Refused::Memory`].
     #[inline]
     pub fn visit(&mut self, key: &[u8], request: &Request, lets: &mut Vec<Through>) -> Result<Reply, Refused> {
         let request = RawRequest {
@@ -84,6 +96,11 @@ impl LockTable {
 
     /// A transaction takes the lock, or raises the timestamp at which it holds the lock: [`Reply::Taken`],
     /// [`Reply::Kept`], [`Reply::Raised`] or [`Reply::Other`].
+    ///
+    /// # Errors
+    ///
+    /// The first of these that applies: [`Refused::KeyEmpty`], [`Refused::KeyLong`], [`Refused::KeyByte`],
+    /// [`Refused::Memory`].
     #[inline]
     pub fn acquire(
         &mut self,
@@ -98,6 +115,11 @@ impl LockTable {
 
     /// A transaction raises the timestamp at which it holds the lock: [`Reply::Kept`], [`Reply::Raised`] or
     /// [`Reply::Other`].
+    ///
+    /// # Errors
+    ///
+    /// The first of these that applies: [`Refused::KeyEmpty`], [`Refused::KeyLong`], [`Refused::KeyByte`],
+    /// [`Refused::Memory`].
     #[inline]
     pub fn update(&mut self, key: &[u8], txn: TxnId, ts: Timestamp, lets: &mut Vec<Through>) -> Result<Reply, Refused> {
         let by = raw_txn(txn, ts);
@@ -105,12 +127,22 @@ impl LockTable {
     }
 
     /// A transaction releases the lock: [`Reply::Freed`] or [`Reply::Other`].
+    ///
+    /// # Errors
+    ///
+    /// The first of these that applies: [`Refused::KeyEmpty`], [`Refused::KeyLong`], [`Refused::KeyByte`],
+    /// [`Refused::Memory`], which a key of at most 22 bytes never meets here.
     #[inline]
     pub fn finish(&mut self, key: &[u8], txn: TxnId, lets: &mut Vec<Through>) -> Result<Reply, Refused> {
         self.step(lets, |handle, room, count| handle.finish(key, txn.get(), room, count))
     }
 
     /// The request with this number gives up its reservation, or stops waiting: [`Reply::Left`] or [`Reply::Absent`].
+    ///
+    /// # Errors
+    ///
+    /// The first of these that applies: [`Refused::KeyEmpty`], [`Refused::KeyLong`], [`Refused::KeyByte`],
+    /// [`Refused::Memory`], which a key of at most 22 bytes never meets here.
     #[inline]
     pub fn leave(&mut self, key: &[u8], number: u64, lets: &mut Vec<Through>) -> Result<Reply, Refused> {
         self.step(lets, |handle, room, count| handle.leave(key, number, room, count))
@@ -118,13 +150,19 @@ impl LockTable {
 
     /// What the request with this number finds at the key.
     ///
+    /// # Errors
+    ///
+    /// The first of these that applies: [`Refused::KeyEmpty`], [`Refused::KeyLong`], [`Refused::KeyByte`],
+    /// [`Refused::Memory`].
+    ///
     /// ```
-    /// use locktable::{Access, Found, LockTable, Request, Timestamp, TxnId};
+    /// use locktable::{Access, Found, LockTable, Reply, Request, Ticket, Timestamp, TxnId};
     /// # fn main() -> Result<(), locktable::Refused> {
     /// let (nine, ts, mut lets) = (TxnId::new(9).unwrap(), Timestamp::default(), Vec::new());
     /// let mut table = LockTable::open()?;
-    /// table.acquire(b"a", nine, ts, &mut lets)?;
-    /// table.visit(b"a", &Request::new(1, ts, Access::Read), &mut lets)?;
+    /// assert_eq!(table.acquire(b"a", nine, ts, &mut lets)?, Reply::Taken);
+    /// let first_wait = Ticket { number: 1, wait: 1 };
+    /// assert_eq!(table.visit(b"a", &Request::new(first_wait, 5, ts, Access::Read), &mut lets)?, Reply::MustWait);
     /// assert_eq!(table.look(b"a", 1)?, Found::WaitFirst { txn: nine, held: true });
     /// assert_eq!(table.look(b"a", 2)?, Found::Nothing);
     /// # Ok(())
@@ -151,12 +189,18 @@ impl LockTable {
     /// The record of the key, with its queues. A key without a record has the default one. The call takes time in
     /// proportion to the square of the queues, so it is for inspection and not for each request.
     ///
+    /// # Errors
+    ///
+    /// The first of these that applies: [`Refused::KeyEmpty`], [`Refused::KeyLong`], [`Refused::KeyByte`],
+    /// [`Refused::Memory`].
+    ///
     /// ```
-    /// use locktable::{LockTable, Timestamp, TxnId};
+    /// use locktable::{LockTable, Reply, Timestamp, TxnId};
     /// # fn main() -> Result<(), locktable::Refused> {
     /// let nine = TxnId::new(9).unwrap();
     /// let mut table = LockTable::open()?;
-    /// table.acquire(b"a", nine, Timestamp { wall: 10, logical: 1 }, &mut Vec::new())?;
+    /// let ts = Timestamp { wall: 10, logical: 1 };
+    /// assert_eq!(table.acquire(b"a", nine, ts, &mut Vec::new())?, Reply::Taken);
     /// let state = table.key_state(b"a")?;
     /// assert_eq!(state.holder.map(|holder| holder.txn), Some(nine));
     /// assert!(state.writers.is_empty() && state.readers.is_empty());
@@ -188,13 +232,17 @@ impl LockTable {
     /// The keys that have a record, in byte order: they are held, reserved or waited for. The call takes time in
     /// proportion to the square of their number, so it is for inspection.
     ///
+    /// # Errors
+    ///
+    /// [`Refused::Memory`].
+    ///
     /// ```
-    /// use locktable::{LockTable, Timestamp, TxnId};
+    /// use locktable::{LockTable, Reply, Timestamp, TxnId};
     /// # fn main() -> Result<(), locktable::Refused> {
     /// let (nine, mut lets) = (TxnId::new(9).unwrap(), Vec::new());
     /// let mut table = LockTable::open()?;
     /// for key in [b"b", b"a"] {
-    ///     table.acquire(key, nine, Timestamp::default(), &mut lets)?;
+    ///     assert_eq!(table.acquire(key, nine, Timestamp::default(), &mut lets)?, Reply::Taken);
     /// }
     /// assert_eq!(table.keys()?, [b"a", b"b"]);
     /// # Ok(())
@@ -247,12 +295,15 @@ impl fmt::Debug for LockTable {
     }
 }
 
-/// Which shard has the key, if a store spreads its keys over several tables: the sum of the key's bytes modulo
-/// `shards`. The result is below `shards`. It is 0 if there are more than 64 bytes, or if `shards` is 0.
+/// Which shard has the key in the table of many threads, which is not in this crate: the sum of the key's bytes modulo
+/// `shards`. The result is below `shards`. It is 0 if there are more than 64 bytes, or if `shards` is 0. A store that
+/// spreads its keys over tables of its own takes a hash, as [`sync`](crate::sync) does: keys with few different sums, such
+/// as `account0` to `account9999`, meet in few shards.
 ///
 /// ```
 /// assert_eq!(locktable::shard_of(b"ab", 10), (97 + 98) % 10);
 /// ```
+#[must_use]
 pub fn shard_of(key: &[u8], shards: usize) -> usize {
     ffi::shard_of(key, shards)
 }

@@ -5,7 +5,8 @@ mod rules;
 
 use cases::Cases;
 use locktable::{
-    check, shard_of, Access, CheckError, Fault, Found, LockTable, Refused, Reply, Request, Through, Timestamp, TxnId,
+    check, shard_of, Access, Call, CheckError, Fault, LockTable, Refused, Reply, Request, Step, Through, Ticket,
+    Timestamp, TxnId,
 };
 use rules::PlainTable;
 
@@ -37,72 +38,43 @@ fn text_of(name: &str) -> &'static str {
     WORKED.iter().find(|(of, _)| *of == name).unwrap().1
 }
 
-fn time(word: &str) -> Timestamp {
-    let (wall, logical) = word.split_once('.').unwrap();
-    Timestamp { wall: wall.parse().unwrap(), logical: logical.parse().unwrap() }
-}
-
-fn reply_word(reply: Reply) -> &'static str {
-    match reply {
-        Reply::Passed => "pass",
-        Reply::MustWait => "wait",
-        Reply::TooLong => "long",
-        Reply::Taken => "taken",
-        Reply::Kept => "kept",
-        Reply::Raised => "raised",
-        Reply::Other => "other",
-        Reply::Freed => "freed",
-        Reply::Left => "left",
-        Reply::Absent => "absent",
-    }
-}
-
-fn found_words(found: Found) -> String {
-    let state = |held| if held { "held" } else { "reserved" };
-    match found {
-        Found::Nothing => "nothing".into(),
-        Found::Reserved => "reserved".into(),
-        Found::Idle => "idle".into(),
-        Found::WaitFor { txn, held } => format!("for {txn} {}", state(held)),
-        Found::WaitFirst { txn, held } => format!("first {txn} {}", state(held)),
-        Found::WaitOwn { txn } => format!("own {txn}"),
-    }
-}
-
-/// Makes the call of a line, and answers as the line does after its `=`.
+/// Makes the call of a line, and answers the line as this table has it.
 fn play_line(table: &mut LockTable, line: &str, lets: &mut Vec<Through>) -> String {
     let words: Vec<&str> = line.split(" = ").next().unwrap().split(' ').collect();
     let (key, pass) = (words[0].as_bytes(), words[2].parse().unwrap());
     let txn = |word: &str| word.parse::<TxnId>().unwrap();
-    let reply = match (words[3], &words[4..]) {
-        ("visit", [ticket, by, ts, access, bound @ ..]) => {
-            let (number, wait) = ticket.split_once('.').unwrap();
-            let request = Request {
-                txn: (*by != "-").then(|| txn(by)),
-                wait: wait.parse().unwrap(),
+    let call = match (words[3], &words[4..]) {
+        ("visit", [ticket, by, ts, access, bound @ ..]) => Call::Visit(Request {
+            txn: (*by != "-").then(|| txn(by)),
+            longest: bound.first().map_or(0, |word| word.strip_prefix("max=").unwrap().parse().unwrap()),
+            ..Request::new(
+                ticket.parse().unwrap(),
                 pass,
-                longest: bound.first().map_or(0, |word| word.strip_prefix("max=").unwrap().parse().unwrap()),
-                ..Request::new(
-                    number.parse().unwrap(),
-                    time(ts),
-                    if *access == "w" { Access::Write } else { Access::Read },
-                )
-            };
-            table.visit(key, &request, lets)
+                ts.parse().unwrap(),
+                if *access == "w" { Access::Write } else { Access::Read },
+            )
+        }),
+        ("acquire", [by, ts]) => Call::Acquire { txn: txn(by), ts: ts.parse().unwrap() },
+        ("update", [by, ts]) => Call::Update { txn: txn(by), ts: ts.parse().unwrap() },
+        ("finish", [by]) => Call::Finish { txn: txn(by) },
+        ("leave", [number]) => Call::Leave { number: number.parse().unwrap() },
+        ("look", [number]) => {
+            let found = table.look(key, number.parse().unwrap()).unwrap();
+            return format!("{} = {found}", words.join(" "));
         }
-        ("acquire", [by, ts]) => table.acquire(key, txn(by), time(ts), lets),
-        ("update", [by, ts]) => table.update(key, txn(by), time(ts), lets),
-        ("finish", [by]) => table.finish(key, txn(by), lets),
-        ("leave", [number]) => table.leave(key, number.parse().unwrap(), lets),
-        ("look", [number]) => return found_words(table.look(key, number.parse().unwrap()).unwrap()),
         _ => panic!("{line}"),
     };
-    let mut answer = String::from(reply_word(reply.unwrap()));
-    for (at, through) in lets.iter().enumerate() {
-        let before = if at == 0 { " let" } else { "" };
-        answer += &format!("{before} {}.{}", through.number, through.wait);
-    }
-    answer
+    let reply = match call {
+        Call::Visit(request) => table.visit(key, &request, lets),
+        Call::Acquire { txn, ts } => table.acquire(key, txn, ts, lets),
+        Call::Update { txn, ts } => table.update(key, txn, ts, lets),
+        Call::Finish { txn } => table.finish(key, txn, lets),
+        Call::Leave { number } => table.leave(key, number, lets),
+        _ => panic!("{line}"),
+    };
+    let step = Step { key, pass, call, reply: reply.unwrap(), lets }.to_string();
+    let (_, behind_key) = step.split_once(' ').unwrap();
+    format!("{} {} {behind_key}", words[0], words[1])
 }
 
 #[test]
@@ -111,8 +83,7 @@ fn the_worked_examples() {
     for (name, text) in WORKED {
         let mut table = LockTable::open().unwrap();
         for line in text.lines().skip(1) {
-            let answer = play_line(&mut table, line, &mut lets);
-            assert_eq!(answer, line.split_once(" = ").unwrap().1, "{name}: {line}");
+            assert_eq!(play_line(&mut table, line, &mut lets), line, "{name}");
         }
         let report = check(text.as_bytes()).unwrap();
         assert_eq!((report.version, report.steps), (2, text.lines().count() - 1), "{name}");
@@ -152,9 +123,9 @@ fn a_refused_call_changes_nothing() {
     let ts = Timestamp { wall: 10, logical: 0 };
     let (nine, mut lets) = (TxnId::new(9).unwrap(), Vec::new());
     let mut table = LockTable::open().unwrap();
-    table.acquire(b"a", nine, ts, &mut lets).unwrap();
+    assert_eq!(table.acquire(b"a", nine, ts, &mut lets), Ok(Reply::Taken));
     let before = table.key_state(b"a").unwrap();
-    let good = Request::new(1, ts, Access::Write);
+    let good = Request::new(Ticket { number: 1, wait: 1 }, 1, ts, Access::Write);
     let requests = [
         (Request { number: 0, wait: 0, pass: 0, ..good }, Refused::Number),
         (Request { number: 1 << 40, ..good }, Refused::Number),
@@ -204,9 +175,9 @@ fn a_step_gives_all_of_its_lets() {
     let (nine, ts, mut lets) = (TxnId::new(9).unwrap(), Timestamp::default(), Vec::new());
     for waiting in [0, 1, 15, 16, 17, 32, 100] {
         let mut table = LockTable::open().unwrap();
-        table.acquire(b"a", nine, ts, &mut lets).unwrap();
+        assert_eq!(table.acquire(b"a", nine, ts, &mut lets), Ok(Reply::Taken));
         for number in 1..=waiting {
-            let request = Request { pass: number as u32, ..Request::new(number, ts, Access::Read) };
+            let request = Request::new(Ticket { number, wait: 1 }, number as u32, ts, Access::Read);
             assert_eq!(table.visit(b"a", &request, &mut lets), Ok(Reply::MustWait));
         }
         assert_eq!(table.finish(b"a", nine, &mut lets), Ok(Reply::Freed));
@@ -219,10 +190,32 @@ fn a_step_gives_all_of_its_lets() {
 }
 
 #[test]
+fn a_timestamp_and_a_ticket_are_read_as_they_are_written() {
+    let rows = [
+        ("0.0", Some((0, 0))),
+        ("18446744073709551615.4294967295", Some((u64::MAX, u32::MAX))),
+        ("7.02", None),
+        ("07.2", None),
+        ("+7.2", None),
+        ("7.", None),
+        (".2", None),
+        ("7", None),
+        ("7.2.1", None),
+        ("7.4294967296", None),
+        ("", None),
+    ];
+    for (text, numbers) in rows {
+        assert_eq!(text.parse().ok(), numbers.map(|(wall, logical)| Timestamp { wall, logical }), "{text}");
+        assert_eq!(text.parse().ok(), numbers.map(|(number, wait)| Ticket { number, wait }), "{text}");
+    }
+}
+
+#[test]
 fn a_table_moves_to_another_thread() {
     let (nine, ts) = (TxnId::new(9).unwrap(), Timestamp::default());
     let mut table = LockTable::open().unwrap();
-    table.acquire(b"a-key-of-more-than-22-bytes", nine, ts, &mut Vec::new()).unwrap();
+    let taken = table.acquire(b"a-key-of-more-than-22-bytes", nine, ts, &mut Vec::new());
+    assert_eq!(taken, Ok(Reply::Taken));
     let moved = std::thread::spawn(move || table.finish(b"a-key-of-more-than-22-bytes", nine, &mut Vec::new()));
     assert_eq!(moved.join().unwrap(), Ok(Reply::Freed));
 }
@@ -279,12 +272,13 @@ fn a_million_random_calls_as_in_plain_rust() {
                 continue;
             }
             _ => {
+                let ticket = Ticket { number, wait: 1 + random.below(1000) as u32 };
+                let pass = 1 + random.below(1024) as u32;
+                let access = if random.below(2) == 0 { Access::Write } else { Access::Read };
                 let request = Request {
                     txn: TxnId::new(random.below(6)),
-                    wait: 1 + random.below(1000) as u32,
-                    pass: 1 + random.below(1024) as u32,
                     longest: (random.below(3) * random.below(4)) as u32,
-                    ..Request::new(number, ts, if random.below(2) == 0 { Access::Write } else { Access::Read })
+                    ..Request::new(ticket, pass, ts, access)
                 };
                 cases.visit(&before, &request);
                 (table.visit(key, &request, &mut lets), plain.visit(key, &request, &mut plain_lets))

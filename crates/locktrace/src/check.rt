@@ -3,13 +3,13 @@
 //! Both report their progress on standard error, if it is a terminal.
 use crate::failure::{TraceFailure, of_audit};
 use crate::follow::write_text;
+use crate::input::open;
 use crate::output::{Output, ending_of};
 use crate::progress_line::ProgressLine;
 use lt_audit::{AuditError, CutPlan, check_pieces, check_stream_with};
 use lt_checker::Report;
 use std::alloc::Global;
 use std::fs;
-use std::fs::File;
 use std::io::{BufRead, Write};
 use std::thread::{Threads, available_parallelism};
 
@@ -68,9 +68,7 @@ pub fn check_file<H: Threads + Sync>(
     name: &str,
     line: &mut ProgressLine,
 ) -> Result<(), TraceFailure> {
-    let Ok(file) = File::open(rt, name) else {
-        return Err(TraceFailure::Read);
-    };
+    let file = open(rt, name)?;
     let plan = CutPlan::of_pieces(at_once(threads));
     let verdict = check_pieces(threads, rt.alloc(), &file, &plan, line);
     let mut output = Output::new(rt.stdout());

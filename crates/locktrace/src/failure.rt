@@ -7,13 +7,43 @@ use lt_checker::{CheckError, HistoryLineError};
 use lt_picture::PictureError;
 use lt_trace::{SortError, TraceFault};
 use std::alloc::{AllocError, AllocFailed};
+use std::io::ErrorKind;
 use thiserror::Error;
 
-/// Why the program did not do its work. Displayed, it is what stands after `locktrace: ` on standard error.
+/// Why a file could not be read or written.
+#[derive(Clone, Copy, Debug, Error)]
+pub enum FileFault {
+    #[error("no such file or folder")]
+    Missing,
+    #[error("permission denied")]
+    Denied,
+    #[error("it is a folder")]
+    Folder,
+    #[error("no space is left")]
+    Full,
+    #[error("an error of the system")]
+    Other,
+}
+
+/// The fault of an error of this kind.
+pub fn fault_of(kind: ErrorKind) -> FileFault {
+    match kind {
+        ErrorKind::NotFound | ErrorKind::NotADirectory => FileFault::Missing,
+        ErrorKind::PermissionDenied | ErrorKind::ReadOnlyFilesystem => FileFault::Denied,
+        ErrorKind::IsADirectory => FileFault::Folder,
+        ErrorKind::StorageFull | ErrorKind::QuotaExceeded | ErrorKind::FileTooLarge => {
+            FileFault::Full
+        }
+        _ => FileFault::Other,
+    }
+}
+
+/// Why the program did not do its work. Displayed, it is what stands after `locktrace: ` on standard error, unless a
+/// file or a folder is to be named there too (`main.rt`).
 #[derive(Clone, Copy, Debug, Error)]
 pub enum TraceFailure {
-    /// The words after the program's name are not a command line of the program.
-    #[error("command line refused; see locktrace --help")]
+    /// A word after the program's name is not text.
+    #[error("command line refused: a word is not UTF-8; see locktrace --help")]
     Words,
     /// The first faulty line, counted from 1, and the name of the first fault in it.
     #[error("line {line}: {name}")]
@@ -26,10 +56,10 @@ pub enum TraceFailure {
     TooManySteps,
     #[error("memory")]
     Memory,
-    #[error("read")]
-    Read,
-    #[error("write")]
-    Write,
+    #[error("cannot read: {0}")]
+    Read(FileFault),
+    #[error("cannot write: {0}")]
+    Write(FileFault),
     /// The reader of the output has closed its pipe. The program ends without a message.
     #[error("closed")]
     Closed,
@@ -37,7 +67,7 @@ pub enum TraceFailure {
     #[error("the trace is too long")]
     TooLong,
     /// A temporary file failed.
-    #[error("temporary file")]
+    #[error("cannot use a temporary file")]
     Temporary,
 }
 
@@ -73,7 +103,7 @@ pub fn of_audit(error: AuditError) -> TraceFailure {
     match error {
         AuditError::Refused { line, fault } => of_check(CheckError::Refused { line, fault }),
         AuditError::Memory => TraceFailure::Memory,
-        AuditError::Read => TraceFailure::Read,
+        AuditError::Read => TraceFailure::Read(FileFault::Other),
         AuditError::TooLong => TraceFailure::TooLong,
     }
 }
@@ -82,7 +112,7 @@ pub fn of_audit(error: AuditError) -> TraceFailure {
 pub fn of_line(error: HistoryLineError) -> TraceFailure {
     match error {
         HistoryLineError::Memory => TraceFailure::Memory,
-        HistoryLineError::Fault(_) => TraceFailure::Read,
+        HistoryLineError::Fault(_) => TraceFailure::Read(FileFault::Other),
     }
 }
 
@@ -97,9 +127,9 @@ pub fn of_sort(error: SortError) -> TraceFailure {
             },
         },
         SortError::Memory => TraceFailure::Memory,
-        SortError::Read => TraceFailure::Read,
+        SortError::Read => TraceFailure::Read(FileFault::Other),
         SortError::Temporary => TraceFailure::Temporary,
-        SortError::Write => TraceFailure::Write,
+        SortError::Write => TraceFailure::Write(FileFault::Other),
         SortError::TooManySteps => TraceFailure::TooLong,
     }
 }
@@ -126,8 +156,8 @@ pub fn status(ending: &Result<(), TraceFailure>) -> u8 {
         Err(TraceFailure::Words) => 2,
         Err(TraceFailure::Memory) => 4,
         Err(
-            TraceFailure::Read
-            | TraceFailure::Write
+            TraceFailure::Read(_)
+            | TraceFailure::Write(_)
             | TraceFailure::Closed
             | TraceFailure::Temporary,
         ) => 5,

@@ -1,6 +1,6 @@
 //! How does a command see the steps of a text, one after the other? [`follow_steps`] reads the text line by line and
 //! checks each line. It gives each step that was asked for to a taker, with the state of the key after the step.
-use crate::failure::{TraceFailure, of_check, of_line};
+use crate::failure::{TraceFailure, fault_of, of_check, of_line};
 use lt_checker::{Checker, Fault, Line, Report, read_line};
 use lt_ids::Key;
 use lt_picture::ShownStep;
@@ -9,8 +9,8 @@ use std::io::{BufRead, ErrorKind, Write};
 
 /// Takes the steps of a text.
 pub trait StepTaker {
-    /// Whether the step of this key with this index is wanted.
-    fn wants(&self, key: &Key, index: u64) -> bool;
+    /// Whether the step of this key with this index is wanted. It is asked about each step, in order.
+    fn wants(&mut self, key: &Key, index: u64) -> bool;
 
     /// Takes a step that is wanted, and returns what is to be written for it.
     fn take(&mut self, key: Key, step: ShownStep) -> Result<Vec<u8>, TraceFailure>;
@@ -21,7 +21,7 @@ fn append_line<R: BufRead>(reader: &mut R, line: &mut Vec<u8>) -> Result<usize, 
     match reader.read_until(b'\n', line) {
         Ok(n) => Ok(n),
         Err(e) if e.kind() == ErrorKind::OutOfMemory => Err(TraceFailure::Memory),
-        Err(_) => Err(TraceFailure::Read),
+        Err(e) => Err(TraceFailure::Read(fault_of(e.kind()))),
     }
 }
 
@@ -59,7 +59,7 @@ fn give_step<T: StepTaker>(
 pub fn write_text<W: Write>(output: &mut W, text: &[u8]) -> Result<(), TraceFailure> {
     match output.write_all(text) {
         Ok(()) => Ok(()),
-        Err(_) => Err(TraceFailure::Write),
+        Err(e) => Err(TraceFailure::Write(fault_of(e.kind()))),
     }
 }
 
@@ -114,5 +114,5 @@ pub fn follow_steps<R: BufRead, W: Write, T: StepTaker>(
         }
         follow_line(alloc, &mut checker, &line, output, taker)?;
     }
-    Err(TraceFailure::Read)
+    Err(TraceFailure::TooLong)
 }

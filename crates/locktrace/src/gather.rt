@@ -18,7 +18,7 @@ pub struct Gatherer {
 }
 
 impl StepTaker for Gatherer {
-    fn wants(&self, _key: &Key, _index: u64) -> bool {
+    fn wants(&mut self, _key: &Key, _index: u64) -> bool {
         true
     }
 
@@ -73,15 +73,22 @@ fn put_queue(out: &mut Vec<u8>, longest: &Option<LongestQueue>) -> Result<(), Al
     put_around(out, begin.as_str(), &longest.key, end.as_str())
 }
 
+/// The end of a noun of which there are so many.
+fn plural(count: u64) -> &'static str {
+    if count == 1 { "" } else { "s" }
+}
+
 /// Appends the line of the longest wait.
 fn put_wait(out: &mut Vec<u8>, longest: &Option<LongestWait>) -> Result<(), AllocError> {
     let Some(longest) = longest else {
         return out.extend_from_slice(b"longest wait 0 steps\n");
     };
     let alloc = *out.allocator();
+    let len = longest.to.saturating_sub(longest.from);
     let begin = format!(in alloc;
-        "longest wait {} steps, of ticket {:?} at ",
-        longest.to.saturating_sub(longest.from),
+        "longest wait {} step{}, of ticket {:?} at ",
+        len,
+        plural(len),
         longest.ticket
     )?;
     let end = format!(in alloc; " from step {} to {}\n", longest.from, longest.to)?;
@@ -96,7 +103,13 @@ fn put_hot(out: &mut Vec<u8>, hot: &HotKey, width: usize) -> Result<(), AllocErr
     for _ in key.len()..width {
         out.push(b' ')?;
     }
-    let end = format!(in *out.allocator(); "  {} steps, {} waits\n", hot.steps, hot.waits)?;
+    let end = format!(in *out.allocator();
+        "  {} step{}, {} wait{}\n",
+        hot.steps,
+        plural(hot.steps),
+        hot.waits,
+        plural(hot.waits)
+    )?;
     out.extend_from_slice(end.as_bytes())
 }
 

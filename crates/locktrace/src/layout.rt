@@ -1,8 +1,9 @@
-//! Which layout of a table do the words of the options ask for? [`layout_of`] reads them. What they leave open, the
-//! [`Terminal`] decides.
+//! Which layout of a table do the words of the options ask for? [`width_of`] and [`choice_of`] read them.
+//! [`layout_of`] has the [`Terminal`] decide what they leave open.
 ghost use Rattle.std.specs.Prelude.{◌≤◌, IfSome};
 
 use lt_picture::{ColourChoice, Layout, Terminal};
+use lt_text::number::number;
 
 /// The least width of a table.
 const LEAST_WIDTH: u16 = 40;
@@ -11,28 +12,23 @@ const LEAST_WIDTH: u16 = 40;
 pub fn width_of(word: &str) -> Option<u16>
     ensures { IfSome result (λ width. 40 ≤ width) }
 {
-    match word.parse::<u16>() {
+    match u16::try_from(number(word.as_bytes())?) {
         Ok(width) if width >= LEAST_WIDTH => Some(width),
         _ => None,
     }
 }
 
-/// The choice that a word spells. Without a word, it is `auto`.
-fn choice_of(word: Option<&str>) -> Option<ColourChoice> {
+/// The choice that a word spells.
+pub fn choice_of(word: &str) -> Option<ColourChoice> {
     match word {
-        None | Some("auto") => Some(ColourChoice::Auto),
-        Some("always") => Some(ColourChoice::Always),
-        Some("never") => Some(ColourChoice::Never),
-        Some(_) => None,
+        "auto" => Some(ColourChoice::Auto),
+        "always" => Some(ColourChoice::Always),
+        "never" => Some(ColourChoice::Never),
+        _ => None,
     }
 }
 
-/// The layout for this terminal and these words of the options. `None` if a word is neither a width nor a choice.
-pub fn layout_of(terminal: &Terminal, width: Option<&str>, colour: Option<&str>) -> Option<Layout> {
-    let asked = match width {
-        Some(word) => Some(width_of(word)?),
-        None => None,
-    };
-    let choice = choice_of(colour)?;
+/// The layout for this terminal, if this width and this choice were asked for.
+pub fn layout_of(terminal: &Terminal, asked: Option<u16>, choice: ColourChoice) -> Option<Layout> {
     Layout::new(terminal.chosen_width(asked), terminal.has_colours(choice))
 }

@@ -26,10 +26,10 @@ mod task;
 mod words;
 
 use crate::check::{check_file, len_of_file};
-use crate::failure::{TraceFailure, status};
+use crate::failure::{TraceFailure, fault_of, status};
 use crate::layout::width_of;
 use crate::progress_line::ProgressLine;
-use crate::task::perform;
+use crate::task::{STREAMS, TaskNames, names_of, perform};
 use crate::words::{Task, TaskError, read_task};
 use lt_picture::Terminal;
 use std::env::{self, VarError};
@@ -92,29 +92,53 @@ fn print_help(rt: &HostRuntime, text: &str) -> Result<(), TraceFailure> {
     match print!(rt; "{text}") {
         Ok(()) => Ok(()),
         Err(e) if e.kind() == ErrorKind::BrokenPipe => Err(TraceFailure::Closed),
-        Err(_) => Err(TraceFailure::Write),
+        Err(e) => Err(TraceFailure::Write(fault_of(e.kind()))),
     }
 }
 
-/// Reads the words, and does what they ask for.
-fn run<H: Threads + Sync>(threads: &H, rt: &HostRuntime) -> Result<(), TraceFailure> {
+/// Says on standard error why the program did not do its work, and returns its exit status.
+fn tell(rt: &HostRuntime, ending: &Result<(), TraceFailure>, names: &TaskNames) -> u8 {
+    let _told = match ending {
+        Ok(()) | Err(TraceFailure::Closed) => Ok(()),
+        Err(TraceFailure::Read(fault)) => {
+            eprintln!(rt; "locktrace: cannot read {}: {fault}", names.input)
+        }
+        Err(TraceFailure::Write(fault)) => {
+            eprintln!(rt; "locktrace: cannot write {}: {fault}", names.output)
+        }
+        Err(TraceFailure::Temporary) => {
+            eprintln!(rt;
+                "locktrace: cannot use a temporary file in {}",
+                names.folder
+            )
+        }
+        Err(failure) => eprintln!(rt; "locktrace: {failure}"),
+    };
+    status(ending)
+}
+
+/// Says on standard error why the command line is refused, and returns the exit status.
+fn tell_words(rt: &HostRuntime, why: &str) -> u8 {
+    let _told = eprintln!(rt; "locktrace: command line refused: {why}; see locktrace --help");
+    status(&Err(TraceFailure::Words))
+}
+
+/// Reads the words, does what they ask for, and tells how that ended. Returns the exit status.
+fn run<H: Threads + Sync>(threads: &H, rt: &HostRuntime) -> Result<u8, TraceFailure> {
     let words = words_of(rt)?;
     let texts: Vec<&str> = words.iter().map(|word| word.as_str()).collect(rt.alloc())?;
     match read_task(rt.alloc(), &terminal_of(rt)?, texts.as_slice()) {
-        Ok(task) => do_task(threads, rt, &task),
-        Err(TaskError::Help(text)) => print_help(rt, text.as_str()),
-        Err(TaskError::Refused) => Err(TraceFailure::Words),
+        Ok(task) => Ok(tell(rt, &do_task(threads, rt, &task), &names_of(&task))),
+        Err(TaskError::Help(text)) => Ok(tell(rt, &print_help(rt, text.as_str()), &STREAMS)),
+        Err(TaskError::Refused(why)) => Ok(tell_words(rt, why.as_str())),
         Err(TaskError::Memory) => Err(TraceFailure::Memory),
     }
 }
 
 fn main(rt: HostRuntime) -> ExitCode {
-    let ending = run(&rt, &rt);
-    match &ending {
-        Ok(()) | Err(TraceFailure::Closed) => {}
-        Err(failure) => {
-            let _told = eprintln!(rt; "locktrace: {failure}");
-        }
-    }
-    ExitCode::from(status(&ending))
+    let status = match run(&rt, &rt) {
+        Ok(status) => status,
+        Err(failure) => tell(&rt, &Err(failure), &STREAMS),
+    };
+    ExitCode::from(status)
 }

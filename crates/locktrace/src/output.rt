@@ -46,7 +46,7 @@ pub fn ending_of<W>(
     output: &Output<W>,
 ) -> Result<(), TraceFailure> {
     match ending {
-        Err(TraceFailure::Write) if output.is_closed() => Err(TraceFailure::Closed),
+        Err(TraceFailure::Write(_)) if output.is_closed() => Err(TraceFailure::Closed),
         _ => ending,
     }
 }

@@ -1,14 +1,15 @@
 //! What does each command do? [`perform`] opens the file of a task, or takes standard input, and does the task.
 use crate::check::check_reader;
 use crate::explain::explain_file;
-use crate::failure::{TraceFailure, of_picture, of_sort};
+use crate::failure::{TraceFailure, fault_of, of_picture, of_sort};
 use crate::follow::{StepTaker, follow_steps, write_text};
-use crate::input::buffered;
+use crate::input::{buffered, open};
 use crate::output::{Output, ending_of};
 use crate::progress_line::ProgressLine;
 use crate::words::{PictureWords, SortWords, Task, WantedSteps};
 use lt_ids::Key;
-use lt_picture::{Layout, ShownStep, html, picture, put_heading, put_key, put_shown};
+use lt_picture::{Layout, ShownRange, ShownStep, html, picture, put_heading, put_key, put_shown};
+use lt_rules::KeyState;
 use lt_trace::{SortOptions, TraceForm, sort_trace};
 use std::alloc::Global;
 use std::fs::{File, Files};
@@ -20,13 +21,17 @@ const WAYS: usize = 64;
 /// How many bytes one write takes.
 const PIECE: usize = 1 << 16;
 
-/// Whether a step is wanted.
-fn is_wanted(wanted: &WantedSteps, key: &Key, index: u64) -> bool {
-    let is_of_key = match wanted.key {
+/// Whether steps of this key are wanted.
+fn is_of_key(wanted: &WantedSteps, key: &Key) -> bool {
+    match wanted.key {
         Some(name) => name.as_bytes() == key.as_bytes(),
         None => true,
-    };
-    is_of_key && wanted.from <= index && index <= wanted.to
+    }
+}
+
+/// Whether all steps of the text are wanted.
+fn are_all_wanted(wanted: &WantedSteps) -> bool {
+    wanted.key.is_none() && wanted.from == 1 && wanted.to == u64::MAX
 }
 
 /// Makes a line of a table of each step.
@@ -40,8 +45,8 @@ struct Shower<'a> {
 }
 
 impl<'a> StepTaker for Shower<'a> {
-    fn wants(&self, key: &Key, index: u64) -> bool {
-        is_wanted(&self.wanted, key, index)
+    fn wants(&mut self, key: &Key, index: u64) -> bool {
+        is_of_key(&self.wanted, key) && self.wanted.from <= index && index <= self.wanted.to
     }
 
     fn take(&mut self, key: Key, step: ShownStep) -> Result<Vec<u8>, TraceFailure> {
@@ -60,23 +65,36 @@ impl<'a> StepTaker for Shower<'a> {
     }
 }
 
-/// Collects the steps of a key for a picture.
+/// Collects the steps of a key for a picture, and the state before the first of them.
 #[derive(Drop)]
 struct Collector<'a> {
     alloc: Global,
     wanted: WantedSteps<'a>,
     /// The key of the steps.
     key: Option<Key>,
-    steps: Vec<ShownStep>,
+    range: ShownRange,
 }
 
 impl<'a> StepTaker for Collector<'a> {
-    fn wants(&self, key: &Key, index: u64) -> bool {
-        is_wanted(&self.wanted, key, index) && self.steps.len() <= lt_picture::MOST_STEPS
+    // The step before the first wanted one is wanted for the state after it.
+    fn wants(&mut self, key: &Key, index: u64) -> bool {
+        if !is_of_key(&self.wanted, key) || lt_picture::MOST_STEPS < self.range.steps.len() {
+            return false;
+        }
+        if self.wanted.to < index {
+            self.range.goes_on = true;
+            return false;
+        }
+        self.wanted.from <= index.saturating_add(1)
     }
 
     fn take(&mut self, key: Key, step: ShownStep) -> Result<Vec<u8>, TraceFailure> {
-        self.steps.push(step)?;
+        if step.index < self.wanted.from {
+            let ShownStep { state, .. } = step;
+            self.range.before = state;
+            return Ok(Vec::new(self.alloc));
+        }
+        self.range.steps.push(step)?;
         self.key = Some(key);
         Ok(Vec::new(self.alloc))
     }
@@ -97,7 +115,7 @@ fn show<R: BufRead, W: Write>(
         key: None,
     };
     follow_steps(alloc, reader, output, &mut shower)?;
-    if shower.key.is_none() {
+    if shower.key.is_none() && !are_all_wanted(wanted) {
         return Err(TraceFailure::NoStep);
     }
     Ok(())
@@ -109,9 +127,9 @@ fn drawn(alloc: Global, collected: &Collector, is_html: bool) -> Result<Vec<u8>,
         return Err(TraceFailure::NoStep);
     };
     let text = if is_html {
-        html(alloc, key, &collected.steps)
+        html(alloc, key, &collected.range)
     } else {
-        picture(alloc, key, &collected.steps)
+        picture(alloc, key, &collected.range)
     };
     match text {
         Ok(text) => Ok(text),
@@ -131,7 +149,7 @@ fn write_picture<F: Files, W: Write>(
     };
     match File::create(files, name) {
         Ok(mut file) => write_text(&mut file, text),
-        Err(_) => Err(TraceFailure::Write),
+        Err(e) => Err(TraceFailure::Write(fault_of(e.kind()))),
     }
 }
 
@@ -144,14 +162,15 @@ fn draw<F: Files, R: BufRead, W: Write>(
     wanted: &WantedSteps,
     picture: &PictureWords,
 ) -> Result<(), TraceFailure> {
-    if wanted.key.is_none() {
-        return Err(TraceFailure::Words);
-    }
     let mut collector = Collector {
         alloc,
         wanted: *wanted,
         key: None,
-        steps: Vec::new(alloc),
+        range: ShownRange {
+            before: KeyState::empty(alloc),
+            steps: Vec::new(alloc),
+            goes_on: false,
+        },
     };
     follow_steps(alloc, reader, output, &mut collector)?;
     let text = drawn(alloc, &collector, picture.html)?;
@@ -216,9 +235,46 @@ fn perform_on<F: Files, R: Read + Drop, W: Write + Drop>(
     let ending = perform_over(files, alloc, task, &mut reader, &mut writer, line);
     let ending = match writer.flush() {
         Ok(()) => ending,
-        Err(_) => Err(TraceFailure::Write),
+        Err(e) => Err(TraceFailure::Write(fault_of(e.kind()))),
     };
     ending_of(ending, writer.get_ref())
+}
+
+/// The names of what a task reads and writes, for a message.
+#[derive(Clone, Copy)]
+pub struct TaskNames<'a> {
+    pub input: &'a str,
+    pub output: &'a str,
+    /// The folder of temporary files.
+    pub folder: &'a str,
+}
+
+/// The names if nothing is named.
+pub const STREAMS: TaskNames = TaskNames {
+    input: "standard input",
+    output: "standard output",
+    folder: "/tmp",
+};
+
+/// The names of the task.
+pub fn names_of<'a>(task: &Task<'a>) -> TaskNames<'a> {
+    let input = match task {
+        Task::Explain(name) => *name,
+        _ => file_of(task).unwrap_or(STREAMS.input),
+    };
+    let output = match task {
+        Task::Picture(_, _, picture) => picture.out.unwrap_or(STREAMS.output),
+        _ => STREAMS.output,
+    };
+    let folder = match task {
+        Task::Sort(_, words) => words.folder,
+        _ => STREAMS.folder,
+    };
+    TaskNames {
+        input,
+        output,
+        folder,
+    }
 }
 
 /// The file of the task.
@@ -242,10 +298,10 @@ pub fn perform<F: Files, R: Read + Drop, W: Write + Drop>(
     line: &mut ProgressLine,
 ) -> Result<(), TraceFailure> {
     match file_of(task) {
-        Some(name) => match File::open(files, name) {
-            Ok(file) => perform_on(alloc, files, task, file, output, line),
-            Err(_) => Err(TraceFailure::Read),
-        },
+        Some(name) => {
+            let file = open(files, name)?;
+            perform_on(alloc, files, task, file, output, line)
+        }
         None => perform_on(alloc, files, task, input, output, line),
     }
 }

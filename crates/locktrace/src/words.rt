@@ -4,10 +4,11 @@
 //! half turns clap's matches into a [`Task`]. [`read_task`] combines the two. Read next: `task.rt`, which performs a
 //! task.
 use crate::help;
-use crate::layout::layout_of;
+use crate::layout::{choice_of, layout_of, width_of};
 use clap::error::ErrorKind;
 use clap::{Arg, ArgAction, ArgMatches, Command, Error};
-use lt_picture::{Layout, Terminal};
+use lt_picture::{ColourChoice, Layout, Terminal};
+use lt_text::number::number;
 use std::alloc::{AllocError, Global};
 
 /// Which steps of a text are wanted.
@@ -54,8 +55,8 @@ pub enum Task<'a> {
 pub enum TaskError {
     /// They ask for help, and this is its text.
     Help(String),
-    /// They are not a command line of the program.
-    Refused,
+    /// They are not a command line of the program, for this reason.
+    Refused(String),
     /// Memory ran out.
     Memory,
 }
@@ -68,6 +69,7 @@ struct TraceOption<'a> {
     short: Option<char>,
     /// What its value is called. A flag has none.
     value: Option<&'a str>,
+    is_required: bool,
     help: &'a str,
 }
 
@@ -86,17 +88,30 @@ struct TraceCommand<'a> {
 /// What the help says of a file that may be left out.
 const FILE: &str = "The file to read. Without one, the command reads standard input";
 
+/// The help of the option `key`.
+const KEY_HELP: &str = "The key whose steps are wanted. Write --key=-x if it begins with a hyphen";
+
 const KEY: TraceOption = TraceOption {
     name: "key",
     short: None,
     value: Some("KEY"),
-    help: "The key whose steps are wanted",
+    is_required: false,
+    help: KEY_HELP,
+};
+
+const DRAWN_KEY: TraceOption = TraceOption {
+    name: "key",
+    short: None,
+    value: Some("KEY"),
+    is_required: true,
+    help: KEY_HELP,
 };
 
 const FROM: TraceOption = TraceOption {
     name: "from",
     short: None,
     value: Some("I"),
+    is_required: false,
     help: "The index of the first step, default 1",
 };
 
@@ -104,6 +119,7 @@ const TO: TraceOption = TraceOption {
     name: "to",
     short: None,
     value: Some("J"),
+    is_required: false,
     help: "The index of the last step",
 };
 
@@ -119,18 +135,21 @@ const COMMANDS: [TraceCommand; 5] = [
                 name: "json",
                 short: None,
                 value: None,
+                is_required: false,
                 help: "Each line is a JSON object",
             },
             TraceOption {
                 name: "memory",
                 short: None,
                 value: Some("SIZE"),
+                is_required: false,
                 help: "The most memory for lines, such as 64M or 2G, default 256M",
             },
             TraceOption {
                 name: "temporary",
                 short: None,
                 value: Some("FOLDER"),
+                is_required: false,
                 help: "The folder for temporary files, default /tmp",
             },
         ],
@@ -165,12 +184,14 @@ const COMMANDS: [TraceCommand; 5] = [
                 name: "width",
                 short: None,
                 value: Some("N"),
+                is_required: false,
                 help: "The width of the table in columns, from 40 to 65535",
             },
             TraceOption {
                 name: "colour",
                 short: None,
                 value: Some("WHEN"),
+                is_required: false,
                 help: "Whether the table has colours: always, never, or auto, the default",
             },
         ],
@@ -182,19 +203,21 @@ const COMMANDS: [TraceCommand; 5] = [
         needs_file: false,
         file: FILE,
         options: &[
-            KEY,
+            DRAWN_KEY,
             FROM,
             TO,
             TraceOption {
                 name: "out",
                 short: Some('o'),
                 value: Some("FILE"),
+                is_required: false,
                 help: "The file for the picture. Without one, the command writes standard output",
             },
             TraceOption {
                 name: "html",
                 short: None,
                 value: None,
+                is_required: false,
                 help: "Makes a page of HTML instead of an SVG",
             },
         ],
@@ -203,7 +226,10 @@ const COMMANDS: [TraceCommand; 5] = [
 
 /// The option of a row.
 fn option<'a>(alloc: Global, row: &TraceOption<'a>) -> Arg<'a> {
-    let arg = Arg::new(alloc, row.name).long(row.name).help(row.help);
+    let arg = Arg::new(alloc, row.name)
+        .long(row.name)
+        .required(row.is_required)
+        .help(row.help);
     let arg = match row.short {
         Some(short) => arg.short(short),
         None => arg,
@@ -261,14 +287,27 @@ fn is_given(value: Option<&str>) -> bool {
     }
 }
 
-/// The index that a word spells, at least 1; the default if there is no word.
-fn index_or(default: u64, word: Option<&str>) -> Option<u64> {
+/// The refusal of a word that is not what its option takes.
+fn refused(alloc: Global, option: &str, word: &str, wanted: &str) -> TaskError {
+    match format!(in alloc; "--{option} takes {wanted}, and not {word}") {
+        Ok(why) => TaskError::Refused(why),
+        Err(_) => TaskError::Memory,
+    }
+}
+
+/// The index that the word of an option spells, from 1 to 2^64 - 1; the default if there is no word.
+fn index_or(
+    alloc: Global,
+    option: &str,
+    default: u64,
+    word: Option<&str>,
+) -> Result<u64, TaskError> {
     let Some(word) = word else {
-        return Some(default);
+        return Ok(default);
     };
-    match word.parse::<u64>() {
-        Ok(n) if n >= 1 => Some(n),
-        _ => None,
+    match number(word.as_bytes()) {
+        Some(n) if n >= 1 => Ok(n),
+        _ => Err(refused(alloc, option, word, "a number from 1 to 2^64 - 1")),
     }
 }
 
@@ -284,55 +323,119 @@ fn size_of(word: &str) -> Option<u64> {
             },
         },
     };
-    match digits.parse::<u64>() {
-        Ok(n) => n.checked_mul(unit),
-        Err(_) => None,
-    }
+    number(digits.as_bytes())?.checked_mul(unit)
 }
 
-fn wanted_of<'a>(matches: &ArgMatches<'a>) -> Option<WantedSteps<'a>> {
-    Some(WantedSteps {
+fn wanted_of<'a>(alloc: Global, matches: &ArgMatches<'a>) -> Result<WantedSteps<'a>, TaskError> {
+    Ok(WantedSteps {
         key: matches.get_str("key"),
-        from: index_or(1, matches.get_str("from"))?,
-        to: index_or(u64::MAX, matches.get_str("to"))?,
+        from: index_or(alloc, "from", 1, matches.get_str("from"))?,
+        to: index_or(alloc, "to", u64::MAX, matches.get_str("to"))?,
     })
 }
 
-fn sort_of<'a>(matches: &ArgMatches<'a>) -> Option<SortWords<'a>> {
-    let memory = match matches.get_str("memory") {
-        Some(word) => size_of(word)?,
-        None => 256 << 20,
+/// How many bytes of lines may be in memory, by the word of the option.
+fn memory_of(alloc: Global, word: Option<&str>) -> Result<u64, TaskError> {
+    let Some(word) = word else {
+        return Ok(256 << 20);
     };
-    Some(SortWords {
+    match size_of(word) {
+        Some(memory) => Ok(memory),
+        None => {
+            let wanted = "a number of bytes, or one with K, M or G after it";
+            Err(refused(alloc, "memory", word, wanted))
+        }
+    }
+}
+
+fn sort_of<'a>(alloc: Global, matches: &ArgMatches<'a>) -> Result<SortWords<'a>, TaskError> {
+    Ok(SortWords {
         json: is_given(matches.get_str("json")),
-        memory,
+        memory: memory_of(alloc, matches.get_str("memory"))?,
         folder: matches.get_str("temporary").unwrap_or("/tmp"),
     })
 }
 
-/// The task that the matches name. Without a command, it is a check of standard input.
-fn task_of<'a>(terminal: &Terminal, matches: &ArgMatches<'a>) -> Option<Task<'a>> {
-    let Some((name, inner)) = matches.subcommand() else {
-        return Some(Task::Check(None));
+/// The width of the table, if it was asked for.
+fn asked_width(alloc: Global, word: Option<&str>) -> Result<Option<u16>, TaskError> {
+    let Some(word) = word else {
+        return Ok(None);
     };
+    match width_of(word) {
+        Some(width) => Ok(Some(width)),
+        None => Err(refused(alloc, "width", word, "a number from 40 to 65535")),
+    }
+}
+
+/// When the table has colours.
+fn asked_colour(alloc: Global, word: Option<&str>) -> Result<ColourChoice, TaskError> {
+    let Some(word) = word else {
+        return Ok(ColourChoice::Auto);
+    };
+    match choice_of(word) {
+        Some(choice) => Ok(choice),
+        None => Err(refused(alloc, "colour", word, "always, never or auto")),
+    }
+}
+
+/// The layout of the table that is asked for.
+fn shown_layout<'a>(
+    alloc: Global,
+    terminal: &Terminal,
+    matches: &ArgMatches<'a>,
+) -> Result<Layout, TaskError> {
+    let width = asked_width(alloc, matches.get_str("width"))?;
+    let choice = asked_colour(alloc, matches.get_str("colour"))?;
+    match layout_of(terminal, width, choice) {
+        Some(layout) => Ok(layout),
+        None => Err(TaskError::Memory),
+    }
+}
+
+/// The task that the command with this name asks for.
+fn task_of<'a>(
+    alloc: Global,
+    terminal: &Terminal,
+    name: &str,
+    inner: &ArgMatches<'a>,
+) -> Result<Task<'a>, TaskError> {
     let file = inner.get_str("file");
     match name {
-        "sort" => Some(Task::Sort(file, sort_of(inner)?)),
-        "check" => Some(Task::Check(file)),
-        "explain" => Some(Task::Explain(file?)),
+        "sort" => Ok(Task::Sort(file, sort_of(alloc, inner)?)),
+        "explain" => Ok(Task::Explain(file.unwrap_or(""))),
         "show" => {
-            let layout = layout_of(terminal, inner.get_str("width"), inner.get_str("colour"))?;
-            Some(Task::Show(file, wanted_of(inner)?, layout))
+            let layout = shown_layout(alloc, terminal, inner)?;
+            Ok(Task::Show(file, wanted_of(alloc, inner)?, layout))
         }
         "picture" => {
             let picture = PictureWords {
                 out: inner.get_str("out"),
                 html: is_given(inner.get_str("html")),
             };
-            Some(Task::Picture(file, wanted_of(inner)?, picture))
+            Ok(Task::Picture(file, wanted_of(alloc, inner)?, picture))
         }
-        _ => None,
+        _ => Ok(Task::Check(file)),
     }
+}
+
+/// What clap's message says before its first empty line, in one line.
+fn reason_of_clap(alloc: Global, error: &Error) -> Result<String, AllocError> {
+    let text = format!(in alloc; "{error}")?;
+    let mut reason = String::new(alloc);
+    for line in text.lines() {
+        if line.is_empty() {
+            return Ok(reason);
+        }
+        let line = line.strip_prefix("error: ").unwrap_or(line);
+        match line.strip_prefix("  ") {
+            Some(rest) => {
+                reason.push_str(" ")?;
+                reason.push_str(rest)?;
+            }
+            None => reason.push_str(line)?,
+        }
+    }
+    Ok(reason)
 }
 
 /// Translates an error of clap.
@@ -343,7 +446,10 @@ fn translated(alloc: Global, error: &Error) -> TaskError {
             Err(_) => TaskError::Memory,
         },
         ErrorKind::OutOfMemory => TaskError::Memory,
-        _ => TaskError::Refused,
+        _ => match reason_of_clap(alloc, error) {
+            Ok(reason) => TaskError::Refused(reason),
+            Err(_) => TaskError::Memory,
+        },
     }
 }
 
@@ -358,9 +464,10 @@ pub fn read_task<'a>(
         return Err(TaskError::Memory);
     };
     match command.try_get_matches_from(words) {
-        Ok(matches) => match task_of(terminal, &matches) {
-            Some(task) => Ok(task),
-            None => Err(TaskError::Refused),
+        // Without a command, it is a check of standard input.
+        Ok(matches) => match matches.subcommand() {
+            Some((name, inner)) => task_of(alloc, terminal, name, inner),
+            None => Ok(Task::Check(None)),
         },
         Err(error) => Err(translated(alloc, &error)),
     }

@@ -15,7 +15,7 @@ use Rattle.lt_checker.specs.Pieces.{IsCountable, HasTaken, HasBegun, LacksHeader
 use Rattle.lt_checker.specs.Verdict.{Judges}
 use Rattle.lt_checker.specs.Version.{header_of}
 use Rattle.lt_checker.proofs.Verdicts.{is_said, legal_is_said, fault_is_said}
-use Rattle.lt_audit.specs.Audit.{EndsLine, StopsAtLineEnd, IsAfterLine, IsLineRead, IsBeginning, IsReading, RefusesPending, EndsWith, EndsAs, IsNoVerdict, EndsReading, EndsReadingAs, IsAudited, IsAuditedAs, stopped, IsSplit, IsExplained, SaysOfLine}
+use Rattle.lt_audit.specs.Audit.{EndsLine, StopsAtLineEnd, IsAfterLine, IsLineRead, IsBeginning, IsReading, RefusesPending, EndsWith, EndsAs, IsNoVerdict, EndsReading, EndsReadingAs, IsAudited, IsAuditedAs, stopped, IsSplit, IsExplained, IsFirstLine, SaysOfLine}
 use Rattle.lt_audit.specs.declared.explained.Explained.{Explained}
 use Rattle.lt_audit.specs.declared.error.AuditError.{AuditError}
 use Rattle.lt_audit.specs.declared.error.AuditError.TheVariants as errors
@@ -252,35 +252,43 @@ rest_is_audited_as source now c pending (Err e) h k = k source h
 
 -- ---- one line
 
-pub explained : (source mid now : Option (List ℕ)) (c : Checker) (old pending : List ℕ) (n number : ℕ) (line : List ℕ) (x : Explained) → IsReading source mid c old → IsLineRead mid now old pending n → StopsAtLineEnd mid now pending → IsSplit pending line
-    → c.report.steps + 2 ≡ number → SaysOfLine c line x → IsExplained source number x
+pub explained : (source mid now : Option (List ℕ)) (c : Checker) (old pending : List ℕ) (n number : ℕ) (line : List ℕ) (ended : Bool) (x : Explained) → IsReading source mid c old → IsLineRead mid now old pending n → StopsAtLineEnd mid now pending → IsSplit pending line ended
+    → c.report.steps + 2 ≡ number → SaysOfLine c line ended x → IsExplained source number x
 unfolding reads_line
-explained source mid now c old pending n number line x before r stops split numbered said = by_source source mid now before.taken (reads_line source mid now c old pending n before r).taken stops split
+explained source mid now c old pending n number line ended x before r stops split numbered said = by_source source mid now ended said.ended_is before.taken (reads_line source mid now c old pending n before r).taken stops split
   where
-    with_rest : (s : Option (List ℕ)) (after : List ℕ) → IfSome s (λ all. (all ≡ before.before ++ (line ++ after)) × IsAfterLine after) → IsExplained s number x
-    with_rest s after is_given = record {
+    with_rest : (s : Option (List ℕ)) (after : List ℕ) (e : Bool) → x.is_ended ≡ e → IfSome s (λ all. (all ≡ before.before ++ (line ++ after)) × IsAfterLine e after) → IsExplained s number x
+    with_rest s after e is is_given = record {
       checker = c;
       before = before.before;
       has_taken = before.has_taken;
       numbered = numbered;
       after = after;
       line = line;
-      is_given = is_given;
-      said = said;
+      is_given = subst (λ (b : Bool). IfSome s (λ all. (all ≡ before.before ++ (line ++ after)) × IsAfterLine b after)) (sym is) is_given;
+      said = subst (λ (b : Bool). SaysOfLine c line b x) (sym said.ended_is) said;
     }
 
     nothing_left : (ys : List ℕ) → EndsLine pending ⊎ (ys ≡ []) → (EndsLine pending → ⊥) → ys ≡ []
     nothing_left ys (inl e) open_end = absurd (open_end e)
     nothing_left ys (inr e) open_end = e
 
-    by_source : (s m l : Option (List ℕ)) → Consumes s m (before.before ++ old) → Consumes s l (before.before ++ pending) → StopsAtLineEnd m l pending → IsSplit pending line → IsExplained s number x
-    by_source None m l j k stops split = with_rest None [] tt
-    by_source (Some xs) None l j k stops split = absurd j
-    by_source (Some xs) (Some zs) None j k stops split = absurd k
-    by_source (Some xs) (Some zs) (Some ys) j k stops (inl whole) =
+    by_source : (s m l : Option (List ℕ)) (e : Bool) → x.is_ended ≡ e → Consumes s m (before.before ++ old) → Consumes s l (before.before ++ pending) → StopsAtLineEnd m l pending → IsSplit pending line e → IsExplained s number x
+    by_source None m l e is j k stops split = with_rest None [] e is tt
+    by_source (Some xs) None l e is j k stops split = absurd j
+    by_source (Some xs) (Some zs) None e is j k stops split = absurd k
+    by_source (Some xs) (Some zs) (Some ys) false is j k stops whole =
         let text : xs ≡ before.before ++ (line ++ ys) = k ∙ (append_assoc before.before pending ys ∙ ap (λ (t : List ℕ). before.before ++ (t ++ ys)) whole.0) in
-        with_rest (Some xs) [] (subst (λ (t : List ℕ). xs ≡ before.before ++ (line ++ t)) (nothing_left ys stops whole.1) text, tt)
-    by_source (Some xs) (Some zs) (Some ys) j k stops (inr cut) =
+        with_rest (Some xs) [] false is (subst (λ (t : List ℕ). xs ≡ before.before ++ (line ++ t)) (nothing_left ys stops whole.1) text, refl)
+    by_source (Some xs) (Some zs) (Some ys) true is j k stops cut =
         let text : xs ≡ before.before ++ (line ++ (10 ∷ ys)) =
         k ∙ (append_assoc before.before pending ys ∙ ap (λ (t : List ℕ). before.before ++ t) (ap (λ (t : List ℕ). t ++ ys) cut ∙ append_assoc line (10 ∷ []) ys)) in
-        with_rest (Some xs) (10 ∷ ys) (text, refl)
+        with_rest (Some xs) (10 ∷ ys) true is (text, (ys, refl))
+
+-- A read from the beginning gives the first line.
+pub first_line : (source now : Option (List ℕ)) (old line : List ℕ) (n : ℕ) → IsLineRead source now old line n → old ≡ [] → StopsAtLineEnd source now line → IsFirstLine source line
+first_line None now old line n r empty stops = tt
+first_line (Some xs) None old line n r empty stops = absurd r.taken
+first_line (Some xs) (Some ys) old line n r empty stops =
+    let grown : line ≡ r.bytes = r.grown ∙ ap (λ (t : List ℕ). t ++ r.bytes) empty in
+    (ys, subst (λ (t : List ℕ). xs ≡ t ++ ys) (sym grown) r.taken, stops)

@@ -1,18 +1,15 @@
 -- What the check of a stream says of the text that the stream gives.
-use Rattle.std.specs.Prelude.{ℕ, ◌≡◌, ◌⊎◌, ◌+◌, ◌≤◌, List, ◌++◌, length, take, Option, Result, Ok, Err, IfSome, IfNone, ◌∷◌, []}
+use Rattle.std.specs.Prelude.{ℕ, ◌≡◌, ◌⊎◌, ◌+◌, ◌≤◌, Bool, true, false, List, ◌++◌, length, take, Option, Result, Ok, Err, IfSome, IfNone, ◌∷◌, []}
 use Rattle.std.specs.Io.KnownBytes.{Consumes, IsAtEnd}
 use Rattle.lt_checker.specs.declared.checker.Report.{Report}
 use Rattle.lt_checker.specs.declared.checker.CheckError.{CheckError}
 use Rattle.lt_checker.specs.declared.checker.CheckError.TheVariants as checks
 use Rattle.lt_checker.specs.declared.pieces.Checker.{Checker}
-use Rattle.lt_checker.specs.Pieces.{IsCountable, HasTaken, RefusesFrom, GivesByRules, NoLineComesNext, SaysAtEnd, AcceptsAtEnd, RefusesAtEnd}
-use Rattle.lt_rules.specs.declared.call.Call.{Call}
-use Rattle.lt_rules.specs.Rules.{Record}
-use Rattle.lt_checker.specs.Cursor.{spot}
+use Rattle.lt_checker.specs.Pieces.{IsCountable, HasTaken, RefusesFrom, SaysAtEnd, AcceptsAtEnd, RefusesAtEnd}
 use Rattle.lt_checker.specs.Lines.{Parts, IsLine, line_text}
-use Rattle.lt_checker.specs.Text.{record_before}
 use Rattle.lt_checker.specs.Verdict.{IsLegalText, Says, IsOrMemory, RefusesFaulty}
 use Rattle.lt_audit.specs.declared.explained.Explained.{Explained}
+use Rattle.lt_audit.specs.Reasons.{IsLineOf, IsReasonFor}
 use Rattle.lt_audit.specs.declared.error.AuditError.{AuditError}
 use Rattle.lt_audit.specs.declared.error.AuditError.TheVariants as errors
 
@@ -109,35 +106,27 @@ EndsReadingAs now c pending e = (source : Option (List ℕ)) → IsReading sourc
 -- ---- one line
 
 -- The line is the bytes without the line end at their end, if they have one.
-abbrev pub IsSplit : List ℕ → List ℕ → Type 0
-IsSplit bytes line = ((bytes ≡ line) × (EndsLine bytes → ⊥)) ⊎ (bytes ≡ line ++ 10 ∷ [])
+abbrev pub IsSplit : List ℕ → List ℕ → Bool → Type 0
+IsSplit bytes line true = bytes ≡ line ++ 10 ∷ []
+IsSplit bytes line false = (bytes ≡ line) × (EndsLine bytes → ⊥)
 
 -- No line has this text, given without its line end.
 abbrev pub IsNoLine : List ℕ → Type 0
 IsNoLine bytes = (p : Parts) → IsLine p → line_text p ≡ bytes ++ 10 ∷ [] → ⊥
 
--- These bytes come after a line: a line end, or none.
-abbrev pub IsAfterLine : List ℕ → Type 0
-IsAfterLine [] = Unit {0}
-IsAfterLine (b ∷ bs) = b ≡ 10
+-- These bytes come after a line: its line end and more if it has one, and otherwise none.
+abbrev pub IsAfterLine : Bool → List ℕ → Type 0
+IsAfterLine true after = (more : List ℕ) × (after ≡ 10 ∷ more)
+IsAfterLine false after = after ≡ []
 
--- The line, given without its line end, has this call, and this is the record of its key before it.
-pub record IsCallWithRecord (c : Checker) (bytes : List ℕ) (call : Call) (state : Record) : Type 0 where
-  pub parts : Parts
-  pub line : IsLine parts
-  pub is_text : line_text parts ≡ bytes ++ 10 ∷ []
-  pub call_is : call ≡ parts.step.call
-  pub state_is : state ≡ record_before (spot c.cursor) parts.key
-
--- This is what the rules say of the line after the lines that the checker has taken. The record is what its call finds,
--- and the reply and the tickets are what the rules give for it. Without a call, the line is no line; without a reply, no
--- line with this text may come next.
-pub record SaysOfLine (checker : Checker) (line : List ℕ) (x : Explained) : Type 0 where
+-- This is what is said of the line after the lines that the checker has taken. Without words, it is no line.
+pub record SaysOfLine (checker : Checker) (line : List ℕ) (ended : Bool) (x : Explained) : Type 0 where
   pub is_line : x.line.items ≡ line
-  pub asked : IfSome x.asked (λ a. IsCallWithRecord checker line a.0 a.1)
+  pub ended_is : x.is_ended ≡ ended
+  pub version_is : x.version ≡ checker.report.version
+  pub asked : IfSome x.asked (IsLineOf line)
   pub unasked : IfNone x.asked (IsNoLine line)
-  pub given : IfSome x.expected (GivesByRules checker line)
-  pub ungiven : IfNone x.expected (NoLineComesNext checker.report.version (spot checker.cursor) line)
+  pub reason : IsReasonFor checker x.asked line x.reason
 
 -- The source gives legal lines and then this line, which has this number, counted from 1.
 pub record IsExplained (source : Option (List ℕ)) (number : ℕ) (x : Explained) : Type 0 where
@@ -147,5 +136,9 @@ pub record IsExplained (source : Option (List ℕ)) (number : ℕ) (x : Explaine
   pub numbered : checker.report.steps + 2 ≡ number
   pub after : List ℕ
   pub line : List ℕ
-  pub is_given : IfSome source (λ all. (all ≡ before ++ (line ++ after)) × IsAfterLine after)
-  pub said : SaysOfLine checker line x
+  pub is_given : IfSome source (λ all. (all ≡ before ++ (line ++ after)) × IsAfterLine x.is_ended after)
+  pub said : SaysOfLine checker line x.is_ended x
+
+-- The source begins with this line. It has a line end, or it is all.
+abbrev pub IsFirstLine : Option (List ℕ) → List ℕ → Type 0
+IsFirstLine source line = IfSome source (λ all. (after : List ℕ) × (all ≡ line ++ after) × (EndsLine line ⊎ (after ≡ [])))

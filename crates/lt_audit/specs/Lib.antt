@@ -1,3 +1,4 @@
 pub mod Audit
 pub mod KnownText
 pub mod Parallel
+pub mod Reasons

@@ -1,34 +1,58 @@
 //! What do the rules say about one line of a text?
 //!
-//! [`explain`] reads a text up to a line that a check refused. It gives the record of the line's key before it, the
-//! reply and the lets that the rules give for its call, and the key's latest lines. Read next: `rule.rt`, which names
-//! the row of docs/RULES.md that applies.
+//! [`explain`] reads a text up to a line that a check refused. It says why the check refused it, or what the rules give
+//! for its call, and gives the key's latest lines. [`read_first_line`] reads the first line of a text. Read next:
+//! `reason.rt`, `shape.rt` for the words of a line, and `rule.rt`, which names the row of docs/RULES.md that applies.
 ghost use Rattle.std.specs.Prelude.{◌≡◌, IfOk, IfErr, IfSome, IfNone};
-ghost use Rattle.lt_checker.specs.Cursor.{spot};
-ghost use Rattle.lt_checker.specs.Pieces.{GivesByRules, NoLineComesNext, TakesLines};
-ghost use Rattle.lt_audit.specs.Audit.{IsReading, IsAuditedAs, IsExplained, IsCallWithRecord, IsNoLine, IsSplit, RefusesPending, SaysOfLine};
+ghost use Rattle.lt_checker.specs.Pieces.{TakesLines};
+ghost use Rattle.lt_audit.specs.Audit.{IsReading, IsAuditedAs, IsExplained, IsFirstLine, IsSplit, RefusesPending, SaysOfLine, IsNoVerdict};
 
 use crate::error::AuditError;
+use crate::reason::{LineReason, asked, reason_for};
 use crate::stream::{begin, read_line, take_pending};
-use lt_checker::{Checker, Expected, HistoryLineError, Line};
-use lt_rules::{Call, KeyState};
+use lt_checker::{Checker, Fault, Line};
 use std::alloc::{AllocError, Global};
 use std::io::BufRead;
 
 /// How many lines of the key before the line are kept.
 pub const MOST_LINES: usize = 5;
 
-/// A line of a text, and what the rules say of it.
+/// A line of a text, and what a check and the rules say of it.
 #[derive(Drop)]
 pub struct Explained {
     /// The line, without its line end.
     pub line: Vec<u8>,
-    /// The line's call, and the record of its key before it. `None` if the line does not have the form of a line.
-    pub asked: Option<(Call, KeyState)>,
-    /// What the rules give for the call. `None` if the line does not have the form of a line, or does not come next.
-    pub expected: Option<Expected>,
+    /// Whether the line has a line end.
+    pub is_ended: bool,
+    /// The version of the text.
+    pub version: u8,
+    /// What the line says. `None` if it does not have the form of a line.
+    pub asked: Option<Line>,
+    /// Why a check refuses the line, but for its line end.
+    pub reason: LineReason,
     /// The latest lines before it, at most [`MOST_LINES`] and all of one key, in their order.
     pub before: Vec<Vec<u8>>,
+}
+
+impl Explained {
+    /// The first fault of the line. `None` if it is legal after the lines before it.
+    pub fn fault(&self) -> Option<Fault> {
+        match (&self.asked, &self.reason) {
+            (None, _) | (_, LineReason::Shape) => Some(Fault::Shape),
+            _ if !self.is_ended => Some(Fault::Shape),
+            (_, LineReason::KeyOrder(_)) => Some(Fault::KeyOrder),
+            (_, LineReason::Index(_)) => Some(Fault::Index),
+            (Some(line), LineReason::Rules(_, expected)) => {
+                if line.step.reply != expected.reply {
+                    return Some(Fault::WrongReply);
+                }
+                if line.tickets != expected.tickets {
+                    return Some(Fault::WrongLets);
+                }
+                None
+            }
+        }
+    }
 }
 
 /// Keeps the latest lines of a key: this one is the key's line with this index.
@@ -43,13 +67,13 @@ fn note_line(recent: &mut Vec<Vec<u8>>, line: Vec<u8>, index: u64) -> Result<(),
     Ok(())
 }
 
-/// The line without its line end, if it has one.
-fn without_end(line: &[u8]) -> &[u8]
-    ensures { IsSplit line.now result.now }
+/// The line without its line end, and whether it has one.
+fn without_end(line: &[u8]) -> (&[u8], bool)
+    ensures { IsSplit line.now result.0.now result.1 }
 {
     match line.split_last() {
-        Some((b'\n', rest)) => rest,
-        _ => line,
+        Some((b'\n', rest)) => (rest, true),
+        _ => (line, false),
     }
 }
 
@@ -71,7 +95,7 @@ fn check_line(
     ensures ok { IfOk result (λ _. TakesLines checker.old pending.old.items checker.new pending.new.items) }
     ensures err { IfErr result (RefusesPending checker.old pending.old.items) }
 {
-    let line = Vec::from_slice(alloc, without_end(pending))?;
+    let line = Vec::from_slice(alloc, without_end(pending).0)?;
     if let Err(error) = take_pending(alloc, checker, pending) {
         return Err(error);
     }
@@ -79,64 +103,34 @@ fn check_line(
     Ok(())
 }
 
-/// The call of a line, and the record of its key before it, if the line has the form of a line.
-fn asked(
-    alloc: Global,
-    checker: &Checker,
-    line: &[u8],
-) -> Result<Option<(Call, KeyState)>, AuditError>
-    ensures ok { IfOk result (λ x. IfSome x (λ a. IsCallWithRecord checker.now line.now a.0 a.1)) }
-    ensures none { IfOk result (λ x. IfNone x (IsNoLine line.now)) }
-    ensures err { IfErr result (λ e. e ≡ AuditError.Memory) }
-{
-    match lt_checker::read_line(alloc, line) {
-        Ok(Line { key, step, .. }) => {
-            let state = checker.state_before(alloc, &key)?;
-            Ok(Some((step.call, state)))
-        }
-        Err(HistoryLineError::Memory) => Err(AuditError::Memory),
-        Err(HistoryLineError::Fault(_)) => Ok(None),
-    }
-}
-
-/// What the rules give for the call of this line, if it may come next.
-fn expected(alloc: Global, checker: Checker, line: &[u8]) -> Result<Option<Expected>, AuditError>
-    ensures ok { IfOk result (λ x. IfSome x (GivesByRules checker line.now)) }
-    ensures none { IfOk result (λ x. IfNone x
-        (NoLineComesNext checker.report.version (spot checker.cursor) line.now)) }
-    ensures err { IfErr result (λ e. e ≡ AuditError.Memory) }
-{
-    match checker.expected(alloc, line) {
-        Ok(expected) => Ok(Some(expected)),
-        Err(HistoryLineError::Memory) => Err(AuditError::Memory),
-        Err(HistoryLineError::Fault(_)) => Ok(None),
-    }
-}
-
-/// What the rules say of this line, which comes after those that the checker has taken. `before` are the latest of them.
+/// What is to be said of this line, which comes after those that the checker has taken. `before` are the latest of them.
 fn explain_line(
     alloc: Global,
     checker: Checker,
     line: &[u8],
+    is_ended: bool,
     before: Vec<Vec<u8>>,
 ) -> Result<Explained, AuditError>
-    ensures ok { IfOk result (SaysOfLine checker line.now) }
+    ensures ok { IfOk result (SaysOfLine checker line.now is_ended) }
     ensures err { IfErr result (λ e. e ≡ AuditError.Memory) }
 {
-    let asked = asked(alloc, &checker, line)?;
-    let expected = expected(alloc, checker, line)?;
+    let asked = asked(alloc, line)?;
+    let version = checker.report().version;
+    let reason = reason_for(alloc, checker, &asked, line)?;
     let line = Vec::from_slice(alloc, line)?;
     Ok(Explained {
         line,
+        is_ended,
+        version,
         asked,
-        expected,
+        reason,
         before,
     })
 }
 
-/// Reads the text up to the line with this number, counted from 1, and says what the rules give for it. The lines
-/// before it are checked: if one of them has a fault, the call answers `Refused` as a check does. `Read` also means
-/// that there is no such line of a step: the number is below 2, or the text has fewer lines.
+/// Reads the text up to the line with this number, counted from 1, and says what is to be said of it. The lines before
+/// it are checked: if one of them has a fault, the call answers `Refused` as a check does. `Read` also means that there
+/// is no such line of a step: the number is below 2, or the text has fewer lines.
 pub fn explain<R: BufRead>(
     alloc: Global,
     reader: &mut R,
@@ -168,5 +162,16 @@ pub fn explain<R: BufRead>(
     if checker.report().steps != number - 2 {
         return Err(AuditError::Read);
     }
-    explain_line(alloc, checker, without_end(&pending), recent)
+    let split = without_end(&pending);
+    explain_line(alloc, checker, split.0, split.1, recent)
+}
+
+/// The first line of the text, with its line end if it has one.
+pub fn read_first_line<R: BufRead>(alloc: Global, reader: &mut R) -> Result<Vec<u8>, AuditError>
+    ensures ok { IfOk result (λ line. IsFirstLine (R.remaining reader.old) line.items) }
+    ensures err { IfErr result IsNoVerdict }
+{
+    let mut line = Vec::new(alloc);
+    read_line(reader, &mut line)?;
+    Ok(line)
 }

@@ -1,24 +1,26 @@
--- Lists that hold the lanes of all callers.
-use Rattle.std.proofs.Common.{◌≡◌, ◌<◌, ℕ, ◌+◌, Bool, true, false, nat_lt, Some, List, slice_get, arith, refl}
+-- Lists that hold all of some lanes.
+use Rattle.std.proofs.Common.{◌≡◌, ◌<◌, ℕ, ◌+◌, Bool, true, false, nat_lt, Some, List, length, slice_get, arith, refl, sym}
 use Rattle.std.specs.Prelude.{Contains, IsPermutation}
 use Rattle.std.proofs.lemmas.Bool.Decides.{nat_tests}
 use Rattle.std.proofs.lemmas.List.Sorted.{Contains-permutation}
-use Rattle.lt_picture.specs.declared.step.ShownStep.{ShownStep}
+use Rattle.std.proofs.lemmas.Option.{slice_get_read}
 use Rattle.lt_picture.specs.declared.timeline.Lane.{Lane}
-use Rattle.lt_picture.specs.Phases.{caller_of}
-use Rattle.lt_picture.specs.Bars.{KeepsLanes, CallersHaveLanes}
+use Rattle.lt_picture.specs.Owners.{KeepsLanes, HaveLanes, HaveLanesOf}
 
-callers_if : (t : Bool) (old new : List Lane) (steps : List ShownStep) (n : ℕ) (here : ShownStep) → slice_get steps n ≡ Some here → Contains new (caller_of here.call) → KeepsLanes old new → CallersHaveLanes old steps n → (k : ℕ) (s : ShownStep) → nat_lt k n ≡ t → k < n + 1 → slice_get steps k ≡ Some s → Contains new (caller_of s.call)
-callers_if true old new steps n here at added kept all k s lower low is =
+lanes_if : (t : Bool) (old new lanes : List Lane) (n : ℕ) (here : Lane) → slice_get lanes n ≡ Some here → Contains new here → KeepsLanes old new → HaveLanes old lanes n → (k : ℕ) (l : Lane) → nat_lt k n ≡ t → k < n + 1 → slice_get lanes k ≡ Some l → Contains new l
+lanes_if true old new lanes n here at added kept all k l lower low is =
     let below : k < n = grind (arith, nat_tests) in
-    kept (caller_of s.call) (all k s below is)
-callers_if false old new steps n here at added kept all k s lower low is =
+    kept l (all k l below is)
+lanes_if false old new lanes n here at added kept all k l lower low is =
     let same : k ≡ n = grind (arith, nat_tests) in
-    let step : s ≡ here = cc in
-    rw step added
+    let lane : l ≡ here = cc in
+    rw lane added
 
-pub callers_more : (old new : List Lane) (steps : List ShownStep) (n : ℕ) (here : ShownStep) → slice_get steps n ≡ Some here → Contains new (caller_of here.call) → KeepsLanes old new → CallersHaveLanes old steps n → CallersHaveLanes new steps (n + 1)
-callers_more old new steps n here at added kept all = λ k s low is. callers_if (nat_lt k n) old new steps n here at added kept all k s refl low is
+pub lanes_more_by : (old new lanes : List Lane) (n : ℕ) (here : Lane) → slice_get lanes n ≡ Some here → Contains new here → KeepsLanes old new → HaveLanes old lanes n → HaveLanes new lanes (n + 1)
+lanes_more_by old new lanes n here at added kept all = λ k l low is. lanes_if (nat_lt k n) old new lanes n here at added kept all k l refl low is
 
-pub callers_sorted : (old new : List Lane) (steps : List ShownStep) (n : ℕ) → IsPermutation old new → CallersHaveLanes old steps n → CallersHaveLanes new steps n
-callers_sorted old new steps n moved all = λ k s low is. Contains-permutation old new (caller_of s.call) moved (all k s low is)
+-- What holds all lanes of a list that was reordered holds all of the list.
+pub has_all_sorted : (own sorted all : List Lane) → IsPermutation all sorted → HaveLanes own sorted (length sorted) → HaveLanesOf own all
+has_all_sorted own sorted all moved have = λ l there.
+    let found : Contains sorted l = Contains-permutation all sorted l moved there in
+    have found.0 l found.1 (slice_get_read sorted (length sorted) found.0 l refl found.1 (sym found.2))

@@ -1,5 +1,5 @@
 -- The longest runs of one phase, and that bars show them all.
-use Rattle.std.proofs.Common.{◌≡◌, ◌≢◌, ◌≤◌, ◌<◌, ℕ, suc, Bool, true, false, nat_lt, if◌then◌else◌, Some, List, [], ◌∷◌, ◌++◌, All, length, slice_get, arith, refl, sym, ◌∙◌, zero}
+use Rattle.std.proofs.Common.{◌≡◌, ◌≢◌, ◌≤◌, ◌<◌, ℕ, suc, Bool, true, false, nat_lt, if◌then◌else◌, Some, List, [], ◌∷◌, ◌++◌, All, length, slice_get, arith, refl, sym, ◌∙◌}
 use Rattle.std.specs.List.{list_any}
 use Rattle.std.proofs.lemmas.Grind.{common_steps}
 use Rattle.std.proofs.lemmas.Bool.Decides.{nat_tests}
@@ -7,21 +7,11 @@ use Rattle.std.proofs.lemmas.List.Elements.{All-append, All-cons, All-nil}
 use Rattle.std.proofs.lemmas.List.Folds.{list_any-append}
 use Rattle.lt_picture.specs.declared.lanes.Bar.{Bar}
 use Rattle.lt_picture.specs.declared.timeline.Phase.{Phase}
-use Rattle.lt_picture.specs.declared.timeline.Phase.TheVariants.{Out}
 use Rattle.lt_picture.specs.Phases.{is_out}
-use Rattle.lt_picture.specs.Bars.{IsRunIn, StartsOut, with_run, covers, AreShownBelow}
-
--- a run of another phase than `Out` does not begin at index 0
-first_of : (phases : List Phase) (from : ℕ) (p : Phase) → StartsOut phases → is_out p ≡ false → slice_get phases from ≡ Some p → 1 ≤ from
-first_of phases zero p out shown at =
-    let same : p ≡ Out = cc in
-    let clash = rw same at shown in
-    cc
-first_of phases (suc n) p out shown at = omega arith
+use Rattle.lt_picture.specs.Bars.{IsRunIn, with_run, covers, AreShownBelow}
 
 -- what is known of a run that begins at an index and ends before another
 pub record RunsTo (phases : List Phase) (from end : ℕ) (p : Phase) : Type 0 where
-  pub out : StartsOut phases
   pub at : slice_get phases from ≡ Some p
   pub before : (k : ℕ) → suc k ≡ from → slice_get phases k ≢ slice_get phases from
   pub some : from < end
@@ -37,7 +27,6 @@ run_of lane phases from end p r shown = record {
   lane = refl;
   run = record {
     shown = shown;
-    from_first = first_of phases from p r.out shown r.at;
     some = r.some;
     to_last = r.within;
     before = λ k next is. r.before k next (is ∙ sym r.at);

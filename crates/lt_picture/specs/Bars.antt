@@ -1,19 +1,19 @@
 -- Which bars and arrows a picture has.
-use Rattle.std.specs.Prelude.{ℕ, Bool, true, false, ◌≡◌, ◌≢◌, ◌≤◌, ◌<◌, ◌+◌, ◌&&◌, nat_eq, nat_le, nat_lt, suc, if◌then◌else◌, Some, List, [], ◌∷◌, ◌++◌, length, slice_get, All, Contains}
+use Rattle.std.specs.Prelude.{ℕ, Bool, true, false, ◌≡◌, ◌≢◌, ◌≤◌, ◌<◌, ◌+◌, ◌&&◌, nat_eq, nat_le, nat_lt, suc, if◌then◌else◌, Some, List, [], ◌∷◌, ◌++◌, length, slice_get, All}
 use Rattle.std.specs.List.{list_any}
+use Rattle.lt_rules.specs.Rules.{Record}
 use Rattle.lt_picture.specs.declared.lanes.Bar.{Bar}
 use Rattle.lt_picture.specs.declared.lanes.Arrow.{Arrow}
 use Rattle.lt_picture.specs.declared.step.ShownStep.{ShownStep}
 use Rattle.lt_picture.specs.declared.timeline.Lane.{Lane}
 use Rattle.lt_picture.specs.declared.timeline.Phase.{Phase}
-use Rattle.lt_picture.specs.declared.timeline.Phase.TheVariants.{Out}
-use Rattle.lt_picture.specs.Phases.{timeline_of, is_out, caller_of}
+use Rattle.lt_picture.specs.Phases.{timeline_of, is_out}
 
--- The bar is a longest run of one phase of a lane: it begins at the step that began the phase, and ends at the step
--- that ended it, or after the last one. The phases are those of `timeline_of`, so a phase's index is its step's number.
+-- The bar is a longest run of one phase of a lane: it begins at the step that began the phase, or at 0 if the phase was
+-- there before the first step. It ends at the step that ended the phase, or after the last one. The phases are those of
+-- `timeline_of`, so a phase's index is its step's number.
 pub record IsLongestRun (phases : List Phase) (b : Bar) : Type 0 where
   pub shown : is_out b.phase ≡ false
-  pub from_first : 1 ≤ b.first
   pub some : b.first < b.end
   pub to_last : b.end ≤ length phases
   pub before : (k : ℕ) → suc k ≡ b.first → slice_get phases k ≢ Some b.phase
@@ -25,10 +25,10 @@ pub record IsRunIn (index : ℕ) (phases : List Phase) (b : Bar) : Type 0 where
   pub lane : b.lane ≡ index
   pub run : IsLongestRun phases b
 
--- The bar is such a run of its lane, after these steps.
-pub record IsBarOf (lanes : List Lane) (steps : List ShownStep) (b : Bar) : Type 0 where
+-- The bar is such a run of its lane, if this is the state before these steps.
+pub record IsBarOf (lanes : List Lane) (before : Record) (steps : List ShownStep) (b : Bar) : Type 0 where
   pub lane : b.lane < length lanes
-  pub run : (l : Lane) → slice_get lanes b.lane ≡ Some l → IsLongestRun (timeline_of l steps) b
+  pub run : (l : Lane) → slice_get lanes b.lane ≡ Some l → IsLongestRun (timeline_of l before steps) b
 
 -- the bars and this one, unless its phase is `Out`
 abbrev pub with_run : List Bar → Bar → List Bar
@@ -45,16 +45,12 @@ AreShownBelow lane phases bars end =
     list_any (covers lane k) bars ≡ true
 
 -- Each phase of each of the lanes with an index below `end` is within a bar of its lane, unless it is `Out`.
-abbrev pub ShowLanesBelow : List Lane → List ShownStep → List Bar → ℕ → Type 0
-ShowLanesBelow lanes steps bars end =
+abbrev pub ShowLanesBelow : List Lane → Record → List ShownStep → List Bar → ℕ → Type 0
+ShowLanesBelow lanes before steps bars end =
     (i : ℕ) (l : Lane) → i < end → slice_get lanes i ≡ Some l →
-    AreShownBelow i (timeline_of l steps) bars (length steps + 1)
+    AreShownBelow i (timeline_of l before steps) bars (length steps + 1)
 
--- Nobody is at the key before the first step.
-abbrev pub StartsOut : List Phase → Type 0
-StartsOut phases = slice_get phases 0 ≡ Some Out
-
--- The arrow lies within this many steps and lanes, and leads from one lane to another.
+-- The arrow lies within this many steps and lanes.
 pub record IsArrowWithin (steps lanes : ℕ) (a : Arrow) : Type 0 where
   pub first : 1 ≤ a.step
   pub last : a.step ≤ steps
@@ -65,12 +61,3 @@ pub record IsArrowWithin (steps lanes : ℕ) (a : Arrow) : Type 0 where
 abbrev pub KeepsArrowsWithin : ℕ → ℕ → List Arrow → List Arrow → Type 0
 KeepsArrowsWithin lanes step old new =
     (steps : ℕ) → step ≤ steps → All (IsArrowWithin steps lanes) old → All (IsArrowWithin steps lanes) new
-
--- No lane is lost.
-abbrev pub KeepsLanes : List Lane → List Lane → Type 0
-KeepsLanes old new = (l : Lane) → Contains old l → Contains new l
-
--- The callers of the first `end` of these steps have lanes.
-abbrev pub CallersHaveLanes : List Lane → List ShownStep → ℕ → Type 0
-CallersHaveLanes lanes steps end =
-    (k : ℕ) (s : ShownStep) → k < end → slice_get steps k ≡ Some s → Contains lanes (caller_of s.call)

@@ -57,6 +57,6 @@ abbrev pub phase_of : Lane → Record → Phase
 phase_of (Txn number) r = holder_phase number r.holder
 phase_of (Request number) r = request_phase number r
 
--- the lane's phases: before the first step, and after each step
-abbrev pub timeline_of : Lane → List ShownStep → List Phase
-timeline_of lane steps = Out ∷ map (λ s. phase_of lane s.state) steps
+-- the lane's phases: in the state before the first step, and after each step
+abbrev pub timeline_of : Lane → Record → List ShownStep → List Phase
+timeline_of lane before steps = phase_of lane before ∷ map (λ s. phase_of lane s.state) steps

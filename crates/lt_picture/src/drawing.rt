@@ -114,6 +114,26 @@ pub(crate) fn put_vertical(
     put(out, b"\"/>\n")
 }
 
+/// Appends a white zigzag of six pieces of so many pixels down from this point, the torn end of a bar.
+pub(crate) fn put_torn_end(
+    out: &mut Vec<u8>,
+    x: u64,
+    y: u64,
+    piece: u64,
+) -> Result<(), AllocError> {
+    put(out, b"<path class=\"torn\" d=\"M")?;
+    put_number(out, x)?;
+    put(out, b" ")?;
+    put_number(out, y)?;
+    for _ in 0..3 {
+        put(out, b"l5 ")?;
+        put_number(out, piece)?;
+        put(out, b"l-5 ")?;
+        put_number(out, piece)?;
+    }
+    put(out, b"\"/>\n")
+}
+
 /// Appends a circle with a letter in it.
 pub(crate) fn put_marker(
     out: &mut Vec<u8>,

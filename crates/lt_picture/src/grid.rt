@@ -97,6 +97,11 @@ impl Grid {
             .saturating_add(self.step.saturating_mul(self.steps))
     }
 
+    /// The left end of a bar that begins at the step with this number, or at the left edge if the number is 0.
+    pub(crate) fn bar_start(self, number: u64) -> u64 {
+        self.x(number).max(self.left)
+    }
+
     /// The right end of a bar that ends at the step with this number, or at the right edge if there is no such step.
     pub(crate) fn bar_end(self, number: u64) -> u64 {
         self.x(number).min(self.right())

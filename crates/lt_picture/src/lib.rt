@@ -3,8 +3,8 @@
 //!
 //! The input is a list of [`ShownStep`]: each step of the key with the key's state after it. [`put_heading`] and
 //! [`put_shown`] write the table, one line for each step; a [`Terminal`] decides how wide it is and whether it is
-//! coloured. [`picture`] writes the SVG and [`html`] the page, for at most [`MOST_STEPS`] steps. [`lanes_of`] computes
-//! what the picture shows: who has a lane, which bar is in which lane, and who lets whom through.
+//! coloured. [`picture`] writes the SVG of a [`ShownRange`] and [`html`] the page, for at most [`MOST_STEPS`] steps.
+//! [`lanes_of`] computes what the picture shows: who has a lane, which bar is in which lane, and who lets whom through.
 //!
 //! Read next: `step.rt` has the input; `cell.rt`, `columns.rt`, `terminal.rt` and `show.rt` make the table; `lanes.rt`
 //! computes the bars, and `svg.rt` draws them. `specs/` defines what is escaped and how, how a cell fits its width, and
@@ -33,7 +33,7 @@ pub use escape::{put_escaped, put_printable};
 pub use lanes::{Arrow, Bar, Lanes, MOST_STEPS, lanes_of};
 pub use page::html;
 pub use show::{put_heading, put_key, put_shown};
-pub use step::ShownStep;
+pub use step::{ShownRange, ShownStep};
 pub use svg::picture;
 pub use terminal::{ColourChoice, Terminal};
 pub use timeline::{Lane, Phase};

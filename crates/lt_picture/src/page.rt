@@ -7,9 +7,9 @@ use crate::drawing::put;
 use crate::error::PictureError;
 use crate::escape::put_escaped;
 use crate::lanes::lanes_of;
-use crate::step::ShownStep;
-use crate::svg::{put_picture, put_range};
-use crate::words::{put_column, put_column_name};
+use crate::step::{ShownRange, ShownStep};
+use crate::svg::{has_earlier, put_picture, put_range};
+use crate::words::{put_column, put_column_before, put_column_name};
 use lt_ids::Key;
 use std::alloc::{AllocError, Global};
 
@@ -25,7 +25,7 @@ tr:nth-child(even) td{background:#f4f5f7}\
 </style>\n";
 
 /// Appends the start of the page, up to the picture.
-fn put_page_start(out: &mut Vec<u8>, key: &Key, steps: &[ShownStep]) -> Result<(), AllocError> {
+fn put_page_start(out: &mut Vec<u8>, key: &Key, range: &ShownRange) -> Result<(), AllocError> {
     put(
         out,
         b"<!DOCTYPE html>\n<html lang=\"en\">\n<head>\n<meta charset=\"utf-8\">\n<title>key ",
@@ -36,7 +36,7 @@ fn put_page_start(out: &mut Vec<u8>, key: &Key, steps: &[ShownStep]) -> Result<(
     put(out, b"</head>\n<body>\n<h1>key ")?;
     put_escaped(out, key.as_bytes())?;
     put(out, b", ")?;
-    put_range(out, steps)?;
+    put_range(out, range)?;
     put(out, b"</h1>\n<div class=\"picture\">\n")
 }
 
@@ -62,11 +62,25 @@ fn put_step_row(out: &mut Vec<u8>, step: &ShownStep) -> Result<(), AllocError> {
     put(out, b"</tr>\n")
 }
 
+/// Appends the row of the state before the first step.
+fn put_row_before(out: &mut Vec<u8>, range: &ShownRange) -> Result<(), AllocError> {
+    put(out, b"<tr>")?;
+    for column in 0..COLUMNS {
+        put(out, b"<td>")?;
+        put_column_before(out, &range.before, column)?;
+        put(out, b"</td>")?;
+    }
+    put(out, b"</tr>\n")
+}
+
 /// Appends the table of the steps.
-fn put_table(out: &mut Vec<u8>, steps: &[ShownStep]) -> Result<(), AllocError> {
+fn put_table(out: &mut Vec<u8>, range: &ShownRange) -> Result<(), AllocError> {
     put(out, b"<table>\n")?;
     put_names_row(out)?;
-    for step in steps {
+    if has_earlier(range) {
+        put_row_before(out, range)?;
+    }
+    for step in &range.steps {
         put_step_row(out, step)?;
     }
     put(
@@ -77,15 +91,15 @@ fn put_table(out: &mut Vec<u8>, steps: &[ShownStep]) -> Result<(), AllocError> {
 
 /// A page of HTML with the picture of these steps of the key and a table of them, as ASCII text. It fails with
 /// `TooManySteps` exactly for more than 400 steps, and otherwise only when an allocation fails.
-pub fn html(alloc: Global, key: &Key, steps: &[ShownStep]) -> Result<Vec<u8>, PictureError>
-    ensures too_many { (result ≡ Err PictureError.TooManySteps) ↔ (400 < length steps.now) }
+pub fn html(alloc: Global, key: &Key, range: &ShownRange) -> Result<Vec<u8>, PictureError>
+    ensures too_many { (result ≡ Err PictureError.TooManySteps) ↔ (400 < length range.now.steps.items) }
 {
-    let layout = lanes_of(alloc, steps)?;
+    let layout = lanes_of(alloc, &range.before, &range.steps)?;
     let mut out = Vec::new(alloc);
-    put_page_start(&mut out, key, steps)?;
-    put_picture(&mut out, key, &layout, steps)?;
+    put_page_start(&mut out, key, range)?;
+    put_picture(&mut out, key, &layout, range)?;
     put(&mut out, b"</div>\n")?;
-    put_table(&mut out, steps)?;
+    put_table(&mut out, range)?;
     put(&mut out, b"</body>\n</html>\n")?;
     Ok(out)
 }

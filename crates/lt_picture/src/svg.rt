@@ -4,21 +4,24 @@
 ghost use Rattle.std.specs.Prelude.{◌≡◌, ◌<◌, ◌↔◌, Err, length};
 
 use crate::drawing::{
-    Area, end_text, end_titled_rect, put, put_attribute, put_marker, put_rect, put_vertical,
-    start_text, start_titled_rect,
+    Area, end_text, end_titled_rect, put, put_attribute, put_marker, put_rect, put_torn_end,
+    put_vertical, start_text, start_titled_rect,
 };
 use crate::error::PictureError;
 use crate::escape::put_escaped;
 use crate::grid::{BAR, Grid};
 use crate::lanes::{Arrow, Bar, Lanes, lanes_of};
 use crate::legend::put_legend;
-use crate::step::ShownStep;
+use crate::step::{ShownRange, ShownStep};
 use crate::timeline::{Lane, Phase, lane_of};
-use crate::words::put_step_words;
+use crate::words::{put_state, put_step_words};
 use lt_ids::{Access, Key};
 use lt_rules::{Call, Reply};
 use lt_text::put::put_number;
 use std::alloc::{AllocError, Global};
+
+/// How many bytes of a key fit into the narrowest picture, however wide its letters are.
+const MOST_KEY_SHOWN: usize = 40;
 
 /// The styles, the patterns and the head of an arrow.
 const STYLE: &[u8] = b"<style>\
@@ -39,6 +42,7 @@ text{font-family:Helvetica,Arial,sans-serif;font-size:13px;fill:#222}\
 .arrow{stroke:#111;stroke-width:1.8;fill:none;marker-end:url(#head)}\
 .marker{fill:#fff;stroke:#222;stroke-width:1.4}\
 .none{stroke-dasharray:2.5 2}\
+.torn{stroke:#fff;stroke-width:4;fill:none}\
 </style>\n<defs>\
 <pattern id=\"stripes\" width=\"7\" height=\"7\" patternUnits=\"userSpaceOnUse\" patternTransform=\"rotate(45)\">\
 <rect width=\"7\" height=\"7\" fill=\"#ececec\"/><rect width=\"2.2\" height=\"7\" fill=\"#a9a9a9\"/></pattern>\
@@ -74,25 +78,68 @@ fn put_start(out: &mut Vec<u8>, grid: Grid) -> Result<(), AllocError> {
     put(out, STYLE)
 }
 
-/// Appends `steps FIRST to LAST`.
-pub(crate) fn put_range(out: &mut Vec<u8>, steps: &[ShownStep]) -> Result<(), AllocError> {
-    let (Some(first), Some(last)) = (steps.first(), steps.last()) else {
+/// Whether the key has steps before those that are drawn.
+pub(crate) fn has_earlier(range: &ShownRange) -> bool {
+    match range.steps.first() {
+        Some(first) => first.index > 1,
+        None => false,
+    }
+}
+
+/// Appends which steps of the key are not drawn.
+fn put_undrawn(out: &mut Vec<u8>, range: &ShownRange) -> Result<(), AllocError> {
+    match (has_earlier(range), range.goes_on) {
+        (true, true) => put(out, b"; earlier and later ones are not drawn"),
+        (true, false) => put(out, b"; earlier ones are not drawn"),
+        (false, true) => put(out, b"; later ones are not drawn"),
+        (false, false) => Ok(()),
+    }
+}
+
+/// Appends `steps FIRST to LAST`, and which steps of the key are not drawn.
+pub(crate) fn put_range(out: &mut Vec<u8>, range: &ShownRange) -> Result<(), AllocError> {
+    let (Some(first), Some(last)) = (range.steps.first(), range.steps.last()) else {
         return put(out, b"no steps");
     };
     put(out, b"steps ")?;
     put_number(out, first.index)?;
     put(out, b" to ")?;
-    put_number(out, last.index)
+    put_number(out, last.index)?;
+    put_undrawn(out, range)
+}
+
+/// Appends a title with the state before the first step, if the key has earlier steps.
+fn put_title_before(out: &mut Vec<u8>, range: &ShownRange) -> Result<(), AllocError> {
+    if !has_earlier(range) {
+        return Ok(());
+    }
+    put(out, b"<title>before them:")?;
+    put_state(out, &range.before)?;
+    put(out, b"</title>")
+}
+
+/// Appends the key. One that may be wider than the picture is cut and ends in `~`, and has a title with all of it.
+fn put_key_name(out: &mut Vec<u8>, key: &[u8]) -> Result<(), AllocError> {
+    if key.len() <= MOST_KEY_SHOWN {
+        put(out, b"key ")?;
+        return put_escaped(out, key);
+    }
+    put(out, b"<title>")?;
+    put_escaped(out, key)?;
+    put(out, b"</title>key ")?;
+    let (shown, _) = key.split_at(MOST_KEY_SHOWN);
+    put_escaped(out, shown)?;
+    put(out, b"~")
 }
 
 /// Appends the key and the range of the steps.
-fn put_head(out: &mut Vec<u8>, key: &Key, steps: &[ShownStep]) -> Result<(), AllocError> {
+fn put_head(out: &mut Vec<u8>, key: &Key, range: &ShownRange) -> Result<(), AllocError> {
     start_text(out, b"key", 24, 26)?;
-    put(out, b"key ")?;
-    put_escaped(out, key.as_bytes())?;
+    put_key_name(out, key.as_bytes())?;
     end_text(out)?;
     start_text(out, b"steps", 24, 46)?;
-    put_range(out, steps)?;
+    put_title_before(out, range)?;
+    put_range(out, range)?;
     end_text(out)
 }
 
@@ -149,14 +196,38 @@ fn phase_words(phase: Phase) -> (&'static [u8], &'static [u8]) {
     }
 }
 
-/// Appends the index of the step with this number, or `on` if there is no such step.
-fn put_index_of(out: &mut Vec<u8>, steps: &[ShownStep], number: usize) -> Result<(), AllocError> {
-    match steps.get(number.saturating_sub(1)) {
-        Some(step) => {
+/// Whether the bar goes on beyond the last step that is drawn.
+fn is_cut(range: &ShownRange, bar: &Bar) -> bool {
+    range.goes_on && range.steps.len() < bar.end
+}
+
+/// Appends where a bar begins.
+fn put_bar_start(out: &mut Vec<u8>, range: &ShownRange, bar: &Bar) -> Result<(), AllocError> {
+    if bar.first == 0 {
+        put(out, b", from before")?;
+    } else {
+        put(out, b", from")?;
+    }
+    if let Some(step) = range.steps.get(bar.first.saturating_sub(1)) {
+        put(out, b" step ")?;
+        put_number(out, step.index)?;
+    }
+    Ok(())
+}
+
+/// Appends where a bar ends: at a step, beyond the last one, or nowhere.
+fn put_bar_end(out: &mut Vec<u8>, range: &ShownRange, bar: &Bar) -> Result<(), AllocError> {
+    let number = bar.end.saturating_sub(1);
+    match (range.steps.get(number), range.steps.last()) {
+        (Some(step), _) => {
             put(out, b" to step ")?;
             put_number(out, step.index)
         }
-        None => put(out, b" on"),
+        (None, Some(last)) if range.goes_on => {
+            put(out, b" to beyond step ")?;
+            put_number(out, last.index)
+        }
+        _ => put(out, b" on"),
     }
 }
 
@@ -164,7 +235,7 @@ fn put_index_of(out: &mut Vec<u8>, steps: &[ShownStep], number: usize) -> Result
 fn put_bar_words(
     out: &mut Vec<u8>,
     layout: &Lanes,
-    steps: &[ShownStep],
+    range: &ShownRange,
     bar: &Bar,
 ) -> Result<(), AllocError> {
     if let Some(lane) = layout.lanes.get(bar.lane) {
@@ -172,11 +243,25 @@ fn put_bar_words(
     }
     let (_, words) = phase_words(bar.phase);
     put(out, words)?;
-    if let Some(step) = steps.get(bar.first.saturating_sub(1)) {
-        put(out, b", from step ")?;
-        put_number(out, step.index)?;
+    put_bar_start(out, range, bar)?;
+    put_bar_end(out, range, bar)
+}
+
+/// Appends the torn ends of a bar that fills this area, where it goes on beyond the picture.
+fn put_torn_ends(
+    out: &mut Vec<u8>,
+    range: &ShownRange,
+    bar: &Bar,
+    area: Area,
+) -> Result<(), AllocError> {
+    if bar.first == 0 {
+        put_torn_end(out, area.x.saturating_sub(2), area.y, BAR / 6)?;
     }
-    put_index_of(out, steps, bar.end)
+    if is_cut(range, bar) {
+        let right = area.x.saturating_add(area.width);
+        put_torn_end(out, right.saturating_sub(2), area.y, BAR / 6)?;
+    }
+    Ok(())
 }
 
 /// Appends a bar.
@@ -184,11 +269,11 @@ fn put_bar(
     out: &mut Vec<u8>,
     grid: Grid,
     layout: &Lanes,
-    steps: &[ShownStep],
+    range: &ShownRange,
     bar: &Bar,
 ) -> Result<(), AllocError> {
     let (class, _) = phase_words(bar.phase);
-    let x = grid.x(bar.first as u64);
+    let x = grid.bar_start(bar.first as u64);
     let area = Area {
         x,
         y: grid.middle(bar.lane as u64).saturating_sub(BAR / 2),
@@ -196,8 +281,9 @@ fn put_bar(
         height: BAR,
     };
     start_titled_rect(out, class, area)?;
-    put_bar_words(out, layout, steps, bar)?;
-    end_titled_rect(out)
+    put_bar_words(out, layout, range, bar)?;
+    end_titled_rect(out)?;
+    put_torn_ends(out, range, bar, area)
 }
 
 /// Appends the line of an arrow. It leads from the marker of the call to the edge of the bar whose wait the call ended.
@@ -300,14 +386,14 @@ fn put_foreground(
     out: &mut Vec<u8>,
     grid: Grid,
     layout: &Lanes,
-    steps: &[ShownStep],
+    range: &ShownRange,
 ) -> Result<(), AllocError> {
     for bar in &layout.bars {
-        put_bar(out, grid, layout, steps, bar)?;
+        put_bar(out, grid, layout, range, bar)?;
     }
     put_arrows(out, grid, &layout.arrows)?;
     let mut number = 1u64;
-    for step in steps {
+    for step in &range.steps {
         put_call_marker(out, grid, layout, number, step)?;
         number = number.saturating_add(1);
     }
@@ -319,25 +405,26 @@ pub(crate) fn put_picture(
     out: &mut Vec<u8>,
     key: &Key,
     layout: &Lanes,
-    steps: &[ShownStep],
+    range: &ShownRange,
 ) -> Result<(), AllocError> {
-    let grid = Grid::new(layout, steps);
+    let grid = Grid::new(layout, &range.steps);
     put_start(out, grid)?;
-    put_head(out, key, steps)?;
-    put_background(out, grid, layout, steps)?;
-    put_foreground(out, grid, layout, steps)?;
+    put_head(out, key, range)?;
+    put_background(out, grid, layout, &range.steps)?;
+    put_foreground(out, grid, layout, range)?;
     put_legend(out, grid)?;
     put(out, b"</svg>\n")
 }
 
 /// An SVG picture of these steps of the key, as ASCII text: the steps from left to right, and a lane for each
-/// transaction and each request. It fails with `TooManySteps` exactly for more than 400 steps, and otherwise only when
-/// an allocation fails.
-pub fn picture(alloc: Global, key: &Key, steps: &[ShownStep]) -> Result<Vec<u8>, PictureError>
-    ensures too_many { (result ≡ Err PictureError.TooManySteps) ↔ (400 < length steps.now) }
+/// transaction and each request. A bar that began before the first step begins at the left edge, with a torn end, and so
+/// ends one at the right edge that goes on beyond the last step. It fails with `TooManySteps` exactly for more than 400
+/// steps, and otherwise only when an allocation fails.
+pub fn picture(alloc: Global, key: &Key, range: &ShownRange) -> Result<Vec<u8>, PictureError>
+    ensures too_many { (result ≡ Err PictureError.TooManySteps) ↔ (400 < length range.now.steps.items) }
 {
-    let layout = lanes_of(alloc, steps)?;
+    let layout = lanes_of(alloc, &range.before, &range.steps)?;
     let mut out = Vec::new(alloc);
-    put_picture(&mut out, key, &layout, steps)?;
+    put_picture(&mut out, key, &layout, range)?;
     Ok(out)
 }

@@ -1,5 +1,5 @@
-//! In which phase is a request or a transaction after each step? [`timeline`] gives the phases of a lane, the first of
-//! them before the first step. [`run_end`] finds where a phase ends. `specs/Phases.antt` defines both.
+//! In which phase is a request or a transaction before the first step, and after each? [`timeline`] gives the phases of
+//! a lane. [`run_end`] finds where a phase ends. `specs/Phases.antt` defines both.
 ghost use Rattle.std.specs.Prelude.{ℕ, ◌≡◌, ◌≢◌, ◌≤◌, ◌<◌, IfOk, length, nat_eq, slice_get};
 ghost use Rattle.std.specs.List.{find};
 ghost use Rattle.lt_rules.specs.Rules.{number_of, writer_number};
@@ -120,16 +120,17 @@ fn phase_of(lane: Lane, state: &KeyState) -> Phase
     }
 }
 
-/// The lane's phases: `Out` before the first step, and then the phase after each step. So the index of a phase is the
-/// number of its step, from 1.
+/// The lane's phases: the one in the state before the first step, and then the one after each step. So the index of a
+/// phase is the number of its step, from 1.
 pub(crate) fn timeline(
     alloc: Global,
     lane: Lane,
+    before: &KeyState,
     steps: &[ShownStep],
 ) -> Result<Vec<Phase>, AllocError>
-    ensures { IfOk result (λ phases. phases.items ≡ timeline_of lane steps.now) }
+    ensures { IfOk result (λ phases. phases.items ≡ timeline_of lane before.now steps.now) }
 {
-    let mut phases = Vec::from_slice(alloc, &[Phase::Out])?;
+    let mut phases = Vec::from_slice(alloc, &[phase_of(lane, before)])?;
     for step in steps {
         phases.push(phase_of(lane, &step.state))?;
     }

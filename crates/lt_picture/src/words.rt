@@ -143,6 +143,22 @@ pub(crate) fn put_column(
     }
 }
 
+/// Appends what the row of the state before the first step has in a column.
+pub(crate) fn put_column_before(
+    out: &mut Vec<u8>,
+    state: &KeyState,
+    column: usize,
+) -> Result<(), AllocError> {
+    match column {
+        0 => put_word(out, b"before"),
+        4 => put_holder(out, state.holder),
+        5 => put_reservation(out, state.reservation),
+        6 => put_writers(out, state),
+        7 => put_readers(out, state),
+        _ => put_word(out, b"-"),
+    }
+}
+
 /// Appends the step as a line of a history has it, without the key: index, pass, call, reply and the tickets of its
 /// lets.
 pub(crate) fn put_step_words(out: &mut Vec<u8>, step: &ShownStep) -> Result<(), AllocError> {

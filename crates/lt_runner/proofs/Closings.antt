@@ -1,6 +1,6 @@
 -- A table is closed over what the passes did.
-use Rattle.std.proofs.Common.{◌≡◌, ◌≢◌, ℕ, zero, suc, ◌+◌, ◌<◌, ◌≤◌, Bool, true, false, cond, nat_eq, List, [], ◌∷◌, ◌++◌, length, map, get_or, refl, sym, ap, subst, ◌∙◌, append_assoc, append-nil, length-append, arith}
-use Rattle.std.specs.Prelude.{Contains, slice_index}
+use Rattle.std.proofs.Common.{◌≡◌, ◌≢◌, inl, inr, ℕ, zero, suc, ◌+◌, ◌<◌, ◌≤◌, Bool, true, false, cond, nat_eq, List, [], ◌∷◌, ◌++◌, length, map, get_or, refl, sym, ap, subst, ◌∙◌, append_assoc, append-nil, length-append, arith}
+use Rattle.std.specs.Prelude.{Contains, slice_index, ◌⊎◌}
 use Rattle.std.specs.Global.{Vec}
 use Rattle.std.specs.List.{flat_map, All, AllByRecursion}
 use Rattle.std.specs.Str.{bytes_eq}
@@ -14,8 +14,11 @@ use Rattle.lt_entry.specs.Legal.{key_part}
 use Rattle.lt_entry.proofs.SameKeys.{same_key}
 use Rattle.lt_rules.specs.Step.{IsLegal}
 use Rattle.lt_words.specs.declared.event.Event.{Event}
-use Rattle.lt_words.specs.History.{part, shard_of, draws_of}
+use Rattle.lt_words.specs.History.{part, shard_of, draws_of, DrewIn}
 use Rattle.lt_words.specs.Row.{Opening, PassState, fresh, fresh_passes}
+use Rattle.lt_words.proofs.Draws.{draws_stay}
+use Rattle.lt_words.proofs.Prefixes.{prefix_trans}
+use Rattle.lt_words.proofs.Histories.{part_prefix}
 use Rattle.lt_script.specs.declared.command.Command.{Command}
 use Rattle.lt_table_core.specs.Reported.{GuardState, steps_at}
 use Rattle.lt_table_core.specs.Closed.{IsClosed, counts_at, passes_of}
@@ -30,12 +33,13 @@ use Rattle.lt_runner.specs.declared.outcome.Work.{Work}
 use Rattle.lt_runner.specs.Sessions.{session_pass, session_request}
 use Rattle.lt_runner.specs.Outcomes.{IsDrawn}
 use Rattle.lt_runner.specs.Machine.{Rules, ExecutedLine, IsOutOnlyAt}
-use Rattle.lt_runner.specs.Standing.{made_at, AreAll, run_numbers}
+use Rattle.lt_runner.specs.Standing.{Finals, final_of, made_at, AreAll, run_numbers}
+use Rattle.lt_runner.specs.Gates.{GateAnswers}
 use Rattle.lt_runner.specs.Worked.{steps_of_executed, pass_lines}
-use Rattle.lt_runner.specs.Turns.{AreNumbered, IsRunOf, AreRun, HaveRun, IsAmong}
+use Rattle.lt_runner.specs.Turns.{AreNumbered, IsRunOf, AreRun, HaveRun, IsAmong, AllHear, IsSeenBySome, somes}
 use Rattle.lt_runner.specs.Closing.{AreHanded, CountAlike, IsPut, IsWithin, AreInFinalHistories, finish_all, join}
-use Rattle.lt_runner.specs.Ran.{AreAnswered, IsAnswered, IsRan, all_entries}
-use Rattle.lt_runner.proofs.Telling.{draws_later, all_append, all_more, all_weaker}
+use Rattle.lt_runner.specs.Ran.{AreAnswered, AreDrawn, IsAnswered, IsHeard, IsRan, all_entries}
+use Rattle.lt_runner.proofs.Telling.{all_append, all_more, all_weaker}
 use Rattle.lt_runner.proofs.Lines.{out_later}
 use Rattle.lt_runner.proofs.Standings.{AreOfShards, all_stand}
 
@@ -115,19 +119,18 @@ at_map f (x ∷ xs) (suc i) b P lt h = at_map f xs i b P (omega arith) h
 abbrev entries_of : Vec Entry → List Entry
 entries_of v = v.items
 
+works_within : (of : Opening) (ps : List PassState) (shards : List (Vec Entry)) (draws : ℕ) (ws : List Work) (c : IsClosed of ps shards draws) → AreHanded ps ws → AllByRecursion (λ w. IsWithin of.shards c.whole (map entries_of shards) (session_pass w.session)) ws
+works_within of ps shards draws ws c h =
+    all_weaker (λ w. Contains ps (session_pass w.session)) (λ w. IsWithin of.shards c.whole (map entries_of shards) (session_pass w.session)) ws
+    (λ w inside. record {
+      seen = contained (λ p. IsPrefix p.seen c.whole) ps (session_pass w.session) c.seen inside;
+      parts = λ s lt.
+          at_map entries_of shards s [] (λ (es : List Entry). IsPrefix (part s (session_pass w.session).seen) es) (omega (arith, c.many))
+          (λ d. contained (λ p. IsPrefix (part s p.seen) (get_or shards s d).items) ps (session_pass w.session) (c.each s d lt).seen inside);
+    }) h
+
 pub are_within : (of : Opening) (ps : List PassState) (shards : List (Vec Entry)) (draws : ℕ) (ws : List Work) → 0 < of.shards → IsClosed of ps shards draws → AreHanded ps ws → AreInFinalHistories of.shards (map entries_of shards) ws
-are_within of ps shards draws ws some c h = record {
-  some = some;
-  whole = c.whole;
-  legal = c.legal;
-  within = all_weaker (λ w. Contains ps (session_pass w.session)) (λ w. IsWithin of.shards c.whole (map entries_of shards) (session_pass w.session)) ws
-      (λ w inside. record {
-        seen = contained (λ p. IsPrefix p.seen c.whole) ps (session_pass w.session) c.seen inside;
-        parts = λ s lt.
-            at_map entries_of shards s [] (λ (es : List Entry). IsPrefix (part s (session_pass w.session).seen) es) (omega (arith, c.many))
-            (λ d. contained (λ p. IsPrefix (part s p.seen) (get_or shards s d).items) ps (session_pass w.session) (c.each s d lt).seen inside);
-      }) h;
-}
+are_within of ps shards draws ws some c h = record { some = some; whole = c.whole; legal = c.legal; within = works_within of ps shards draws ws c h }
 
 -- ---- the concatenated histories of all shards
 
@@ -199,83 +202,104 @@ closed_good of ps shards draws c = are_good of.shards 0 shards (λ k d lt. let f
 
 -- ---- the run
 
-run_many : (rules : Rules) (always : Bool) (cs : List Command) (ps : List PassState) (dss : List (List ExecutedLine)) (ws : List Work) → AreRun rules always cs ps dss ws → length dss ≡ length ps
-run_many rules always cs [] [] [] r = refl
-run_many rules always cs [] [] (w ∷ ws) r = absurd r
-run_many rules always cs [] (ds ∷ dss) ws r = absurd r
-run_many rules always cs (p ∷ ps) [] ws r = absurd r
-run_many rules always cs (p ∷ ps) (ds ∷ dss) [] r = absurd r
-run_many rules always cs (p ∷ ps) (ds ∷ dss) (w ∷ ws) r = ap (λ n. suc n) (run_many rules always cs ps dss ws r.1)
+run_many : (rules : Rules) (gate : GateAnswers) (cs : List Command) (ps : List PassState) (dss : List (List ExecutedLine)) (ws : List Work) → AreRun rules gate cs ps dss ws → length dss ≡ length ps
+run_many rules gate cs [] [] [] r = refl
+run_many rules gate cs [] [] (w ∷ ws) r = absurd r
+run_many rules gate cs [] (ds ∷ dss) ws r = absurd r
+run_many rules gate cs (p ∷ ps) [] ws r = absurd r
+run_many rules gate cs (p ∷ ps) (ds ∷ dss) [] r = absurd r
+run_many rules gate cs (p ∷ ps) (ds ∷ dss) (w ∷ ws) r = ap (λ n. suc n) (run_many rules gate cs ps dss ws r.1)
 
 answers_in : Work → Vec AnswerLine
 answers_in w = w.answers
 
-answered : (rules : Rules) (always : Bool) (cs : List Command) (n : ℕ) (ps : List PassState) (dss : List (List ExecutedLine)) (ws : List Work) → AreRun rules always cs ps dss ws → AreNumbered n ps → AreAnswered rules always cs (n + 1) dss (map (λ w. w.answers) ws) (map (λ w. w.finish) ws)
-answered rules always cs n [] [] [] r num = tt
-answered rules always cs n [] [] (w ∷ ws) r num = absurd r
-answered rules always cs n [] (ds ∷ dss) ws r num = absurd r
-answered rules always cs n (p ∷ ps) [] ws r num = absurd r
-answered rules always cs n (p ∷ ps) (ds ∷ dss) [] r num = absurd r
-answered rules always cs n (p ∷ ps) (ds ∷ dss) (w ∷ ws) r num =
-    let one : IsAnswered rules always p.number (pass_lines p.number cs) ds w.answers.items w.finish = record {
+answered : (rules : Rules) (gate : GateAnswers) (cs : List Command) (n : ℕ) (ps : List PassState) (dss : List (List ExecutedLine)) (ws : List Work) → AreRun rules gate cs ps dss ws → AreNumbered n ps → AreAnswered rules gate cs (n + 1) dss (map (λ w. w.answers) ws) (map (λ w. w.finish) ws)
+answered rules gate cs n [] [] [] r num = tt
+answered rules gate cs n [] [] (w ∷ ws) r num = absurd r
+answered rules gate cs n [] (ds ∷ dss) ws r num = absurd r
+answered rules gate cs n (p ∷ ps) [] ws r num = absurd r
+answered rules gate cs n (p ∷ ps) (ds ∷ dss) [] r num = absurd r
+answered rules gate cs n (p ∷ ps) (ds ∷ dss) (w ∷ ws) r num =
+    let one : IsAnswered rules gate p.number (pass_lines p.number cs) ds w.answers.items w.finish = record {
       rest = r.0.rest;
       all = r.0.all ∙ ap (λ (l : List Command). l ++ r.0.rest) (sym r.0.done.lines_are);
       after = session_request w.session;
       runs = r.0.done.runs;
       answers_are = r.0.done.answers_are;
+      may_run = r.0.may_run;
       ended = r.0.ended;
     } in
-    (subst (λ (k : ℕ). IsAnswered rules always k (pass_lines k cs) ds w.answers.items w.finish) num.0 one, answered rules always cs (n + 1) ps dss ws r.1 num.1)
+    (subst (λ (k : ℕ). IsAnswered rules gate k (pass_lines k cs) ds w.answers.items w.finish) num.0 one, answered rules gate cs (n + 1) ps dss ws r.1 num.1)
 
 -- The passes had made no step in the shard.
 abbrev pub HaveNone : ℕ → List PassState → Type 0
 HaveNone s ps = AllByRecursion (λ p. slice_index p.counts s ≡ 0) ps
 
-counts_are_made : (rules : Rules) (always : Bool) (cs : List Command) (shards s : ℕ) (ps : List PassState) (dss : List (List ExecutedLine)) (ws : List Work) → AreRun rules always cs ps dss ws → AreOfShards shards ps → HaveNone s ps → counts_at s (map pass_in ws) ≡ made_at shards s dss
-counts_are_made rules always cs shards s [] [] [] r of none = refl
-counts_are_made rules always cs shards s [] [] (w ∷ ws) r of none = absurd r
-counts_are_made rules always cs shards s [] (ds ∷ dss) ws r of none = absurd r
-counts_are_made rules always cs shards s (p ∷ ps) [] ws r of none = absurd r
-counts_are_made rules always cs shards s (p ∷ ps) (ds ∷ dss) [] r of none = absurd r
-counts_are_made rules always cs shards s (p ∷ ps) (ds ∷ dss) (w ∷ ws) r of none =
+counts_are_made : (rules : Rules) (gate : GateAnswers) (cs : List Command) (shards s : ℕ) (ps : List PassState) (dss : List (List ExecutedLine)) (ws : List Work) → AreRun rules gate cs ps dss ws → AreOfShards shards ps → HaveNone s ps → counts_at s (map pass_in ws) ≡ made_at shards s dss
+counts_are_made rules gate cs shards s [] [] [] r of none = refl
+counts_are_made rules gate cs shards s [] [] (w ∷ ws) r of none = absurd r
+counts_are_made rules gate cs shards s [] (ds ∷ dss) ws r of none = absurd r
+counts_are_made rules gate cs shards s (p ∷ ps) [] ws r of none = absurd r
+counts_are_made rules gate cs shards s (p ∷ ps) (ds ∷ dss) [] r of none = absurd r
+counts_are_made rules gate cs shards s (p ∷ ps) (ds ∷ dss) (w ∷ ws) r of none =
     let here : slice_index (session_pass w.session).counts s ≡ slice_index p.counts s + steps_at shards s (flat_map steps_of_executed ds) = subst (λ (k : ℕ). slice_index (session_pass w.session).counts s ≡ slice_index p.counts s + steps_at k s (flat_map steps_of_executed ds)) of.0 (r.0.done.tells.counted s) in
-    omega (arith, here, none.0, counts_are_made rules always cs shards s ps dss ws r.1 of.1 none.1)
+    omega (arith, here, none.0, counts_are_made rules gate cs shards s ps dss ws r.1 of.1 none.1)
 
-are_all : (rules : Rules) (always : Bool) (of : Opening) (cs : List Command) (ps qs : List PassState) (dss : List (List ExecutedLine)) (ws : List Work) (shards : List (Vec Entry)) (draws : ℕ)
-    → IsClosed of qs shards draws → CountAlike qs ws → AreRun rules always cs ps dss ws → AreOfShards of.shards ps → ((s : ℕ) → s < of.shards → HaveNone s ps) → AreAll of.shards (map entries_of shards) dss
-are_all rules always of cs ps qs dss ws shards draws closed alike run same none s lt =
+are_all : (rules : Rules) (gate : GateAnswers) (of : Opening) (cs : List Command) (ps qs : List PassState) (dss : List (List ExecutedLine)) (ws : List Work) (shards : List (Vec Entry)) (draws : ℕ)
+    → IsClosed of qs shards draws → CountAlike qs ws → AreRun rules gate cs ps dss ws → AreOfShards of.shards ps → ((s : ℕ) → s < of.shards → HaveNone s ps) → AreAll of.shards (map entries_of shards) dss
+are_all rules gate of cs ps qs dss ws shards draws closed alike run same none s lt =
     at_map entries_of shards s [] (λ (es : List Entry). length es ≡ made_at of.shards s dss) (omega (arith, closed.many))
-    (λ d. (closed.each s d lt).counted ∙ (alike s ∙ counts_are_made rules always cs of.shards s ps dss ws run same (none s lt)))
+    (λ d. (closed.each s d lt).counted ∙ (alike s ∙ counts_are_made rules gate cs of.shards s ps dss ws run same (none s lt)))
 
 -- What each pass has seen is a prefix of the one history.
 works_seen : (whole : List Event) (qs : List PassState) (ws : List Work) → AllByRecursion (λ p. IsPrefix p.seen whole) qs → AreHanded qs ws → AllByRecursion (λ w. IsPrefix (session_pass w.session).seen whole) ws
 works_seen whole qs ws seen handed = all_weaker (λ w. Contains qs (session_pass w.session)) (λ w. IsPrefix (session_pass w.session).seen whole) ws (λ w inside. contained (λ p. IsPrefix p.seen whole) qs (session_pass w.session) seen inside) handed
 
 -- A fact about the executed lines of each pass, given what the pass did and that it has seen a prefix of the history.
-each_lines_done : (Q : List ExecutedLine → Type 0) (rules : Rules) (always : Bool) (cs : List Command) (whole : List Event) (ps : List PassState) (dss : List (List ExecutedLine)) (ws : List Work)
-    → ((p : PassState) (ds : List ExecutedLine) (w : Work) → IsRunOf rules always cs p ds w → IsPrefix (session_pass w.session).seen whole → Q ds) → AreRun rules always cs ps dss ws → AllByRecursion (λ w. IsPrefix (session_pass w.session).seen whole) ws → AllByRecursion Q dss
-each_lines_done Q rules always cs whole [] [] [] f r seen = tt
-each_lines_done Q rules always cs whole [] [] (w ∷ ws) f r seen = absurd r
-each_lines_done Q rules always cs whole [] (ds ∷ dss) ws f r seen = absurd r
-each_lines_done Q rules always cs whole (p ∷ ps) [] ws f r seen = absurd r
-each_lines_done Q rules always cs whole (p ∷ ps) (ds ∷ dss) [] f r seen = absurd r
-each_lines_done Q rules always cs whole (p ∷ ps) (ds ∷ dss) (w ∷ ws) f r seen = (f p ds w r.0 seen.0, each_lines_done Q rules always cs whole ps dss ws f r.1 seen.1)
+each_lines_done : (Q : List ExecutedLine → Type 0) (rules : Rules) (gate : GateAnswers) (cs : List Command) (whole : List Event) (ps : List PassState) (dss : List (List ExecutedLine)) (ws : List Work)
+    → ((p : PassState) (ds : List ExecutedLine) (w : Work) → IsRunOf rules gate cs p ds w → IsPrefix (session_pass w.session).seen whole → Q ds) → AreRun rules gate cs ps dss ws → AllByRecursion (λ w. IsPrefix (session_pass w.session).seen whole) ws → AllByRecursion Q dss
+each_lines_done Q rules gate cs whole [] [] [] f r seen = tt
+each_lines_done Q rules gate cs whole [] [] (w ∷ ws) f r seen = absurd r
+each_lines_done Q rules gate cs whole [] (ds ∷ dss) ws f r seen = absurd r
+each_lines_done Q rules gate cs whole (p ∷ ps) [] ws f r seen = absurd r
+each_lines_done Q rules gate cs whole (p ∷ ps) (ds ∷ dss) [] f r seen = absurd r
+each_lines_done Q rules gate cs whole (p ∷ ps) (ds ∷ dss) (w ∷ ws) f r seen = (f p ds w r.0 seen.0, each_lines_done Q rules gate cs whole ps dss ws f r.1 seen.1)
 
--- No number in an answer is above the draws of the one history.
-drawn_within : (rules : Rules) (always : Bool) (cs : List Command) (whole : List Event) (p : PassState) (ds : List ExecutedLine) (w : Work) → IsRunOf rules always cs p ds w → IsPrefix (session_pass w.session).seen whole → AllByRecursion (λ n. n ≤ draws_of whole) (run_numbers ds)
-drawn_within rules always cs whole p ds w r seen =
-    all_weaker (IsDrawn p.number p.seen (session_pass w.session).seen) (λ n. n ≤ draws_of whole) (run_numbers ds)
-    (λ n d.
-    let inside : n ≤ draws_of (session_pass w.session).seen = d.within in
-    let more : draws_of (session_pass w.session).seen ≤ draws_of whole = draws_later (session_pass w.session).seen whole seen in
-    omega arith) r.done.tells.drawn
+-- Each number in an answer is a draw of the one history.
+are_drawn : (rules : Rules) (gate : GateAnswers) (cs : List Command) (whole : List Event) (n : ℕ) (ps : List PassState) (dss : List (List ExecutedLine)) (ws : List Work) → AreRun rules gate cs ps dss ws → AreNumbered n ps → AllByRecursion (λ w. IsPrefix (session_pass w.session).seen whole) ws → AreDrawn whole (n + 1) dss
+are_drawn rules gate cs whole n [] [] [] r num seen = tt
+are_drawn rules gate cs whole n [] [] (w ∷ ws) r num seen = absurd r
+are_drawn rules gate cs whole n [] (ds ∷ dss) ws r num seen = absurd r
+are_drawn rules gate cs whole n (p ∷ ps) [] ws r num seen = absurd r
+are_drawn rules gate cs whole n (p ∷ ps) (ds ∷ dss) [] r num seen = absurd r
+are_drawn rules gate cs whole n (p ∷ ps) (ds ∷ dss) (w ∷ ws) r num seen =
+    let q : PassState = session_pass w.session in
+    let here : AllByRecursion (DrewIn whole p.number) (run_numbers ds) = all_weaker (IsDrawn p.number p.seen q.seen) (DrewIn whole p.number) (run_numbers ds) (λ m d. draws_stay q.seen whole p.number m seen.0 d.drew) r.0.done.tells.drawn in
+    (subst (λ (k : ℕ). AllByRecursion (DrewIn whole k) (run_numbers ds)) num.0 here, are_drawn rules gate cs whole (n + 1) ps dss ws r.1 num.1 seen.1)
 
-pub is_ran : (rules : Rules) (always : Bool) (of : Opening) (cs : List Command) (ps qs : List PassState) (ws : List Work) (ran : Ran)
-    → 0 < of.shards → AllByRecursion (IsAmong (length ps)) cs → AllByRecursion (λ p. p.of ≡ of) ps → AreNumbered 0 ps → HaveRun rules always of.shards cs ps ws → IsClosed of qs ran.histories.items ran.draws → All (λ es. length es.items ≤ rules.max_steps) ran.histories.items
+-- The final history of each shard is a prefix of the shard's part of the one history.
+in_parts : (of : Opening) (qs : List PassState) (shards : List (Vec Entry)) (draws : ℕ) (c : IsClosed of qs shards draws) (s : ℕ) → s < of.shards → IsPrefix (get_or (map entries_of shards) s []) (part s c.whole)
+in_parts of qs shards draws c s lt = at_map entries_of shards s [] (λ (es : List Entry). IsPrefix es (part s c.whole)) (omega (arith, c.many)) (λ d. (c.each s d lt).stands)
+
+-- The lines hear one another in what one of the passes has seen.
+heard_there : (shards : ℕ) (finals : Finals) (whole h : List Event) (all : List ExecutedLine) (ws : List Work) → AllByRecursion (λ w. IsWithin shards whole finals (session_pass w.session)) ws → AllHear shards h all → (all ≡ []) ⊎ IsSeenBySome h ws → IsHeard shards finals whole all
+heard_there shards finals whole h all ws inside a (inl none) = record { history = []; within = (whole, refl); parts = λ n lt. (final_of finals n, refl); all_hear = subst (AllHear shards []) (sym none) tt }
+heard_there shards finals whole h all ws inside a (inr s) =
+    let seen : List Event = (session_pass s.work.session).seen in
+    let w : IsWithin shards whole finals (session_pass s.work.session) = contained (λ w. IsWithin shards whole finals (session_pass w.session)) ws s.work inside s.among in
+    record {
+      history = h;
+      within = prefix_trans h seen whole s.seen w.seen;
+      parts = λ n lt. prefix_trans (part n h) (part n seen) (final_of finals n) (part_prefix n h seen s.seen) (w.parts n lt);
+      all_hear = a;
+    }
+
+pub is_ran : (rules : Rules) (gate : GateAnswers) (of : Opening) (cs : List Command) (ps qs : List PassState) (ws : List Work) (ran : Ran)
+    → 0 < of.shards → AllByRecursion (IsAmong (length ps)) cs → AllByRecursion (λ p. p.of ≡ of) ps → AreNumbered 0 ps → HaveRun rules gate of.shards cs ps ws → IsClosed of qs ran.histories.items ran.draws → All (λ es. length es.items ≤ rules.max_steps) ran.histories.items
     → AreHanded qs ws → CountAlike qs ws → ((s : ℕ) → s < of.shards → HaveNone s ps)
-    → ran.answers.items ≡ map (λ w. w.answers) ws → ran.finish ≡ finish_all (map (λ w. w.finish) ws) → IsRan rules always of.shards cs ran
-is_ran rules always of cs ps qs ws ran some among are_of num have closed limit handed alike none answers_are finish_is =
-    let run : AreRun rules always cs ps have.lines_done ws = have.run in
+    → ran.answers.items ≡ map (λ w. w.answers) ws → ran.finish ≡ finish_all (map (λ w. w.finish) ws) → IsRan rules gate of.shards cs ran
+is_ran rules gate of cs ps qs ws ran some among are_of num have closed limit handed alike none answers_are finish_is =
+    let run : AreRun rules gate cs ps have.lines_done ws = have.run in
     let within : AreInFinalHistories of.shards (map entries_of ran.histories.items) ws = are_within of qs ran.histories.items ran.draws ws some closed handed in
     let shards : AreOfShards of.shards ps = all_weaker (λ p. p.of ≡ of) (λ p. p.of.shards ≡ of.shards) ps (λ p e. ap (λ (o : Opening). o.shards) e) are_of in
     let good : AreGood of.shards 0 ran.histories.items = closed_good of qs ran.histories.items ran.draws closed in
@@ -283,18 +307,19 @@ is_ran rules always of cs ps qs ws ran some among are_of num have closed limit h
     record {
       lines_done = have.lines_done;
       finishes = map (λ w. w.finish) ws;
-      among = subst (λ (n : ℕ). AllByRecursion (IsAmong n) cs) (sym (run_many rules always cs ps have.lines_done ws run)) among;
-      answered = subst (λ (as' : List (Vec AnswerLine)). AreAnswered rules always cs 1 have.lines_done as' (map (λ w. w.finish) ws)) (sym answers_are) (answered rules always cs 0 ps have.lines_done ws run num);
+      among = subst (λ (n : ℕ). AllByRecursion (IsAmong n) cs) (sym (run_many rules gate cs ps have.lines_done ws run)) among;
+      answered = subst (λ (as' : List (Vec AnswerLine)). AreAnswered rules gate cs 1 have.lines_done as' (map (λ w. w.finish) ws)) (sym answers_are) (answered rules gate cs 0 ps have.lines_done ws run num);
       finish = finish_is;
       many = closed.many;
-      stand = all_stand rules always cs of.shards within.whole (map entries_of ran.histories.items) 0 ps have.lines_done ws some within.legal shards run num within.within;
-      all = are_all rules always of cs ps qs have.lines_done ws ran.histories.items ran.draws closed alike run shards none;
+      stand = all_stand rules gate cs of.shards within.whole (map entries_of ran.histories.items) 0 ps have.lines_done ws some within.legal shards run num within.within;
+      all = are_all rules gate of cs ps qs have.lines_done ws ran.histories.items ran.draws closed alike run shards none;
       in_order = have.in_order;
-      drawn = subst (λ (n : ℕ). AllByRecursion (λ ds. AllByRecursion (λ m. m ≤ n) (run_numbers ds)) have.lines_done) (sym closed.draws_are)
-          (each_lines_done (λ ds. AllByRecursion (λ m. m ≤ draws_of closed.whole) (run_numbers ds)) rules always cs closed.whole ps have.lines_done ws (drawn_within rules always cs closed.whole) run seen);
-      numbers_out = subst (λ (n : ℕ). AllByRecursion (AllByRecursion (λ d. IsOutOnlyAt rules.max_requests n d.answer)) have.lines_done) (sym closed.draws_are)
-          (each_lines_done (AllByRecursion (λ d. IsOutOnlyAt rules.max_requests (draws_of closed.whole) d.answer)) rules always cs closed.whole ps have.lines_done ws
-          (λ p ds w r here. out_later rules.max_requests (session_pass w.session).seen closed.whole ds here r.done.numbers_out) run seen);
+      whole = closed.whole;
+      is_whole = record { legal = closed.legal; parts = in_parts of qs ran.histories.items ran.draws closed; drawn = are_drawn rules gate cs closed.whole 0 ps have.lines_done ws run num seen };
+      heard = λ e. heard_there of.shards (map entries_of ran.histories.items) closed.whole (have.heard e).history (somes (have.in_order e).executed) ws (works_within of qs ran.histories.items ran.draws ws closed handed) (have.heard e).all_hear (have.heard e).seen;
+      draws = closed.draws_are;
+      numbers_out = each_lines_done (AllByRecursion (λ d. IsOutOnlyAt rules.max_requests (draws_of closed.whole) d.answer)) rules gate cs closed.whole ps have.lines_done ws
+          (λ p ds w r here. out_later rules.max_requests (session_pass w.session).seen closed.whole ds here r.done.numbers_out) run seen;
       limit = recursion_from_All (λ (es : Vec Entry). length es.items ≤ rules.max_steps) ran.histories.items limit;
       legal = λ key. legal_key of.shards 0 key ran.histories.items good;
       in_range = all_in_range of.shards 0 ran.histories.items good;
@@ -332,13 +357,13 @@ pub new_some : (of : Opening) (n : ℕ) (ps : List PassState) → ps ≡ fresh_p
 new_some of n ps e lt = let many : length ps ≡ n = ap length e ∙ fresh_many of n in omega (arith, many)
 
 -- The passes of the work are the table's passes.
-run_of : (rules : Rules) (always : Bool) (cs : List Command) (of : Opening) (ps : List PassState) (dss : List (List ExecutedLine)) (ws : List Work) → AreRun rules always cs ps dss ws → AllByRecursion (λ p. p.of ≡ of) ps → AllByRecursion (λ w. (session_pass w.session).of ≡ of) ws
-run_of rules always cs of [] [] [] r h = tt
-run_of rules always cs of [] [] (w ∷ ws) r h = absurd r
-run_of rules always cs of [] (ds ∷ dss) ws r h = absurd r
-run_of rules always cs of (p ∷ ps) [] ws r h = absurd r
-run_of rules always cs of (p ∷ ps) (ds ∷ dss) [] r h = absurd r
-run_of rules always cs of (p ∷ ps) (ds ∷ dss) (w ∷ ws) r h = (r.0.done.tells.of ∙ h.0, run_of rules always cs of ps dss ws r.1 h.1)
+run_of : (rules : Rules) (gate : GateAnswers) (cs : List Command) (of : Opening) (ps : List PassState) (dss : List (List ExecutedLine)) (ws : List Work) → AreRun rules gate cs ps dss ws → AllByRecursion (λ p. p.of ≡ of) ps → AllByRecursion (λ w. (session_pass w.session).of ≡ of) ws
+run_of rules gate cs of [] [] [] r h = tt
+run_of rules gate cs of [] [] (w ∷ ws) r h = absurd r
+run_of rules gate cs of [] (ds ∷ dss) ws r h = absurd r
+run_of rules gate cs of (p ∷ ps) [] ws r h = absurd r
+run_of rules gate cs of (p ∷ ps) (ds ∷ dss) [] r h = absurd r
+run_of rules gate cs of (p ∷ ps) (ds ∷ dss) (w ∷ ws) r h = (r.0.done.tells.of ∙ h.0, run_of rules gate cs of ps dss ws r.1 h.1)
 
-pub works_of : (rules : Rules) (always : Bool) (cs : List Command) (of : Opening) (ps : List PassState) (ws : List Work) → HaveRun rules always of.shards cs ps ws → AllByRecursion (λ p. p.of ≡ of) ps → AllByRecursion (λ w. (session_pass w.session).of ≡ of) ws
-works_of rules always cs of ps ws have h = run_of rules always cs of ps have.lines_done ws have.run h
+pub works_of : (rules : Rules) (gate : GateAnswers) (cs : List Command) (of : Opening) (ps : List PassState) (ws : List Work) → HaveRun rules gate of.shards cs ps ws → AllByRecursion (λ p. p.of ≡ of) ps → AllByRecursion (λ w. (session_pass w.session).of ≡ of) ws
+works_of rules gate cs of ps ws have h = run_of rules gate cs of ps have.lines_done ws have.run h

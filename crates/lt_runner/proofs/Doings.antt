@@ -1,6 +1,6 @@
 -- Lines that call nothing, and lines of one step.
 use Rattle.std.proofs.Common.{◌≡◌, ℕ, List, [], ◌∷◌, Option, Some, None, Result, Ok, Err, refl, sym, ap, subst, ◌∙◌}
-use Rattle.std.specs.Prelude.{IfOk, OnErr, slice_get}
+use Rattle.std.specs.Prelude.{Bool, false, IfOk, MatchBool, OnErr, slice_get}
 use Rattle.std.specs.Option.{option_map}
 use Rattle.std.proofs.lemmas.Result.{IfOk-weaker, on_err_weaker}
 use Rattle.lt_ids.specs.Ids.{Wait}
@@ -23,73 +23,76 @@ use Rattle.lt_runner.specs.declared.outcome.OutOfMemory.{OutOfMemory}
 use Rattle.lt_runner.specs.declared.answer.LineAnswer.{LineAnswer}
 use Rattle.lt_runner.specs.declared.answer.LineAnswer.TheVariants as answers
 use Rattle.lt_runner.specs.declared.answer.Refusal.TheVariants as refusals
-use Rattle.lt_runner.specs.Outcomes.{OutcomeTells}
+use Rattle.lt_runner.specs.Outcomes.{OutcomeTells, Hears}
 use Rattle.lt_runner.specs.Sessions.{session_request, session_pass}
 use Rattle.lt_runner.specs.Machine.{entered, numbers_of, index_of, IsCallAnswered, IsLooked, IsLookAt}
-use Rattle.lt_runner.specs.Execution.{Does, Fact, IsCallOutcome, Lets, no_lets}
+use Rattle.lt_runner.specs.Execution.{Does, Fact, IsCallOutcome, Lets, Reads, no_lets, no_word}
 use Rattle.lt_runner.proofs.Telling.{tells_none, tells_step}
 
 -- The session is unchanged.
-pub does_same : (fact : Fact) (lets : Lets) (d : Session) (answer : LineAnswer) → fact (session_request d) 0 answer [] (session_request d) → numbers_of answer ≡ [] → lets (session_request d) 0 ≡ [] → Does fact lets d answer d
-does_same fact lets d answer h n l = record {
+pub does_same : (fact : Fact) (reads : Reads) (lets : Lets) (d : Session) (answer : LineAnswer) → fact (session_request d) 0 answer [] (session_request d) → numbers_of answer ≡ [] → lets (session_request d) 0 ≡ [] → reads (session_request d) ≡ false → Does fact reads lets d answer d
+does_same fact reads lets d answer h n l w = record {
   word = 0;
   steps = [];
   done = h;
   tells = subst (λ (x : List Wait). OutcomeTells (session_pass d) (session_pass d) [] (numbers_of answer) x) (sym l) (subst (λ (x : List ℕ). OutcomeTells (session_pass d) (session_pass d) [] x []) (sym n) (tells_none (session_pass d)));
+  heard = subst (λ (b : Bool). MatchBool b (Hears (session_pass d) (session_pass d) [] 0) (Unit {0})) (sym w) tt;
 }
 
 -- A pass without a request is answered `none`.
-pub does_none : (fact : Fact) (lets : Lets) (old new : Session) (answer : LineAnswer) (p : PassState) → old ≡ Free p → new ≡ Free p → answer ≡ answers.NoRequest → fact None 0 answers.NoRequest [] None → lets None 0 ≡ [] → Does fact lets old answer new
-does_none fact lets old new answer p o n a h l = rw (o, n, a) (does_same fact lets (Free p) answers.NoRequest h refl l)
+pub does_none : (fact : Fact) (reads : Reads) (lets : Lets) (old new : Session) (answer : LineAnswer) (p : PassState) → old ≡ Free p → new ≡ Free p → answer ≡ answers.NoRequest → fact None 0 answers.NoRequest [] None → lets None 0 ≡ [] → reads None ≡ false → Does fact reads lets old answer new
+does_none fact reads lets old new answer p o n a h l w = rw (o, n, a) (does_same fact reads lets (Free p) answers.NoRequest h refl l w)
 
 -- The same with a request.
-pub does_open : (fact : Fact) (lets : Lets) (old : Session) (g : GuardState) (answer : LineAnswer) → old ≡ Open g → fact (Some g.walk) 0 answer [] (Some g.walk) → numbers_of answer ≡ [] → lets (Some g.walk) 0 ≡ [] → Does fact lets old answer (Open g)
-does_open fact lets old g answer o h n l = rw o (does_same fact lets (Open g) answer h n l)
+pub does_open : (fact : Fact) (reads : Reads) (lets : Lets) (old : Session) (g : GuardState) (answer : LineAnswer) → old ≡ Open g → fact (Some g.walk) 0 answer [] (Some g.walk) → numbers_of answer ≡ [] → lets (Some g.walk) 0 ≡ [] → reads (Some g.walk) ≡ false → Does fact reads lets old answer (Open g)
+does_open fact reads lets old g answer o h n l w = rw o (does_same fact reads lets (Open g) answer h n l w)
 
-pub strange : (key : List ℕ) (g : GuardState) → None ≡ index_of g.walk.asked.keys key → Does (IsLooked key) no_lets (Open g) answers.Stranger (Open g)
-strange key g none = does_same (IsLooked key) no_lets (Open g) answers.Stranger
-    (subst (λ (o : Option ℕ). IsLookAt o g.walk.asked.number key answers.Stranger []) none (refl, refl), refl) refl refl
+pub strange : (key : List ℕ) (g : GuardState) → None ≡ index_of g.walk.asked.keys key → Does (IsLooked key) no_word no_lets (Open g) answers.Stranger (Open g)
+strange key g none = does_same (IsLooked key) no_word no_lets (Open g) answers.Stranger
+    (subst (λ (o : Option ℕ). IsLookAt o g.walk.asked.number key answers.Stranger []) none (refl, refl), refl) refl refl refl
 
 -- ---- one step
 
 -- A call of the pass, its result, and the answer of the line.
 pub made : (key : List ℕ) (call : Call) (old new : Session) (answered : Result Answer StepError) (told : Result LineOutcome OutOfMemory) → session_request new ≡ session_request old
     → IfOk answered (λ a. Reported (session_pass old) (session_pass new) (record { key = key; call = call; answer = a })) → OnErr answered (session_pass new ≡ session_pass old) → IsCallOutcome answered new told
-    → IfOk told (λ t. Does (IsCallAnswered key call) no_lets old t.answer t.session)
+    → IfOk told (λ t. Does (IsCallAnswered key call) no_word no_lets old t.answer t.session)
 made key call old new (Ok a) (Err e) same ok err told = tt
 made key call old new (Ok a) (Ok t) same ok err told =
     let x : Step = record { key = key; call = call; answer = a } in
-    let done : Does (IsCallAnswered key call) no_lets old (answers.Replied a.reply) new = record {
+    let done : Does (IsCallAnswered key call) no_word no_lets old (answers.Replied a.reply) new = record {
       word = 0;
       steps = x ∷ [];
       done = (record { step = x; alone = refl; key_is = refl; call_is = refl; told = refl }, same);
       tells = tells_step (session_pass old) (session_pass new) x ok;
+      heard = tt;
     } in
     rw (told.0, told.1) done
 made key call old new (Err steps.HistoryFull) (Err e) same ok err told = tt
 made key call old new (Err steps.HistoryFull) (Ok t) same ok err told =
     let none : OutcomeTells (session_pass old) (session_pass new) [] [] [] = subst (λ (p : PassState). OutcomeTells (session_pass old) p [] [] []) (sym err) (tells_none (session_pass old)) in
-    let done : Does (IsCallAnswered key call) no_lets old (answers.Refused refusals.HistoryFull) new = record { word = 0; steps = []; done = (refl, same); tells = none } in
+    let done : Does (IsCallAnswered key call) no_word no_lets old (answers.Refused refusals.HistoryFull) new = record { word = 0; steps = []; done = (refl, same); tells = none; heard = tt } in
     rw (told.0, told.1) done
 made key call old new (Err steps.Memory) (Err e) same ok err told = tt
 made key call old new (Err steps.Memory) (Ok t) same ok err told = absurd told
 
 -- A look is a call of the pass at a key that its request names.
 pub looked : (key : List ℕ) (old new : GuardState) (index : ℕ) (told : Result LineOutcome OutOfMemory) → Some index ≡ index_of old.walk.asked.keys key
-    → IfOk told (λ t. Does (IsCallAnswered key (calls.Look old.walk.asked.number)) no_lets (Open old) t.answer t.session)
-    → IfOk told (λ t. Does (IsLooked key) no_lets (Open old) t.answer t.session)
+    → IfOk told (λ t. Does (IsCallAnswered key (calls.Look old.walk.asked.number)) no_word no_lets (Open old) t.answer t.session)
+    → IfOk told (λ t. Does (IsLooked key) no_word no_lets (Open old) t.answer t.session)
 looked key old new index (Err e) at told = tt
 looked key old new index (Ok t) at told = record {
   word = told.word;
   steps = told.steps;
   done = (subst (λ (o : Option ℕ). IsLookAt o old.walk.asked.number key t.answer told.steps) at told.done.0, told.done.1);
   tells = told.tells;
+  heard = tt;
 }
 
 -- A call of the request's pass.
 pub made_in : (key : List ℕ) (call : Call) (old new : GuardState) (answered : Result Answer StepError) (told : Result LineOutcome OutOfMemory) → new.walk ≡ old.walk
     → IfOk answered (λ a. Reported old.pass new.pass (record { key = key; call = call; answer = a })) → OnErr answered (new ≡ old) → IsCallOutcome answered (Open new) told
-    → IfOk told (λ t. Does (IsCallAnswered key call) no_lets (Open old) t.answer t.session)
+    → IfOk told (λ t. Does (IsCallAnswered key call) no_word no_lets (Open old) t.answer t.session)
 made_in key call old new answered told same ok err is = made key call (Open old) (Open new) answered told (ap (λ (w : WalkState). Some w) same) ok (on_err_weaker answered (λ e. ap (λ (g : GuardState). g.pass) e) err) is
 
 -- A look at an index is a look at the key there.

@@ -2,6 +2,7 @@ pub mod Telling
 pub mod Scans
 pub mod Doings
 pub mod Lines
+pub mod Hearing
 pub mod Slots
 pub mod Standings
 pub mod Closings

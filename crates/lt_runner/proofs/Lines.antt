@@ -1,6 +1,7 @@
 -- The lines of a pass, one after the other.
 use Rattle.std.proofs.lemmas.Bool.Decides.{nat_tests}
 use Rattle.std.proofs.Common.{◌≡◌, ◌≢◌, arith, ℕ, ◌+◌, ◌<◌, ◌≤◌, ◌==◌, Bool, true, false, cond, List, [], ◌∷◌, ◌++◌, length, take, get_or, Option, Some, None, refl, sym, ap, subst, ◌∙◌, inl, inr, append_assoc, append-nil}
+use Rattle.std.specs.Prelude.{MatchBool}
 use Rattle.std.specs.List.{flat_map, AllByRecursion}
 use mathlib.Core.List.{IsPrefix}
 use Rattle.std.proofs.lemmas.List.{map-append, take_more}
@@ -20,11 +21,12 @@ use Rattle.lt_runner.specs.declared.answer.AnswerLine.{AnswerLine}
 use Rattle.lt_runner.specs.declared.outcome.Finish.{Finish}
 use Rattle.lt_runner.specs.declared.outcome.Finish.TheVariants.{Done, TurnsOut}
 use Rattle.lt_runner.specs.declared.outcome.Work.{Work}
-use Rattle.lt_runner.specs.Outcomes.{OutcomeTells, StandsIn, IsSeen, ComesAfter, Ascend}
+use Rattle.lt_runner.specs.Outcomes.{OutcomeTells, StandsIn, IsSeen, LetsAreShown, Hears, ComesAfter, Ascend}
 use Rattle.lt_runner.specs.Sessions.{session_request, session_pass}
-use Rattle.lt_runner.specs.Machine.{Rules, ExecutedLine, Runs, IsLineDone, IsOutOnlyAt, numbers_of_executed, lets_of_executed}
+use Rattle.lt_runner.specs.Machine.{Rules, ExecutedLine, Runs, IsLineDone, IsOutOnlyAt, reads_of, numbers_of_executed, lets_of_executed}
+use Rattle.lt_runner.specs.Gates.{GateAnswers, MayRun, MayRefuseNext}
 use Rattle.lt_runner.specs.Worked.{is_turns, answer_line, line_of_executed, steps_of_executed, finish_of, pass_lines, AreDone, NoTurns, HasEnded, IsRun, IsWorked, IsBegun, ExecutesLine, TakesOn, WorkGoesOn}
-use Rattle.lt_runner.specs.Turns.{IsExecuted, Learns, somes}
+use Rattle.lt_runner.specs.Turns.{IsExecuted, Learns, reads_word, somes}
 use Rattle.lt_runner.proofs.Telling.{tells_none, tells_then, tells_learnt, stands_seen, draws_later, prefix_self, all_more, all_weaker}
 
 pub flat_snoc : {A B : Type 0} (f : A → List B) (xs : List A) (x : A) → flat_map f (xs ++ x ∷ []) ≡ flat_map f xs ++ f x
@@ -73,13 +75,14 @@ done_learnt rules old lines session new answers lines_done seen a l = record {
   numbers_out = out_later rules.max_requests (session_pass session).seen (session_pass new).seen lines_done l.more.seen a.numbers_out;
 }
 
-pub run_learnt : (rules : Rules) (always : Bool) (old : PassState) (ls : List Command) (lines_done : List ExecutedLine) (w : Work) (session : Session) (seen : FrontState)
-    → IsRun rules always old ls lines_done w → Learns seen w.session session → IsRun rules always old ls lines_done (record w { session = session })
-run_learnt rules always old ls lines_done w session seen r l = record {
+pub run_learnt : (rules : Rules) (gate : GateAnswers) (old : PassState) (ls : List Command) (lines_done : List ExecutedLine) (w : Work) (session : Session) (seen : FrontState)
+    → IsRun rules gate old ls lines_done w → Learns seen w.session session → IsRun rules gate old ls lines_done (record w { session = session })
+run_learnt rules gate old ls lines_done w session seen r l = record {
   prefix = r.prefix;
   rest = r.rest;
   all = r.all;
   done = done_learnt rules old r.prefix w.session session w.answers.items lines_done seen r.done l;
+  may_run = r.may_run;
   ended = r.ended;
 }
 
@@ -100,95 +103,122 @@ turns_are answers.Done e = cc
 turns_are answers.NoRequest e = cc
 turns_are (answers.Refused r) e = cc
 
-out_ends : (always out : Bool) (ds : List ExecutedLine) (d : ExecutedLine) → NoTurns ds → out ≡ is_turns d.answer → HasEnded always (ds ++ d ∷ []) [] (finish_of out)
-out_ends always true ds d none e = inl (record { prefix = ds; last = d; all = refl; none = none; turns = turns_are d.answer (sym e) })
-out_ends always false ds d none e = (refl, all_more (λ (x : ExecutedLine). is_turns x.answer ≡ false) ds d none (sym e))
+out_ends : (gate : GateAnswers) (out : Bool) (ds : List ExecutedLine) (d : ExecutedLine) → NoTurns ds → out ≡ is_turns d.answer → HasEnded gate (ds ++ d ∷ []) [] (finish_of out)
+out_ends gate true ds d none e = inl (record { prefix = ds; last = d; all = refl; none = none; turns = turns_are d.answer (sym e) })
+out_ends gate false ds d none e = (refl, all_more (λ (x : ExecutedLine). is_turns x.answer ≡ false) ds d none (sym e))
 
-ended_on : (always : Bool) (ds : List ExecutedLine) (rest more : List Command) (f : Finish) → f ≡ TurnsOut → HasEnded always ds rest f → HasEnded always ds more f
-ended_on always ds rest more TurnsOut e h = h
-ended_on always ds rest more Done e h = cc
+refuses_on : (gate : GateAnswers) (rest more : List Command) → MayRefuseNext gate rest → MayRefuseNext gate (rest ++ more)
+refuses_on gate [] more h = absurd h
+refuses_on gate (c ∷ rest) more h = h
+
+ended_on : (gate : GateAnswers) (ds : List ExecutedLine) (rest more : List Command) (f : Finish) → f ≡ TurnsOut → HasEnded gate ds rest f → HasEnded gate ds (rest ++ more) f
+ended_on gate ds rest more TurnsOut e (inl h) = inl h
+ended_on gate ds rest more TurnsOut e (inr h) = inr (refuses_on gate rest more h.0, h.1)
+ended_on gate ds rest more Done e h = cc
 
 -- What a line did, as executed lines and as steps.
 abbrev pub turn_steps : Option ExecutedLine → List Step
 turn_steps None = []
 turn_steps (Some d) = d.steps
 
+-- If a line was executed and reads the status word, it hears the lets that were shown before it.
+abbrev pub TurnHears : PassState → PassState → Option ExecutedLine → Type 0
+TurnHears old new None = Unit {0}
+TurnHears old new (Some d) = reads_word d → Hears old new d.steps d.word
+
+if_true : (b : Bool) (P : Type 0) → MatchBool b P (Unit {0}) → b ≡ true → P
+if_true true P p e = p
+if_true false P p e = absurd (cc e)
+
 -- The next line of a pass with these executed lines did this, or nothing. Its steps come after what the pass had
 -- seen, and have been seen afterwards.
-pub record IsTurned (rules : Rules) (always : Bool) (old : PassState) (ls : List Command) (line : Command) (lines_done : List ExecutedLine) (w new : Work) : Type 0 where
+pub record IsTurned (rules : Rules) (gate : GateAnswers) (old : PassState) (ls : List Command) (line : Command) (lines_done : List ExecutedLine) (w new : Work) : Type 0 where
   pub turn : Option ExecutedLine
   pub line_is : IsExecuted line turn
-  pub run : IsRun rules always old (ls ++ line ∷ []) (lines_done ++ somes (turn ∷ [])) new
+  pub run : IsRun rules gate old (ls ++ line ∷ []) (lines_done ++ somes (turn ∷ [])) new
   pub of : (session_pass new.session).of ≡ (session_pass w.session).of
   pub seen : IsPrefix (session_pass w.session).seen (session_pass new.session).seen
   pub after : AllByRecursion (ComesAfter old.of.shards (session_pass w.session).seen) (turn_steps turn)
   pub within : AllByRecursion (IsSeen old.of.shards (session_pass new.session).seen) (turn_steps turn)
   pub ascend : Ascend old.of.shards (turn_steps turn)
+  pub shown : IsPrefix (session_pass w.session).shown (session_pass new.session).shown
+  pub told : AllByRecursion (LetsAreShown old.of.shards (session_pass new.session).seen (session_pass new.session).shown) (turn_steps turn)
+  pub heard : TurnHears (session_pass w.session) (session_pass new.session) turn
 
 -- The line was not executed: it is left with the rest.
-left_over : (rules : Rules) (always : Bool) (old : PassState) (ls : List Command) (line : Command) (lines_done : List ExecutedLine) (w : Work) → w.finish ≡ TurnsOut → IsRun rules always old ls lines_done w → IsTurned rules always old ls line lines_done w w
-left_over rules always old ls line lines_done w f r =
-    let run : IsRun rules always old (ls ++ line ∷ []) lines_done w = record {
+left_over : (rules : Rules) (gate : GateAnswers) (old : PassState) (ls : List Command) (line : Command) (lines_done : List ExecutedLine) (w : Work) → w.finish ≡ TurnsOut → IsRun rules gate old ls lines_done w → IsTurned rules gate old ls line lines_done w w
+left_over rules gate old ls line lines_done w f r =
+    let run : IsRun rules gate old (ls ++ line ∷ []) lines_done w = record {
       prefix = r.prefix;
       rest = r.rest ++ line ∷ [];
       all = ap (λ (l : List Command). l ++ line ∷ []) r.all ∙ append_assoc r.prefix r.rest (line ∷ []);
       done = r.done;
-      ended = ended_on always lines_done r.rest (r.rest ++ line ∷ []) w.finish f r.ended;
+      may_run = r.may_run;
+      ended = ended_on gate lines_done r.rest (line ∷ []) w.finish f r.ended;
     } in
     record {
       turn = None;
       line_is = tt;
-      run = subst (λ (ds : List ExecutedLine). IsRun rules always old (ls ++ line ∷ []) ds w) (sym (append-nil lines_done)) run;
+      run = subst (λ (ds : List ExecutedLine). IsRun rules gate old (ls ++ line ∷ []) ds w) (sym (append-nil lines_done)) run;
       of = refl;
       seen = prefix_self (session_pass w.session).seen;
       after = tt;
       within = tt;
       ascend = tt;
+      shown = prefix_self (session_pass w.session).shown;
+      told = tt;
+      heard = tt;
     }
 
 -- What a pass that has not ended has done.
-record IsAlive (rules : Rules) (old : PassState) (ls : List Command) (lines_done : List ExecutedLine) (w : Work) : Type 0 where
+record IsAlive (rules : Rules) (gate : GateAnswers) (old : PassState) (ls : List Command) (lines_done : List ExecutedLine) (w : Work) : Type 0 where
   done : AreDone rules old ls w.session w.answers.items lines_done
+  may_run : AllByRecursion (λ d. MayRun gate d.line) lines_done
   none : NoTurns lines_done
 
-alive : (rules : Rules) (always : Bool) (old : PassState) (ls : List Command) (lines_done : List ExecutedLine) (w : Work) → w.finish ≡ Done → IsRun rules always old ls lines_done w → IsAlive rules old ls lines_done w
-alive rules always old ls lines_done w f r =
-    let e : HasEnded always lines_done r.rest Done = subst (λ (x : Finish). HasEnded always lines_done r.rest x) f r.ended in
+alive : (rules : Rules) (gate : GateAnswers) (old : PassState) (ls : List Command) (lines_done : List ExecutedLine) (w : Work) → w.finish ≡ Done → IsRun rules gate old ls lines_done w → IsAlive rules gate old ls lines_done w
+alive rules gate old ls lines_done w f r =
+    let e : HasEnded gate lines_done r.rest Done = subst (λ (x : Finish). HasEnded gate lines_done r.rest x) f r.ended in
     let all : ls ≡ r.prefix = r.all ∙ (ap (λ (l : List Command). r.prefix ++ l) e.0 ∙ append-nil r.prefix) in
-    record { done = subst (λ (l : List Command). AreDone rules old l w.session w.answers.items lines_done) (sym all) r.done; none = e.1 }
+    record { done = subst (λ (l : List Command). AreDone rules old l w.session w.answers.items lines_done) (sym all) r.done; may_run = r.may_run; none = e.1 }
 
-taken : (rules : Rules) (always : Bool) (old : PassState) (ls : List Command) (line : Command) (lines_done : List ExecutedLine) (w new : Work) → IsAlive rules old ls lines_done w → TakesOn rules always w.session w.answers.items line new → IsTurned rules always old ls line lines_done w new
-taken rules always old ls line lines_done w new a (inl s) =
+taken : (rules : Rules) (gate : GateAnswers) (old : PassState) (ls : List Command) (line : Command) (lines_done : List ExecutedLine) (w new : Work) → IsAlive rules gate old ls lines_done w → TakesOn rules gate w.session w.answers.items line new → IsTurned rules gate old ls line lines_done w new
+taken rules gate old ls line lines_done w new a (inl s) =
     let session : AreDone rules old ls new.session w.answers.items lines_done = subst (λ (d : Session). AreDone rules old ls d w.answers.items lines_done) (sym s.session_same) a.done in
-    let run : IsRun rules always old (ls ++ line ∷ []) lines_done new = record {
+    let run : IsRun rules gate old (ls ++ line ∷ []) lines_done new = record {
       prefix = ls;
       rest = line ∷ [];
       all = refl;
       done = subst (λ (x : List AnswerLine). AreDone rules old ls new.session x lines_done) (sym s.answers_same) session;
-      ended = subst (λ (f : Finish). HasEnded always lines_done (line ∷ []) f) (sym s.finish_is) (inr (s.refused, a.none));
+      may_run = a.may_run;
+      ended = subst (λ (f : Finish). HasEnded gate lines_done (line ∷ []) f) (sym s.finish_is) (inr (s.refused, a.none));
     } in
     record {
       turn = None;
       line_is = tt;
-      run = subst (λ (ds : List ExecutedLine). IsRun rules always old (ls ++ line ∷ []) ds new) (sym (append-nil lines_done)) run;
+      run = subst (λ (ds : List ExecutedLine). IsRun rules gate old (ls ++ line ∷ []) ds new) (sym (append-nil lines_done)) run;
       of = ap (λ (d : Session). (session_pass d).of) s.session_same;
       seen = subst (λ (d : Session). IsPrefix (session_pass w.session).seen (session_pass d).seen) (sym s.session_same) (prefix_self (session_pass w.session).seen);
       after = tt;
       within = tt;
       ascend = tt;
+      shown = subst (λ (d : Session). IsPrefix (session_pass w.session).shown (session_pass d).shown) (sym s.session_same) (prefix_self (session_pass w.session).shown);
+      told = tt;
+      heard = tt;
     }
-taken rules always old ls line lines_done w new a (inr s) =
+taken rules gate old ls line lines_done w new a (inr s) =
     let t : ExecutesLine rules line w.session w.answers.items new.session new.answers.items s.out = s.takes in
     let d : ExecutedLine = line_done_of line w.session t.does.word t.answer t.does.steps new.session in
     let tells = t.does.tells in
     let same : (session_pass w.session).of.shards ≡ old.of.shards = ap (λ (o : Opening). o.shards) a.done.tells.of in
     let p : ℕ = (session_pass w.session).number in
-    let run : IsRun rules always old (ls ++ line ∷ []) (lines_done ++ d ∷ []) new = record {
+    let run : IsRun rules gate old (ls ++ line ∷ []) (lines_done ++ d ∷ []) new = record {
       prefix = ls ++ line ∷ [];
       rest = [];
       all = sym (append-nil (ls ++ line ∷ []));
       done = done_more rules old ls w.session w.answers.items lines_done line new.session new.answers.items s.out a.done t;
-      ended = subst (λ (f : Finish). HasEnded always (lines_done ++ d ∷ []) [] f) (sym s.finish_is) (out_ends always s.out lines_done d a.none t.out_is);
+      may_run = all_more (λ x. MayRun gate x.line) lines_done d a.may_run s.may_run;
+      ended = subst (λ (f : Finish). HasEnded gate (lines_done ++ d ∷ []) [] f) (sym s.finish_is) (out_ends gate s.out lines_done d a.none t.out_is);
     } in
     record {
       turn = Some d;
@@ -200,19 +230,22 @@ taken rules always old ls line lines_done w new a (inr s) =
       within = subst (λ (n : ℕ). AllByRecursion (IsSeen n (session_pass new.session).seen) d.steps) same
           (all_weaker (StandsIn (session_pass w.session).of.shards p (session_pass new.session).seen) (IsSeen (session_pass w.session).of.shards (session_pass new.session).seen) d.steps (stands_seen (session_pass w.session).of.shards p (session_pass new.session).seen) tells.stand);
       ascend = subst (λ (n : ℕ). Ascend n d.steps) same tells.ascend;
+      shown = tells.shown;
+      told = subst (λ (n : ℕ). AllByRecursion (LetsAreShown n (session_pass new.session).seen (session_pass new.session).shown) d.steps) same tells.lets_shown;
+      heard = if_true (reads_of line.action (session_request w.session)) (Hears (session_pass w.session) (session_pass new.session) d.steps d.word) t.does.heard;
     }
 
 -- The pass executed its next line, or had ended.
-pub turned : (rules : Rules) (always : Bool) (old : PassState) (ls : List Command) (line : Command) (lines_done : List ExecutedLine) (f : Finish) (w new : Work) → w.finish ≡ f → IsRun rules always old ls lines_done w → WorkGoesOn rules always f w line new → IsTurned rules always old ls line lines_done w new
-turned rules always old ls line lines_done TurnsOut w new f r g = subst (λ (x : Work). IsTurned rules always old ls line lines_done w x) (sym g) (left_over rules always old ls line lines_done w f r)
-turned rules always old ls line lines_done Done w new f r g = taken rules always old ls line lines_done w new (alive rules always old ls lines_done w f r) g
+pub turned : (rules : Rules) (gate : GateAnswers) (old : PassState) (ls : List Command) (line : Command) (lines_done : List ExecutedLine) (f : Finish) (w new : Work) → w.finish ≡ f → IsRun rules gate old ls lines_done w → WorkGoesOn rules gate f w line new → IsTurned rules gate old ls line lines_done w new
+turned rules gate old ls line lines_done TurnsOut w new f r g = subst (λ (x : Work). IsTurned rules gate old ls line lines_done w x) (sym g) (left_over rules gate old ls line lines_done w f r)
+turned rules gate old ls line lines_done Done w new f r g = taken rules gate old ls line lines_done w new (alive rules gate old ls lines_done w f r) g
 
-goes_on : (rules : Rules) (always : Bool) (old : PassState) (ls : List Command) (line : Command) (w new : Work) → IsWorked rules always old ls w → WorkGoesOn rules always w.finish w line new → IsWorked rules always old (ls ++ line ∷ []) new
-goes_on rules always old ls line w new h g = let t : IsTurned rules always old ls line h.0 w new = turned rules always old ls line h.0 w.finish w new refl h.1 g in (h.0 ++ somes (t.turn ∷ []), t.run)
+goes_on : (rules : Rules) (gate : GateAnswers) (old : PassState) (ls : List Command) (line : Command) (w new : Work) → IsWorked rules gate old ls w → WorkGoesOn rules gate w.finish w line new → IsWorked rules gate old (ls ++ line ∷ []) new
+goes_on rules gate old ls line w new h g = let t : IsTurned rules gate old ls line h.0 w new = turned rules gate old ls line h.0 w.finish w new refl h.1 g in (h.0 ++ somes (t.turn ∷ []), t.run)
 
 -- Before the first line.
-pub run_none : (rules : Rules) (always : Bool) (p : PassState) (w : Work) → IsBegun p w → IsRun rules always p [] [] w
-run_none rules always p w b =
+pub run_none : (rules : Rules) (gate : GateAnswers) (p : PassState) (w : Work) → IsBegun p w → IsRun rules gate p [] [] w
+run_none rules gate p w b =
     let none : AreDone rules p [] (Free p) [] [] = record { lines_are = refl; runs = refl; answers_are = refl; tells = tells_none p; numbers_out = tt } in
     let session : AreDone rules p [] w.session [] [] = subst (λ (x : Session). AreDone rules p [] x [] []) (sym b.session) none in
     record {
@@ -220,11 +253,12 @@ run_none rules always p w b =
       rest = [];
       all = refl;
       done = subst (λ (x : List AnswerLine). AreDone rules p [] w.session x []) (sym b.answers) session;
-      ended = subst (λ (x : Finish). HasEnded always [] [] x) (sym b.finish) (refl, tt);
+      may_run = tt;
+      ended = subst (λ (x : Finish). HasEnded gate [] [] x) (sym b.finish) (refl, tt);
     }
 
-pub worked_none : (rules : Rules) (always : Bool) (p : PassState) (w : Work) → IsBegun p w → IsWorked rules always p [] w
-worked_none rules always p w b = ([], run_none rules always p w b)
+pub worked_none : (rules : Rules) (gate : GateAnswers) (p : PassState) (w : Work) → IsBegun p w → IsWorked rules gate p [] w
+worked_none rules gate p w b = ([], run_none rules gate p w b)
 
 -- ---- among the lines of others
 
@@ -246,17 +280,17 @@ pub prefix_more : (cs : List Command) (i : ℕ) (c : Command) → i < length cs 
 prefix_more cs i c lt is = take_more cs i c lt ∙ ap (λ (x : Command). take i cs ++ x ∷ []) (sym is)
 
 -- A worker executed the next line of its pass.
-pub worked_mine : (rules : Rules) (always : Bool) (old : PassState) (cs : List Command) (i : ℕ) (c : Command) (w new : Work) → i < length cs → c ≡ get_or cs i c → (c.pass == old.number) ≡ true
-    → IsWorked rules always old (pass_lines old.number (take i cs)) w → WorkGoesOn rules always w.finish w c new → IsWorked rules always old (pass_lines old.number (take (i + 1) cs)) new
-worked_mine rules always old cs i c w new lt is hit h g =
-    subst (λ (ls : List Command). IsWorked rules always old ls new) (sym (ap (pass_lines old.number) (prefix_more cs i c lt is) ∙ mine old.number (take i cs) c hit))
-    (goes_on rules always old (pass_lines old.number (take i cs)) c w new h g)
+pub worked_mine : (rules : Rules) (gate : GateAnswers) (old : PassState) (cs : List Command) (i : ℕ) (c : Command) (w new : Work) → i < length cs → c ≡ get_or cs i c → (c.pass == old.number) ≡ true
+    → IsWorked rules gate old (pass_lines old.number (take i cs)) w → WorkGoesOn rules gate w.finish w c new → IsWorked rules gate old (pass_lines old.number (take (i + 1) cs)) new
+worked_mine rules gate old cs i c w new lt is hit h g =
+    subst (λ (ls : List Command). IsWorked rules gate old ls new) (sym (ap (pass_lines old.number) (prefix_more cs i c lt is) ∙ mine old.number (take i cs) c hit))
+    (goes_on rules gate old (pass_lines old.number (take i cs)) c w new h g)
 
 -- A worker skipped a line of another pass.
-pub worked_other : (rules : Rules) (always : Bool) (old : PassState) (cs : List Command) (i : ℕ) (c : Command) (w : Work) → i < length cs → c ≡ get_or cs i c → (c.pass == old.number) ≡ false
-    → IsWorked rules always old (pass_lines old.number (take i cs)) w → IsWorked rules always old (pass_lines old.number (take (i + 1) cs)) w
-worked_other rules always old cs i c w lt is miss h =
-    subst (λ (ls : List Command). IsWorked rules always old ls w) (sym (ap (pass_lines old.number) (prefix_more cs i c lt is) ∙ other old.number (take i cs) c miss)) h
+pub worked_other : (rules : Rules) (gate : GateAnswers) (old : PassState) (cs : List Command) (i : ℕ) (c : Command) (w : Work) → i < length cs → c ≡ get_or cs i c → (c.pass == old.number) ≡ false
+    → IsWorked rules gate old (pass_lines old.number (take i cs)) w → IsWorked rules gate old (pass_lines old.number (take (i + 1) cs)) w
+worked_other rules gate old cs i c w lt is miss h =
+    subst (λ (ls : List Command). IsWorked rules gate old ls w) (sym (ap (pass_lines old.number) (prefix_more cs i c lt is) ∙ other old.number (take i cs) c miss)) h
 
 pub is_same : (m n : ℕ) → m ≡ n → (m == n) ≡ true
 is_same m n e = grind (arith, nat_tests)

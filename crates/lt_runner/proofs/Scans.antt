@@ -1,11 +1,14 @@
 -- What a scan and a poll tell.
-use Rattle.std.proofs.Common.{◌≡◌, ◌≢◌, ℕ, Bool, true, false, cond, nat_eq, nat_lt, List, [], length, Option, Some, None, Result, Ok, Err, refl, sym, ap, subst, ◌∙◌}
+use Rattle.std.proofs.Common.{◌≡◌, ◌≢◌, ◌≤◌, arith, ℕ, Bool, true, false, cond, nat_eq, nat_lt, List, [], length, Option, Some, None, Result, Ok, Err, refl, sym, ap, subst, ◌∙◌}
 use Rattle.std.specs.Prelude.{slice_get}
 use Rattle.std.specs.List.{AllByRecursion}
 use Rattle.lt_ids.specs.Ids.{Wait, value_of}
 use Rattle.lt_ids.specs.declared.request.Access.{Access}
 use Rattle.lt_rules.specs.declared.call.Call.{Call}
-use Rattle.lt_words.specs.History.{LetIn}
+use Rattle.lt_words.specs.History.{LetIn, IsStatus}
+use Rattle.lt_words.specs.Shown.{word_of}
+use Rattle.lt_words.specs.Row.{Opening}
+use Rattle.lt_words.proofs.Showing.{word_later}
 use Rattle.lt_shard.specs.declared.answer.StepError.{StepError}
 use Rattle.lt_shard.specs.declared.answer.StepError.TheVariants as steps
 use Rattle.lt_table_core.specs.declared.walk_progress.Mode.{Mode}
@@ -19,12 +22,12 @@ use Rattle.lt_table_core.specs.declared.scan_results.Poll.{Poll}
 use Rattle.lt_table_core.specs.declared.scan_results.Poll.TheVariants as polls
 use Rattle.lt_table_core.specs.Machine.{after_status, mode_after_status, polled, polled_in, scan_start_in, scan_end, is_awaiting, is_stopped, next_visit, WalkState, Step, Ends, IsScanBegun, of_step}
 use Rattle.lt_table_core.specs.Reported.{GuardState, IsScan, IsPoll, current_wait}
-use Rattle.lt_runner.specs.Outcomes.{OutcomeTells}
+use Rattle.lt_runner.specs.Outcomes.{OutcomeTells, ComesAfter, Hears}
 use Rattle.lt_runner.specs.declared.answer.LineAnswer.{LineAnswer}
 use Rattle.lt_runner.specs.declared.answer.LineAnswer.TheVariants as answers
-use Rattle.lt_runner.specs.Machine.{let_in_mode, let_from, let_read, let_gone_on, state_after_status, numbers_of, IsScanAnswer, IsToldAt}
+use Rattle.lt_runner.specs.Machine.{let_in_mode, let_from, let_read, let_gone_on, state_after_status, numbers_of, poll_answer, IsScanAnswer, IsToldAt}
 use Rattle.lt_runner.specs.Execution.{Polls}
-use Rattle.lt_runner.proofs.Telling.{tells_more, tells_then, tells_steps, tells_let}
+use Rattle.lt_runner.proofs.Telling.{prefix_self, tells_more, tells_then, tells_steps, tells_let}
 
 -- ---- a scan that proceeds is not answered `StillWaiting`
 
@@ -93,6 +96,20 @@ tells_scan max_waits old new result s number went =
     (lets_in old.walk.progress.mode heard'.mode (LetIn new.pass.seen old.pass.number) (current_wait old.walk)
     (λ w l. subst (λ (n : ℕ). LetIn new.pass.seen n (current_wait old.walk)) number (went w (on l))))
 
+-- A scan hears the lets that were shown before.
+pub hears_scan : (max_waits : ℕ) (old new : GuardState) (result : Result Scan ScanError) → (s : IsScan max_waits old new result) → Hears old.pass new.pass s.steps s.word
+hears_scan max_waits old new result s =
+    let made : OutcomeTells s.read new.pass s.steps [] [] = tells_steps s.read s.steps new.pass s.reported in
+    let more : word_of old.pass.number old.pass.shown ≤ word_of old.pass.number s.read.shown = word_later old.pass.number old.pass.shown s.read.shown s.reads.shown in
+    let shards : s.read.of.shards ≡ old.pass.of.shards = ap (λ (o : Opening). o.shards) s.reads.of in
+    record {
+      above = omega (arith, more, s.word_is);
+      seen = s.read.seen;
+      status = s.status;
+      within = made.seen;
+      after = subst (λ (n : ℕ). AllByRecursion (ComesAfter n s.read.seen) s.steps) shards made.after;
+    }
+
 -- ---- polls
 
 through : (m : Mode) (P : Wait → Type 0) (t : Wait) → (polled_in m ≡ polls.Through → P t) → AllByRecursion P (let_in_mode m t)
@@ -115,6 +132,8 @@ one_poll old new found p let_in =
           (through (state_after_status old.walk p.word).progress.mode (LetIn new.pass.seen old.pass.number) (current_wait old.walk)
           (λ e. subst (λ (n : ℕ). LetIn new.pass.seen n (current_wait old.walk)) p.reads.number
           (subst (λ (t : Wait). LetIn new.pass.seen new.pass.number t) wait (let_in (p.answer ∙ (ap polled_in mode ∙ e))))));
+      above = let more : word_of old.pass.number old.pass.shown ≤ word_of old.pass.number new.pass.shown = word_later old.pass.number old.pass.shown new.pass.shown p.reads.shown in omega (arith, more, p.word_is);
+      status = p.status;
     }
 
 still : (m : Mode) (b : Bool) → polls.Waiting ≡ polled_in (mode_after_status m b) → mode_after_status m b ≡ m
@@ -153,7 +172,24 @@ polls_then a b c r p q =
       after = q.after ∙ ap (λ (s : WalkState). state_after_status s q.word) b_is;
       answer = q.answer;
       tells = tells_then a.pass b.pass c.pass [] [] [] [] [] (let_read (Some a.walk) q.word) first second;
+      above =
+          let same : b.pass.number ≡ a.pass.number = first.number in
+          let reached : word_of a.pass.number b.pass.shown ≤ q.word = subst (λ (n : ℕ). word_of n b.pass.shown ≤ q.word) same q.above in
+          let more : word_of a.pass.number a.pass.shown ≤ word_of a.pass.number b.pass.shown = word_later a.pass.number a.pass.shown b.pass.shown first.shown in
+          omega arith;
+      status = subst (λ (n : ℕ). IsStatus c.pass.seen n q.word) first.number q.status;
     }
+
+-- Polls hear the lets that were shown before them.
+pub hears_polls : (old new : GuardState) (found : Poll) → (p : Polls old found new) → Hears old.pass new.pass [] p.word
+hears_polls old new found p = record { above = p.above; seen = new.pass.seen; status = p.status; within = prefix_self new.pass.seen; after = tt }
+
+-- A poll draws no number.
+pub polls_draw_none : (turns : Option ℕ) (found : Poll) → numbers_of (poll_answer turns found) ≡ []
+polls_draw_none turns polls.Through = refl
+polls_draw_none None polls.Waiting = refl
+polls_draw_none (Some n) polls.Waiting = refl
+polls_draw_none turns polls.Idle = refl
 
 -- A scan draws no number.
 told_draws_none : (told : List ℕ → LineAnswer) (k : Option (List ℕ × Access)) (answer : LineAnswer) → ((key : List ℕ) → numbers_of (told key) ≡ []) → IsToldAt told k answer → numbers_of answer ≡ []

@@ -18,6 +18,7 @@ use Rattle.lt_runner.specs.declared.outcome.Work.{Work}
 use Rattle.lt_runner.specs.Outcomes.{StandsIn, IsBefore, Ascend, IsRising, IsDrawn}
 use Rattle.lt_runner.specs.Sessions.{session_pass}
 use Rattle.lt_runner.specs.Machine.{Rules, ExecutedLine, lets_of_executed}
+use Rattle.lt_runner.specs.Gates.{GateAnswers}
 use Rattle.lt_runner.specs.Worked.{IsRun, steps_of_executed, pass_lines}
 use Rattle.lt_runner.specs.Turns.{AreNumbered, AreRun}
 use Rattle.lt_runner.specs.Standing.{Finals, final_of, Made, made_by, made_from, IsInFinalHistory, IsApart, Apart, NumbersDiffer, run_numbers, IsLetThere, AllStandAtTheEnd}
@@ -146,30 +147,30 @@ AreOfShards shards ps = AllByRecursion (λ p. p.of.shards ≡ shards) ps
 abbrev WorksWithin : ℕ → List Event → Finals → List Work → Type 0
 WorksWithin shards h finals ws = AllByRecursion (λ w. IsWithin shards h finals (session_pass w.session)) ws
 
-drawn_there : (rules : Rules) (always : Bool) (shards : ℕ) (h : List Event) (finals : Finals) (p : PassState) (ls : List Command) (ds : List ExecutedLine) (w : Work) → IsRun rules always p ls ds w → IsWithin shards h finals (session_pass w.session) → AllByRecursion (DrewIn h p.number) (run_numbers ds)
-drawn_there rules always shards h finals p ls ds w r i = all_weaker (IsDrawn p.number p.seen (session_pass w.session).seen) (DrewIn h p.number) (run_numbers ds) (λ n d. draws_stay (session_pass w.session).seen h p.number n i.seen d.drew) r.done.tells.drawn
+drawn_there : (rules : Rules) (gate : GateAnswers) (shards : ℕ) (h : List Event) (finals : Finals) (p : PassState) (ls : List Command) (ds : List ExecutedLine) (w : Work) → IsRun rules gate p ls ds w → IsWithin shards h finals (session_pass w.session) → AllByRecursion (DrewIn h p.number) (run_numbers ds)
+drawn_there rules gate shards h finals p ls ds w r i = all_weaker (IsDrawn p.number p.seen (session_pass w.session).seen) (DrewIn h p.number) (run_numbers ds) (λ n d. draws_stay (session_pass w.session).seen h p.number n i.seen d.drew) r.done.tells.drawn
 
-numbers_later : (rules : Rules) (always : Bool) (cs : List Command) (shards : ℕ) (h : List Event) (finals : Finals) (q n : ℕ) (ps : List PassState) (dss : List (List ExecutedLine)) (ws : List Work) → AreRun rules always cs ps dss ws → AreNumbered n ps → q ≤ n → WorksWithin shards h finals ws → AllByRecursion (IsDrawnLater h q) (flat_map run_numbers dss)
-numbers_later rules always cs shards h finals q n [] [] [] r num le i = tt
-numbers_later rules always cs shards h finals q n [] [] (w ∷ ws) r num le i = absurd r
-numbers_later rules always cs shards h finals q n [] (ds ∷ dss) ws r num le i = absurd r
-numbers_later rules always cs shards h finals q n (p ∷ ps) [] ws r num le i = absurd r
-numbers_later rules always cs shards h finals q n (p ∷ ps) (ds ∷ dss) [] r num le i = absurd r
-numbers_later rules always cs shards h finals q n (p ∷ ps) (ds ∷ dss) (w ∷ ws) r num le i =
+numbers_later : (rules : Rules) (gate : GateAnswers) (cs : List Command) (shards : ℕ) (h : List Event) (finals : Finals) (q n : ℕ) (ps : List PassState) (dss : List (List ExecutedLine)) (ws : List Work) → AreRun rules gate cs ps dss ws → AreNumbered n ps → q ≤ n → WorksWithin shards h finals ws → AllByRecursion (IsDrawnLater h q) (flat_map run_numbers dss)
+numbers_later rules gate cs shards h finals q n [] [] [] r num le i = tt
+numbers_later rules gate cs shards h finals q n [] [] (w ∷ ws) r num le i = absurd r
+numbers_later rules gate cs shards h finals q n [] (ds ∷ dss) ws r num le i = absurd r
+numbers_later rules gate cs shards h finals q n (p ∷ ps) [] ws r num le i = absurd r
+numbers_later rules gate cs shards h finals q n (p ∷ ps) (ds ∷ dss) [] r num le i = absurd r
+numbers_later rules gate cs shards h finals q n (p ∷ ps) (ds ∷ dss) (w ∷ ws) r num le i =
     let is : p.number ≡ n + 1 = num.0 in
     all_append (IsDrawnLater h q) (run_numbers ds) (flat_map run_numbers dss)
-    (all_weaker (DrewIn h p.number) (IsDrawnLater h q) (run_numbers ds) (λ m d. (p.number, omega arith, d)) (drawn_there rules always shards h finals p (pass_lines p.number cs) ds w r.0 i.0))
-    (numbers_later rules always cs shards h finals q (n + 1) ps dss ws r.1 num.1 (omega arith) i.1)
+    (all_weaker (DrewIn h p.number) (IsDrawnLater h q) (run_numbers ds) (λ m d. (p.number, omega arith, d)) (drawn_there rules gate shards h finals p (pass_lines p.number cs) ds w r.0 i.0))
+    (numbers_later rules gate cs shards h finals q (n + 1) ps dss ws r.1 num.1 (omega arith) i.1)
 
-pub all_stand : (rules : Rules) (always : Bool) (cs : List Command) (shards : ℕ) (h : List Event) (finals : Finals) (n : ℕ) (ps : List PassState) (dss : List (List ExecutedLine)) (ws : List Work) → 0 < shards → IsLegalHistory shards h → AreOfShards shards ps
-    → AreRun rules always cs ps dss ws → AreNumbered n ps → WorksWithin shards h finals ws → AllStandAtTheEnd shards finals (n + 1) dss
-all_stand rules always cs shards h finals n [] [] [] some legal of r num i = record { stand = tt; apart = tt; distinct = tt; lets = tt }
-all_stand rules always cs shards h finals n [] [] (w ∷ ws) some legal of r num i = absurd r
-all_stand rules always cs shards h finals n [] (ds ∷ dss) ws some legal of r num i = absurd r
-all_stand rules always cs shards h finals n (p ∷ ps) [] ws some legal of r num i = absurd r
-all_stand rules always cs shards h finals n (p ∷ ps) (ds ∷ dss) [] some legal of r num i = absurd r
-all_stand rules always cs shards h finals n (p ∷ ps) (ds ∷ dss) (w ∷ ws) some legal of r num i =
-    let rest : AllStandAtTheEnd shards finals (n + 1 + 1) dss = all_stand rules always cs shards h finals (n + 1) ps dss ws some legal of.1 r.1 num.1 i.1 in
+pub all_stand : (rules : Rules) (gate : GateAnswers) (cs : List Command) (shards : ℕ) (h : List Event) (finals : Finals) (n : ℕ) (ps : List PassState) (dss : List (List ExecutedLine)) (ws : List Work) → 0 < shards → IsLegalHistory shards h → AreOfShards shards ps
+    → AreRun rules gate cs ps dss ws → AreNumbered n ps → WorksWithin shards h finals ws → AllStandAtTheEnd shards finals (n + 1) dss
+all_stand rules gate cs shards h finals n [] [] [] some legal of r num i = record { stand = tt; apart = tt; distinct = tt; lets = tt }
+all_stand rules gate cs shards h finals n [] [] (w ∷ ws) some legal of r num i = absurd r
+all_stand rules gate cs shards h finals n [] (ds ∷ dss) ws some legal of r num i = absurd r
+all_stand rules gate cs shards h finals n (p ∷ ps) [] ws some legal of r num i = absurd r
+all_stand rules gate cs shards h finals n (p ∷ ps) (ds ∷ dss) [] some legal of r num i = absurd r
+all_stand rules gate cs shards h finals n (p ∷ ps) (ds ∷ dss) (w ∷ ws) some legal of r num i =
+    let rest : AllStandAtTheEnd shards finals (n + 1 + 1) dss = all_stand rules gate cs shards h finals (n + 1) ps dss ws some legal of.1 r.1 num.1 i.1 in
     let q : PassState = session_pass w.session in
     let is : p.number ≡ n + 1 = num.0 in
     let xs : List runs.Step = flat_map steps_of_executed ds in
@@ -180,6 +181,6 @@ all_stand rules always cs shards h finals n (p ∷ ps) (ds ∷ dss) (w ∷ ws) s
     record {
       stand = all_append (IsInFinalHistory shards finals) (map (made_by (n + 1)) xs) (made_from (n + 1 + 1) dss) mine rest.stand;
       apart = apart_append shards finals (n + 1) (map (made_by (n + 1)) xs) (made_from (n + 1 + 1) dss) mine rest.stand (own (n + 1) xs) (made_later (n + 1) (n + 1 + 1) dss (omega arith)) (ascend_apart shards (n + 1) xs ascend) rest.apart;
-      distinct = distinct_append shards h p.number (run_numbers ds) (flat_map run_numbers dss) legal (drawn_there rules always shards h finals p (pass_lines p.number cs) ds w r.0 i.0) (numbers_later rules always cs shards h finals p.number (n + 1) ps dss ws r.1 num.1 (omega arith) i.1) (rise_distinct (run_numbers ds) r.0.done.tells.rise) rest.distinct;
+      distinct = distinct_append shards h p.number (run_numbers ds) (flat_map run_numbers dss) legal (drawn_there rules gate shards h finals p (pass_lines p.number cs) ds w r.0 i.0) (numbers_later rules gate cs shards h finals p.number (n + 1) ps dss ws r.1 num.1 (omega arith) i.1) (rise_distinct (run_numbers ds) r.0.done.tells.rise) rest.distinct;
       lets = (all_weaker (LetIn q.seen (n + 1)) (IsLetThere finals (n + 1)) (flat_map lets_of_executed ds) (λ t. let_final shards h finals q (n + 1) t some legal i.0) lets, rest.lets);
     }

@@ -5,6 +5,7 @@ use Rattle.std.specs.List.{AllByRecursion}
 use Rattle.std.proofs.lemmas.Option.{slice_get_within}
 use mathlib.Core.List.{IsPrefix}
 use Rattle.lt_ids.specs.Ids.{Wait}
+use Rattle.lt_ids.specs.declared.ticket.Through.{Through}
 use Rattle.lt_ids.specs.declared.timestamp.Timestamp.{Timestamp}
 use Rattle.lt_ids.specs.declared.request.Access.{Access}
 use Rattle.lt_entry.specs.declared.entry.Entry.{Entry}
@@ -15,11 +16,13 @@ use Rattle.lt_words.specs.Row.{Opening, PassState, SeesMore, Appends}
 use Rattle.lt_words.proofs.Prefixes.{prefix_trans, prefix_get}
 use Rattle.lt_words.proofs.Histories.{part_length, part_prefix, let_later}
 use Rattle.lt_words.proofs.Draws.{draws_stay}
+use Rattle.lt_words.proofs.Showing.{shown_later}
+use Rattle.lt_words.specs.Shown.{IsShown}
 use Rattle.lt_table_core.specs.Machine as runs
 use Rattle.lt_table_core.specs.Entered.{IsEntered}
 use Rattle.lt_table_core.specs.Reported.{GuardState, Reported, AreReported, steps_at}
 use Rattle.lt_table_core.proofs.InPlace.{all_counted}
-use Rattle.lt_runner.specs.Outcomes.{StandsAt, StandsIn, IsSeen, ComesAfter, IsBefore, Ascend, IsRising, IsDrawn, OutcomeTells, part_of}
+use Rattle.lt_runner.specs.Outcomes.{StandsAt, StandsIn, IsSeen, LetsAreShown, ComesAfter, IsBefore, Ascend, IsRising, IsDrawn, OutcomeTells, part_of}
 
 pub all_append : {A : Type 0} (P : A → Type 0) (xs ys : List A) → AllByRecursion P xs → AllByRecursion P ys → AllByRecursion P (xs ++ ys)
 all_append P [] ys p q = q
@@ -43,8 +46,15 @@ stands_at_later pass es fs x p s = record { entry = s.entry; key_is = s.key_is; 
 stands_later : (shards pass : ℕ) (h g : List Event) (x : runs.Step) → IsPrefix h g → StandsIn shards pass h x → StandsIn shards pass g x
 stands_later shards pass h g x p s = stands_at_later pass (part_of shards h x) (part_of shards g x) x (part_prefix (shard_of x.key shards) h g p) s
 
-after_earlier : (shards : ℕ) (h g : List Event) (x : runs.Step) → IsPrefix h g → ComesAfter shards g x → ComesAfter shards h x
+pub after_earlier : (shards : ℕ) (h g : List Event) (x : runs.Step) → IsPrefix h g → ComesAfter shards g x → ComesAfter shards h x
 after_earlier shards h g x p a = let le : length (part_of shards h x) ≤ length (part_of shards g x) = part_length (shard_of x.key shards) h g p in omega arith
+
+pub lets_shown_later : (shards : ℕ) (h g : List Event) (ts us : List Through) (x : runs.Step) → IsPrefix h g → IsPrefix ts us → LetsAreShown shards h ts x → LetsAreShown shards g us x
+lets_shown_later shards h g ts us x p q s = record {
+  entry = s.entry;
+  stands = prefix_get (part_of shards h x) (part_of shards g x) x.answer.at s.entry (part_prefix (shard_of x.key shards) h g p) s.stands;
+  lets_shown = all_weaker (λ t. IsShown ts t.pass t.ticket) (λ t. IsShown us t.pass t.ticket) s.entry.lets (λ t. shown_later t.pass t.ticket ts us q) s.lets_shown;
+}
 
 pub stands_seen : (shards pass : ℕ) (h : List Event) (x : runs.Step) → StandsIn shards pass h x → IsSeen shards h x
 stands_seen shards pass h x s = slice_get_within (part_of shards h x) x.answer.at s.entry s.stands
@@ -144,10 +154,10 @@ count_then a b c n s xs ys one two = omega (arith, one, two, steps_append n s xs
 -- ---- what the calls tell
 
 pub tells_none : (a : PassState) → OutcomeTells a a [] [] []
-tells_none a = record { of = refl; number = refl; seen = prefix_self a.seen; stand = tt; after = tt; ascend = tt; counted = count_none a a refl; drawn = tt; rise = tt; let_in = tt }
+tells_none a = record { of = refl; number = refl; seen = prefix_self a.seen; stand = tt; after = tt; ascend = tt; counted = count_none a a refl; drawn = tt; rise = tt; let_in = tt; shown = prefix_self a.shown; lets_shown = tt }
 
 pub tells_more : (a b : PassState) → SeesMore a b → OutcomeTells a b [] [] []
-tells_more a b m = record { of = m.of; number = m.number; seen = m.seen; stand = tt; after = tt; ascend = tt; counted = count_none a b m.counts; drawn = tt; rise = tt; let_in = tt }
+tells_more a b m = record { of = m.of; number = m.number; seen = m.seen; stand = tt; after = tt; ascend = tt; counted = count_none a b m.counts; drawn = tt; rise = tt; let_in = tt; shown = m.shown; lets_shown = tt }
 
 -- One call after the other.
 pub tells_then : (a b c : PassState) (xs ys : List runs.Step) (ms ns : List ℕ) (ts us : List Wait) → OutcomeTells a b xs ms ts → OutcomeTells b c ys ns us → OutcomeTells a c (xs ++ ys) (ms ++ ns) (ts ++ us)
@@ -159,6 +169,7 @@ tells_then a b c xs ys ms ns ts us g h =
     let ascend : Ascend n ys = subst (λ (s : ℕ). Ascend s ys) same h.ascend in
     let drawn : AllByRecursion (IsDrawn a.number b.seen c.seen) ns = subst (λ (p : ℕ). AllByRecursion (IsDrawn p b.seen c.seen) ns) g.number h.drawn in
     let lets : AllByRecursion (LetIn c.seen a.number) us = subst (λ (p : ℕ). AllByRecursion (LetIn c.seen p) us) g.number h.let_in in
+    let told : AllByRecursion (LetsAreShown n c.seen c.shown) ys = subst (λ (s : ℕ). AllByRecursion (LetsAreShown s c.seen c.shown) ys) same h.lets_shown in
     record {
       of = h.of ∙ g.of;
       number = h.number ∙ g.number;
@@ -170,6 +181,8 @@ tells_then a b c xs ys ms ns ts us g h =
       drawn = all_append (IsDrawn a.number a.seen c.seen) ms ns (all_weaker (IsDrawn a.number a.seen b.seen) (IsDrawn a.number a.seen c.seen) ms (λ k. drawn_later a.number a.seen b.seen c.seen k h.seen) g.drawn) (all_weaker (IsDrawn a.number b.seen c.seen) (IsDrawn a.number a.seen c.seen) ns (λ k. drawn_earlier a.number a.seen b.seen c.seen k g.seen) drawn);
       rise = rise_append a.number a.seen b.seen c.seen ms ns g.drawn drawn g.rise h.rise;
       let_in = all_append (LetIn c.seen a.number) ts us (all_weaker (LetIn b.seen a.number) (LetIn c.seen a.number) ts (λ t. let_later b.seen c.seen a.number t h.seen) g.let_in) lets;
+      shown = prefix_trans a.shown b.shown c.shown g.shown h.shown;
+      lets_shown = all_append (LetsAreShown n c.seen c.shown) xs ys (all_weaker (LetsAreShown n b.seen b.shown) (LetsAreShown n c.seen c.shown) xs (λ x. lets_shown_later n b.seen c.seen b.shown c.shown x h.seen h.shown) g.lets_shown) told;
     }
 
 -- The pass learned more afterwards.
@@ -192,6 +205,8 @@ tells_step a b x r = record {
   drawn = tt;
   rise = tt;
   let_in = tt;
+  shown = r.reports.shown;
+  lets_shown = (record { entry = r.entry; stands = r.reports.stands; lets_shown = r.reports.lets_shown }, tt);
 }
 
 pub tells_steps : (a : PassState) (xs : List runs.Step) (b : PassState) → AreReported a xs b → OutcomeTells a b xs [] []
@@ -210,8 +225,10 @@ tells_entered a given txn ts longest max g e = record {
   drawn = (drawn_next a.seen g.pass.seen a.number g.walk.asked.number e.drawn, tt);
   rise = (tt, tt);
   let_in = tt;
+  shown = e.more.shown;
+  lets_shown = tt;
 }
 
 -- A let that the pass found at a call.
 pub tells_let : (a b : PassState) (xs : List runs.Step) (ts : List Wait) → OutcomeTells a b xs [] [] → AllByRecursion (LetIn b.seen a.number) ts → OutcomeTells a b xs [] ts
-tells_let a b xs ts t l = record { of = t.of; number = t.number; seen = t.seen; stand = t.stand; after = t.after; ascend = t.ascend; counted = t.counted; drawn = t.drawn; rise = t.rise; let_in = l }
+tells_let a b xs ts t l = record { of = t.of; number = t.number; seen = t.seen; stand = t.stand; after = t.after; ascend = t.ascend; counted = t.counted; drawn = t.drawn; rise = t.rise; let_in = l; shown = t.shown; lets_shown = t.lets_shown }

@@ -2,6 +2,7 @@ pub mod Outcomes
 pub mod Sessions
 pub mod Machine
 pub mod Execution
+pub mod Gates
 pub mod Worked
 pub mod Standing
 pub mod Turns

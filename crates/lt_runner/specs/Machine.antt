@@ -1,6 +1,6 @@
 -- The machine of a pass: the answer of each of its lines, the steps that the line makes, and the request that the
 -- pass has after it.
-use Rattle.std.specs.Prelude.{ℕ, ◌≡◌, ◌≢◌, ◌≤◌, ◌<◌, List, [], ◌∷◌, length, position, Option, Some, None, Result, Ok, Err, slice_get}
+use Rattle.std.specs.Prelude.{ℕ, ◌≡◌, ◌≢◌, ◌≤◌, ◌<◌, List, [], ◌∷◌, length, position, Bool, false, Option, Some, None, is_some, Result, Ok, Err, slice_get}
 use Rattle.std.specs.Str.{bytes_eq}
 use Rattle.lt_ids.specs.Ids.{Wait}
 use Rattle.lt_ids.specs.declared.timestamp.Timestamp.{Timestamp}
@@ -223,6 +223,12 @@ let_from _ lets = []
 abbrev pub let_gone_on : Option WalkState → ℕ → List Wait
 let_gone_on None word = []
 let_gone_on (Some s) word = let_from s.progress.mode (let_read (Some s) word)
+
+-- Whether the line reads the status word: a scan or an await of a pass that has a request.
+abbrev pub reads_of : Action → Option WalkState → Bool
+reads_of acts.Scan before = is_some before
+reads_of acts.Await before = is_some before
+reads_of _ before = false
 
 -- The ticket with which the request proceeds at a line, if it does.
 abbrev pub lets_of : Action → Option WalkState → ℕ → List Wait

@@ -3,10 +3,12 @@ use Rattle.std.specs.Prelude.{ℕ, ◌≡◌, ◌+◌, ◌<◌, ◌≤◌, List,
 use Rattle.std.specs.List.{AllByRecursion}
 use mathlib.Core.List.{IsPrefix}
 use Rattle.lt_ids.specs.Ids.{Wait}
+use Rattle.lt_ids.specs.declared.ticket.Through.{Through}
 use Rattle.lt_entry.specs.declared.entry.Entry.{Entry}
 use Rattle.lt_words.specs.declared.event.Event.{Event}
-use Rattle.lt_words.specs.History.{part, shard_of, draws_of, DrewIn, LetIn}
+use Rattle.lt_words.specs.History.{part, shard_of, draws_of, DrewIn, LetIn, IsStatus}
 use Rattle.lt_words.specs.Row.{PassState}
+use Rattle.lt_words.specs.Shown.{word_of, AreShown}
 use Rattle.lt_table_core.specs.Machine.{Step}
 use Rattle.lt_table_core.specs.Reported.{steps_at}
 
@@ -29,6 +31,12 @@ StandsIn shards pass h x = StandsAt pass (part_of shards h x) x
 -- The step's index is among those that were seen of its shard.
 abbrev pub IsSeen : ℕ → List Event → Step → Type 0
 IsSeen shards h x = x.answer.at < length (part_of shards h x)
+
+-- The step was seen, and each of its lets was shown.
+pub record LetsAreShown (shards : ℕ) (h : List Event) (shown : List Through) (x : Step) : Type 0 where
+  pub entry : Entry
+  pub stands : slice_get (part_of shards h x) x.answer.at ≡ Some entry
+  pub lets_shown : AreShown shown entry.lets
 
 -- The step comes after everything that was seen of its shard.
 abbrev pub ComesAfter : ℕ → List Event → Step → Type 0
@@ -56,6 +64,7 @@ pub record IsDrawn (pass : ℕ) (old new : List Event) (number : ℕ) : Type 0 w
 -- The pass made exactly these steps, drew these numbers, and was let through with these tickets, in this order.
 -- Each step and each draw is in what the pass has seen afterwards, as its own and after everything that it had seen
 -- before. The pass counts that many more steps in each shard, and each ticket was let through in what it has seen.
+-- Each let of the steps was shown.
 pub record OutcomeTells (old new : PassState) (steps : List Step) (numbers : List ℕ) (lets : List Wait) : Type 0 where
   pub of : new.of ≡ old.of
   pub number : new.number ≡ old.number
@@ -67,3 +76,14 @@ pub record OutcomeTells (old new : PassState) (steps : List Step) (numbers : Lis
   pub drawn : AllByRecursion (IsDrawn old.number old.seen new.seen) numbers
   pub rise : IsRising numbers
   pub let_in : AllByRecursion (LetIn new.seen old.number) lets
+  pub shown : IsPrefix old.shown new.shown
+  pub lets_shown : AllByRecursion (LetsAreShown old.of.shards new.seen new.shown) steps
+
+-- A pass read this status word before it made the steps: the word is at or above each ticket that had been shown to the
+-- pass before, and is 0 or the value of a ticket that was let through in what the pass had seen when it read the word.
+pub record Hears (old new : PassState) (steps : List Step) (word : ℕ) : Type 0 where
+  pub above : word_of old.number old.shown ≤ word
+  pub seen : List Event
+  pub status : IsStatus seen old.number word
+  pub within : IsPrefix seen new.seen
+  pub after : AllByRecursion (ComesAfter old.of.shards seen) steps

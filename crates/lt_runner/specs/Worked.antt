@@ -16,7 +16,8 @@ use Rattle.lt_runner.specs.declared.outcome.Work.{Work}
 use Rattle.lt_runner.specs.Outcomes.{OutcomeTells}
 use Rattle.lt_runner.specs.Sessions.{session_request, session_pass}
 use Rattle.lt_runner.specs.Execution.{Does}
-use Rattle.lt_runner.specs.Machine.{Rules, ExecutedLine, Runs, IsLineDone, IsOutOnlyAt, lets_of, numbers_of_executed, lets_of_executed}
+use Rattle.lt_runner.specs.Gates.{GateAnswers, MayRefuse, MayRefuseNext, MayRun}
+use Rattle.lt_runner.specs.Machine.{Rules, ExecutedLine, Runs, IsLineDone, IsOutOnlyAt, lets_of, reads_of, numbers_of_executed, lets_of_executed}
 
 abbrev pub is_turns : LineAnswer → Bool
 is_turns Turns = true
@@ -56,22 +57,23 @@ pub record EndsInTurns (lines_done : List ExecutedLine) : Type 0 where
   pub none : NoTurns prefix
   pub turns : last.answer ≡ Turns
 
--- Done: no line is left. Otherwise a line used up the turns, or a gate that does not let every line run ended the
--- pass.
-abbrev pub HasEnded : Bool → List ExecutedLine → List Command → Finish → Type 0
-HasEnded always lines_done rest Done = (rest ≡ []) × NoTurns lines_done
-HasEnded always lines_done rest TurnsOut = EndsInTurns lines_done ⊎ ((always ≡ false) × NoTurns lines_done)
+-- Done: no line is left. Otherwise the last line used up the turns, or the gate may refuse the next line.
+abbrev pub HasEnded : GateAnswers → List ExecutedLine → List Command → Finish → Type 0
+HasEnded gate lines_done rest Done = (rest ≡ []) × NoTurns lines_done
+HasEnded gate lines_done rest TurnsOut = EndsInTurns lines_done ⊎ (MayRefuseNext gate rest × NoTurns lines_done)
 
--- A worker executed a prefix of the lines, up to the rest, and these are the executed lines.
-pub record IsRun (rules : Rules) (always : Bool) (old : PassState) (lines : List Command) (lines_done : List ExecutedLine) (w : Work) : Type 0 where
+-- A worker executed a prefix of the lines, up to the rest, and these are the executed lines. The gate may let each of
+-- them run.
+pub record IsRun (rules : Rules) (gate : GateAnswers) (old : PassState) (lines : List Command) (lines_done : List ExecutedLine) (w : Work) : Type 0 where
   pub prefix : List Command
   pub rest : List Command
   pub all : lines ≡ prefix ++ rest
   pub done : AreDone rules old prefix w.session w.answers.items lines_done
-  pub ended : HasEnded always lines_done rest w.finish
+  pub may_run : AllByRecursion (λ d. MayRun gate d.line) lines_done
+  pub ended : HasEnded gate lines_done rest w.finish
 
-abbrev pub IsWorked : Rules → Bool → PassState → List Command → Work → Type 0
-IsWorked rules always old lines w = (lines_done : List ExecutedLine) × IsRun rules always old lines lines_done w
+abbrev pub IsWorked : Rules → GateAnswers → PassState → List Command → Work → Type 0
+IsWorked rules gate old lines w = (lines_done : List ExecutedLine) × IsRun rules gate old lines lines_done w
 
 -- The pass has not executed a line yet.
 pub record IsBegun (p : PassState) (w : Work) : Type 0 where
@@ -84,7 +86,7 @@ pub record IsBegun (p : PassState) (w : Work) : Type 0 where
 -- One more line was executed and answered.
 pub record ExecutesLine (rules : Rules) (line : Command) (old : Session) (answers : List AnswerLine) (new : Session) (more : List AnswerLine) (out : Bool) : Type 0 where
   pub answer : LineAnswer
-  pub does : Does (IsLineDone rules line.action) (lets_of line.action) old answer new
+  pub does : Does (IsLineDone rules line.action) (reads_of line.action) (lets_of line.action) old answer new
   pub numbers_out : IsOutOnlyAt rules.max_requests (draws_of (session_pass new).seen) answer
   pub told : more ≡ answers ++ (record { line = line.line; answer = answer }) ∷ []
   pub out_is : out ≡ is_turns answer
@@ -93,23 +95,24 @@ abbrev pub finish_of : Bool → Finish
 finish_of true = TurnsOut
 finish_of false = Done
 
--- A gate that does not let every line run ended the pass, and nothing else changed.
-pub record IsStoppedBy (always : Bool) (session : Session) (answers : List AnswerLine) (new : Work) : Type 0 where
-  pub refused : always ≡ false
+-- The gate, which may refuse the line, ended the pass before it, and nothing else changed.
+pub record IsStoppedBy (gate : GateAnswers) (session : Session) (answers : List AnswerLine) (line : Command) (new : Work) : Type 0 where
+  pub refused : MayRefuse gate line
   pub session_same : new.session ≡ session
   pub answers_same : new.answers.items ≡ answers
   pub finish_is : new.finish ≡ TurnsOut
 
--- The line was executed, and the pass proceeds unless the line used up the turns.
-pub record LineIsExecuted (rules : Rules) (session : Session) (answers : List AnswerLine) (line : Command) (new : Work) : Type 0 where
+-- The line, which the gate may let run, was executed. The pass proceeds unless the line used up the turns.
+pub record LineIsExecuted (rules : Rules) (gate : GateAnswers) (session : Session) (answers : List AnswerLine) (line : Command) (new : Work) : Type 0 where
+  pub may_run : MayRun gate line
   pub out : Bool
   pub takes : ExecutesLine rules line session answers new.session new.answers.items out
   pub finish_is : new.finish ≡ finish_of out
 
-abbrev pub TakesOn : Rules → Bool → Session → List AnswerLine → Command → Work → Type 0
-TakesOn rules always session answers line new = IsStoppedBy always session answers new ⊎ LineIsExecuted rules session answers line new
+abbrev pub TakesOn : Rules → GateAnswers → Session → List AnswerLine → Command → Work → Type 0
+TakesOn rules gate session answers line new = IsStoppedBy gate session answers line new ⊎ LineIsExecuted rules gate session answers line new
 
 -- A pass that has ended does nothing more.
-abbrev pub WorkGoesOn : Rules → Bool → Finish → Work → Command → Work → Type 0
-WorkGoesOn rules always TurnsOut old line new = new ≡ old
-WorkGoesOn rules always Done old line new = TakesOn rules always old.session old.answers.items line new
+abbrev pub WorkGoesOn : Rules → GateAnswers → Finish → Work → Command → Work → Type 0
+WorkGoesOn rules gate TurnsOut old line new = new ≡ old
+WorkGoesOn rules gate Done old line new = TakesOn rules gate old.session old.answers.items line new

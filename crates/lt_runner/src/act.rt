@@ -3,12 +3,12 @@
 //! `act` executes a line by a call of the table. There is one function for each kind of line; each turns the
 //! result of its call into the answer of the line. Read next: `specs/Machine.antt`, which defines each answer and
 //! its steps, and `specs/Execution.antt`.
-ghost use Rattle.std.specs.Prelude.{◌≡◌, ◌<◌, ℕ, IfOk, length, Ok};
+ghost use Rattle.std.specs.Prelude.{◌≡◌, ◌<◌, ℕ, IfOk, is_some, length, Ok};
 ghost use Rattle.lt_rules.specs.declared.call.Call.TheVariants.{Acquire, Update, Finish};
 ghost use Rattle.lt_table_core.specs.declared.scan_results.Scan.TheVariants.{Waiting, TooLong};
 ghost use Rattle.lt_runner.specs.Sessions.{session_pass};
 ghost use Rattle.lt_runner.specs.Machine.{IsOpenAnswered, IsScanned, IsScanAnswer, IsAwaited, IsLooked, IsCallAnswered, IsLeaveAnswered, rules_of, let_read, let_gone_on, poll_answer};
-ghost use Rattle.lt_runner.specs.Execution.{Does, IsCallOutcome, IsLineOutcome, IsOutOnlyAfter, LineDoes, Polls, no_lets};
+ghost use Rattle.lt_runner.specs.Execution.{Does, IsCallOutcome, IsLineOutcome, IsOutOnlyAfter, LineDoes, Polls, no_lets, no_word};
 
 use crate::answer::{LineAnswer, Refusal};
 use crate::find::index_of;
@@ -45,7 +45,7 @@ fn enter<N: Name, T: KeyTable, R: Wait>(
     longest: u32,
 ) -> Result<LineOutcome, OutOfMemory>
     requires { pass.of ≡ N.of }
-    ensures does { IfOk result (LineDoes (IsOpenAnswered txn ts accesses.now longest) no_lets (Session.Free pass)) }
+    ensures does { IfOk result (LineDoes (IsOpenAnswered txn ts accesses.now longest) no_word no_lets (Session.Free pass)) }
     ensures numbers_out { IfOk result (IsOutOnlyAfter host.now.table.now.max_requests) }
 {
     match host
@@ -87,7 +87,7 @@ fn open<N: Name, T: KeyTable, R: Wait>(
     longest: u32,
 ) -> Result<LineOutcome, OutOfMemory>
     requires { (session_pass session).of ≡ N.of }
-    ensures does { IfOk result (LineDoes (IsOpenAnswered txn ts accesses.now longest) no_lets session) }
+    ensures does { IfOk result (LineDoes (IsOpenAnswered txn ts accesses.now longest) no_word no_lets session) }
     ensures numbers_out { IfOk result (IsOutOnlyAfter host.now.table.now.max_requests) }
 {
     match session {
@@ -132,7 +132,7 @@ fn scan_of<N: Name, T: KeyTable, R: Wait>(
     mut guard: Guard,
 ) -> Result<LineOutcome, OutOfMemory>
     requires { guard.pass.of ≡ N.of }
-    ensures { IfOk result (LineDoes (IsScanned table.now.max_waits) let_gone_on (Session.Open guard)) }
+    ensures { IfOk result (LineDoes (IsScanned table.now.max_waits) is_some let_gone_on (Session.Open guard)) }
 {
     let ended = table.scan(rt, &mut guard);
     let answered = scan_answer(guard.keys(), ended);
@@ -154,7 +154,7 @@ fn scan<N: Name, T: KeyTable, R: Wait>(
     session: Session,
 ) -> Result<LineOutcome, OutOfMemory>
     requires { (session_pass session).of ≡ N.of }
-    ensures { IfOk result (LineDoes (IsScanned table.now.max_waits) let_gone_on session) }
+    ensures { IfOk result (LineDoes (IsScanned table.now.max_waits) is_some let_gone_on session) }
 {
     match session {
         Session::Free(pass) => Ok(no_request(pass)),
@@ -196,7 +196,7 @@ fn await_of<N: Name, T: KeyTable>(
     turns: Option<u64>,
 ) -> LineOutcome
     requires { guard.pass.of ≡ N.of }
-    ensures { Does (IsAwaited turns) let_read (Session.Open guard) result.answer result.session }
+    ensures { Does (IsAwaited turns) is_some let_read (Session.Open guard) result.answer result.session }
 {
     let found = poll_on(table, &mut guard, turns.unwrap_or(1));
     LineOutcome {
@@ -211,7 +211,7 @@ fn await_let<N: Name, T: KeyTable>(
     turns: Option<u64>,
 ) -> LineOutcome
     requires { (session_pass session).of ≡ N.of }
-    ensures { Does (IsAwaited turns) let_read session result.answer result.session }
+    ensures { Does (IsAwaited turns) is_some let_read session result.answer result.session }
 {
     match session {
         Session::Free(pass) => no_request(pass),
@@ -251,7 +251,7 @@ fn acquire<N: Name, T: KeyTable, R: Wait>(
     ts: Timestamp,
 ) -> Result<LineOutcome, OutOfMemory>
     requires { (session_pass session).of ≡ N.of }
-    ensures { IfOk result (LineDoes (IsCallAnswered key.now (Acquire txn ts)) no_lets session) }
+    ensures { IfOk result (LineDoes (IsCallAnswered key.now (Acquire txn ts)) no_word no_lets session) }
 {
     match session {
         Session::Free(mut pass) => {
@@ -274,7 +274,7 @@ fn update<N: Name, T: KeyTable, R: Wait>(
     ts: Timestamp,
 ) -> Result<LineOutcome, OutOfMemory>
     requires { (session_pass session).of ≡ N.of }
-    ensures { IfOk result (LineDoes (IsCallAnswered key.now (Update txn ts)) no_lets session) }
+    ensures { IfOk result (LineDoes (IsCallAnswered key.now (Update txn ts)) no_word no_lets session) }
 {
     match session {
         Session::Free(mut pass) => {
@@ -296,7 +296,7 @@ fn finish<N: Name, T: KeyTable, R: Wait>(
     txn: TxnId,
 ) -> Result<LineOutcome, OutOfMemory>
     requires { (session_pass session).of ≡ N.of }
-    ensures { IfOk result (LineDoes (IsCallAnswered key.now (Finish txn)) no_lets session) }
+    ensures { IfOk result (LineDoes (IsCallAnswered key.now (Finish txn)) no_word no_lets session) }
 {
     match session {
         Session::Free(mut pass) => {
@@ -317,7 +317,7 @@ fn look_of<N: Name, T: KeyTable, R: Wait>(
     key: &Key,
 ) -> Result<LineOutcome, OutOfMemory>
     requires { guard.pass.of ≡ N.of }
-    ensures { IfOk result (LineDoes (IsLooked key.now) no_lets (Session.Open guard)) }
+    ensures { IfOk result (LineDoes (IsLooked key.now) no_word no_lets (Session.Open guard)) }
 {
     let Some(index) = index_of(guard.keys(), key) else {
         return Ok(LineOutcome {
@@ -336,7 +336,7 @@ fn look<N: Name, T: KeyTable, R: Wait>(
     key: &Key,
 ) -> Result<LineOutcome, OutOfMemory>
     requires { (session_pass session).of ≡ N.of }
-    ensures { IfOk result (LineDoes (IsLooked key.now) no_lets session) }
+    ensures { IfOk result (LineDoes (IsLooked key.now) no_word no_lets session) }
 {
     match session {
         Session::Free(pass) => Ok(no_request(pass)),
@@ -350,7 +350,7 @@ fn leave_of<N: Name, T: KeyTable, R: Wait>(
     guard: Guard,
 ) -> Result<LineOutcome, OutOfMemory>
     requires { guard.pass.of ≡ N.of }
-    ensures { IfOk result (LineDoes IsLeaveAnswered no_lets (Session.Open guard)) }
+    ensures { IfOk result (LineDoes IsLeaveAnswered no_word no_lets (Session.Open guard)) }
 {
     match table.leave(rt, guard) {
         Ok(left) => {
@@ -382,7 +382,7 @@ fn leave<N: Name, T: KeyTable, R: Wait>(
     session: Session,
 ) -> Result<LineOutcome, OutOfMemory>
     requires { (session_pass session).of ≡ N.of }
-    ensures { IfOk result (LineDoes IsLeaveAnswered no_lets session) }
+    ensures { IfOk result (LineDoes IsLeaveAnswered no_word no_lets session) }
 {
     match session {
         Session::Free(pass) => Ok(no_request(pass)),

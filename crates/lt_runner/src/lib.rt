@@ -7,13 +7,15 @@
 //!
 //! [`run`] opens a table, runs the lines and closes the table. It promises (`specs/Ran.antt`):
 //!
-//! - The machine of each pass answers a prefix of the pass's lines, and all of them if the run is done.
+//! - The machine of each pass answers a prefix of the pass's lines, and all of them if the run is done. The gate may
+//!   let each of these lines run. If lines are left, a line used up the turns or the gate may refuse the next line.
 //! - Everything that the answers tell is in the final histories (`specs/Standing.antt`): each step at its index,
 //!   with its pass, key, call and reply. No two steps have the same index in a shard, and the steps of one pass in
 //!   one shard are in the order of its lines.
 //! - No number is drawn twice, and a request that proceeds after a wait was let through.
 //! - All of this holds on threads and on one thread. On one thread, the steps of a shard are also in the order of
-//!   the script's lines, across passes (`specs/Turns.antt`).
+//!   the script's lines, across passes, and a line that reads the status word hears every let of the lines before it
+//!   (`specs/Turns.antt`).
 //!
 //! Read next: `specs/Machine.antt`, then `src/act.rt`, which has one function for each kind of line, and
 //! `src/worker.rt`. `lt_tool` writes the text of the answers.

@@ -43,14 +43,14 @@ fn start_all<N: Name + Send + Sync, T: KeyTable + Send, G: Gate + Sync, R: Threa
     passes: Vec<StartingPass>,
 ) -> Result<Vec<Result<Work, OutOfMemory>>, OutOfMemory>
     requires { All (λ p. p.of ≡ N.of) passes.items }
-    ensures { IfOk result (PlanIsTried G.always host.now.table.now plan.now passes.items) }
+    ensures { IfOk result (PlanIsTried G.may_answer host.now.table.now plan.now passes.items) }
 {
     let done = thread::map_vec(
         host.rt,
         passes,
         &|seat: StartingPass| -> Result<Work, OutOfMemory>
             requires { seat.of ≡ N.of }
-            ensures { IfOk result (PassIsWorked G.always host.entry.now.table.now plan.entry.now seat) }
+            ensures { IfOk result (PassIsWorked G.may_answer host.entry.now.table.now plan.entry.now seat) }
         { work(host, plan, seat.into_pass()) },
     );
     match done {
@@ -85,7 +85,7 @@ pub(crate) fn run_on_threads<
     passes: Vec<StartingPass>,
 ) -> Result<Vec<Work>, OutOfMemory>
     requires { All (λ p. p.of ≡ N.of) passes.items }
-    ensures { IfOk result (PlanIsWorked G.always host.now.table.now plan.now passes.items) }
+    ensures { IfOk result (PlanIsWorked G.may_answer host.now.table.now plan.now passes.items) }
 {
     let done = start_all(host, plan, passes)?;
     collect(host.alloc, done)
@@ -103,7 +103,7 @@ fn take_turn<N: Name, T: KeyTable, G: Gate, R: Wait>(
     requires high { command.now.pass ≤ length slots.old }
     requires ready { IsReady N.of (slot_at slots.old (command.now.pass - 1)) }
     requires seen { seen.old.of ≡ N.of }
-    ensures { IfOk result (λ _. PlanTakesTurn G.always host.now.table.now plan.now command.now
+    ensures { IfOk result (λ _. PlanTakesTurn G.may_answer host.now.table.now plan.now command.now
         seen.old slots.old slots.new seen.new) }
 {
     let number = command.pass.number();
@@ -112,7 +112,7 @@ fn take_turn<N: Name, T: KeyTable, G: Gate, R: Wait>(
         unreachable!()
     };
     before.session.learn(seen);
-    let after = next_line(host, plan, before, number, command)?;
+    let after = next_line(host, plan, before, command)?;
     *seen = after.session.seen();
     slots[index] = Some(after);
     Ok(())
@@ -163,7 +163,7 @@ pub(crate) fn run_in_turn<N: Name, T: KeyTable, G: Gate, R: Wait>(
     requires of { AllByRecursion (λ p. p.of ≡ N.of) passes.items }
     requires among { AllByRecursion (IsAmong (length passes.items)) plan.now.commands.now }
     requires seen { seen.of ≡ N.of }
-    ensures { IfOk result (PlanHasRunInOrder G.always host.now.table.now plan.now N.of.shards passes.items) }
+    ensures { IfOk result (PlanHasRunInOrder G.may_answer host.now.table.now plan.now N.of.shards passes.items) }
 {
     let commands = plan.commands;
     let mut slots = begin_all(host.alloc, passes, commands)?;

@@ -18,6 +18,7 @@ impl Session {
     pub(crate) fn seen(&self) -> Front
         ensures of { result.of ≡ (session_pass self.now).of }
         ensures seen { result.seen ≡ (session_pass self.now).seen }
+        ensures shown { result.shown ≡ (session_pass self.now).shown }
     {
         match self {
             Session::Free(pass) => pass.seen(),

@@ -130,7 +130,7 @@ fn run_lines<N: Name + Send + Sync, T: KeyTable + Send, G: Gate + Sync, R: Threa
     requires numbered { AreNumbered 0 passes.items }
     requires of { AllByRecursion (λ p. p.of ≡ N.of) passes.items }
     requires among { AllByRecursion (IsAmong (length passes.items)) plan.now.commands.now }
-    ensures { IfOk result (PlanHasRun G.always host.now.table.now plan.now N.of.shards passes.items) }
+    ensures { IfOk result (PlanHasRun G.may_answer host.now.table.now plan.now N.of.shards passes.items) }
 {
     let seen = passes[0].seen();
     let seats = seats_of(host.alloc, passes)?;
@@ -155,7 +155,7 @@ fn run_named<
     requires some { 0 < N.of.shards }
     requires some_passes { 0 < N.of.passes }
     requires among { AllByRecursion (IsAmong ready.config.passes) plan.now.commands.now }
-    ensures { IfOk result (PlanIsRan G.always (plan_rules ready.config plan.now) ready.config.shards plan.now) }
+    ensures { IfOk result (PlanIsRan G.may_answer (plan_rules ready.config plan.now) ready.config.shards plan.now) }
 {
     let Ok((table, passes)) = open_with::<N, T>(alloc, ready, tables) else {
         return Err(RunFault::Memory);
@@ -230,7 +230,7 @@ pub fn run<T: KeyTable + Drop + Send, G: Gate + Sync, R: Threads + Wait + Sync>(
     requires empty { All (λ t. T.records t ≡ finmap.empty) tables.items }
     requires some_steps { 1 ≤ max_steps }
     requires few_steps { max_steps ≤ 2 ^ 32 }
-    ensures { IfOk result (PlanIsRan G.always (run_rules max_steps plan.now.turns) (length tables.items) plan.now) }
+    ensures { IfOk result (PlanIsRan G.may_answer (run_rules max_steps plan.now.turns) (length tables.items) plan.now) }
 {
     let config = Config {
         shards: tables.len(),

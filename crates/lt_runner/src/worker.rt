@@ -63,12 +63,12 @@ fn live_line<N: Name, T: KeyTable, G: Gate, R: Wait>(
     plan: &Plan<'_, G>,
     session: Session,
     mut answers: Vec<AnswerLine>,
-    number: u32,
     command: &Command,
 ) -> Result<Work, OutOfMemory>
     requires { (session_pass session).of ≡ N.of }
-    ensures { IfOk result (PlanTakesOn G.always host.now.table.now plan.now session answers.items command.now) }
+    ensures { IfOk result (PlanTakesOn G.may_answer host.now.table.now plan.now session answers.items command.now) }
 {
+    let number = command.pass.number();
     if !plan.gate.before(number, command.line) {
         return Ok(Work {
             session,
@@ -85,22 +85,21 @@ fn live_line<N: Name, T: KeyTable, G: Gate, R: Wait>(
     })
 }
 
-/// Executes the next line of the pass of this number, unless the pass has ended.
+/// Executes the next line of a pass, unless the pass has ended.
 pub(crate) fn next_line<N: Name, T: KeyTable, G: Gate, R: Wait>(
     host: &Host<'_, N, T, R>,
     plan: &Plan<'_, G>,
     work: Work,
-    number: u32,
     command: &Command,
 ) -> Result<Work, OutOfMemory>
     requires { (session_pass work.session).of ≡ N.of }
-    ensures { IfOk result (PlanGoesOn G.always host.now.table.now plan.now work command.now) }
+    ensures { IfOk result (PlanGoesOn G.may_answer host.now.table.now plan.now work command.now) }
 {
     match work.finish {
         Finish::TurnsOut => Ok(work),
         Finish::Done => {
             let (session, answers, _) = work.into_parts();
-            live_line(host, plan, session, answers, number, command)
+            live_line(host, plan, session, answers, command)
         }
     }
 }
@@ -147,7 +146,7 @@ pub fn work<N: Name, T: KeyTable, G: Gate, R: Wait>(
     pass: Pass,
 ) -> Result<Work, OutOfMemory>
     requires { pass.of ≡ N.of }
-    ensures { IfOk result (PassIsWorked G.always host.now.table.now plan.now pass) }
+    ensures { IfOk result (PassIsWorked G.may_answer host.now.table.now plan.now pass) }
 {
     let commands = plan.commands;
     let number = pass.number();
@@ -156,7 +155,7 @@ pub fn work<N: Name, T: KeyTable, G: Gate, R: Wait>(
     let mut work = begun;
     for command in commands {
         if command.pass.number() == number {
-            work = next_line(host, plan, work, number, command)?;
+            work = next_line(host, plan, work, command)?;
         }
     }
     Ok(work)

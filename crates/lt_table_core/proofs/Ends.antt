@@ -1,5 +1,5 @@
 -- A table that is being closed.
-use Rattle.std.proofs.Common.{◌≡◌, ℕ, zero, suc, true, false, nat_eq, Option, Some, None, IfNone, ◌+◌, ◌<◌, ◌≤◌, List, [], ◌∷◌, ◌++◌, length, map, take, drop, get_or, ap, refl, sym, subst, ◌∙◌, arith, add-one, length-append}
+use Rattle.std.proofs.Common.{◌≡◌, ◌≢◌, ℕ, zero, suc, true, false, nat_eq, Option, Some, None, IfNone, ◌+◌, ◌<◌, ◌≤◌, List, [], ◌∷◌, ◌++◌, length, map, take, drop, get_or, ap, refl, sym, subst, ◌∙◌, arith, add-one, length-append}
 use Rattle.std.proofs.Math.Seq.{get_or-append_seam}
 use Rattle.std.proofs.lemmas.Bool.Decides.{nat_tests}
 use Rattle.std.proofs.lemmas.List.{get_or-map, length-map}
@@ -27,46 +27,68 @@ use Rattle.lt_table_core.proofs.InPlace.{prefix_same}
 use Rattle.lt_table_core.specs.Configs.{AreNewShards}
 use Rattle.lt_table_core.specs.declared.config.Config.{Config}
 use Rattle.lt_table_core.specs.declared.closing.Wanted.{Wanted}
+use Rattle.lt_table_core.specs.declared.closing.PassCount.{PassCount}
+use Rattle.lt_table_core.specs.declared.closing.PassCount.TheVariants.{Made}
+use Rattle.lt_words.specs.declared.keeping.Keeping.{Keeping}
+use Rattle.lt_words.specs.declared.keeping.Keeping.TheVariants.{Streamed}
 use Rattle.lt_table_core.specs.declared.closing.CloseError.{CloseError}
 use Rattle.lt_table_core.specs.declared.closing.CloseError.TheVariants.{PassesOut, Memory, Counts}
-use Rattle.lt_table_core.specs.Closed.{counts_at, IsCounted, IsMiscount, IsUnclosed, IsMet, IsEnded, AreEnded, IsFinal, IsClosed, IsRest, IsClosedRest, AreWhole}
+use Rattle.lt_table_core.specs.Closed.{tally, tallied_at, counts_at, IsCounted, IsMiscount, IsUnclosed, IsMet, IsEnded, AreEnded, IsFinal, IsClosed, IsRest, IsClosedRest, AreWhole}
 
--- ---- counts
+-- ---- how many steps passes count at a shard
+
+tallied_append : (t : PassCount) (s : ℕ) (ps qs : List PassState) → tallied_at t s (ps ++ qs) ≡ tallied_at t s ps + tallied_at t s qs
+tallied_append t s [] qs = omega arith
+tallied_append t s (p ∷ ps) qs = omega (arith, tallied_append t s ps qs)
 
 pub counts_append : (s : ℕ) (ps qs : List PassState) → counts_at s (ps ++ qs) ≡ counts_at s ps + counts_at s qs
-counts_append s [] qs = omega arith
-counts_append s (p ∷ ps) qs = omega (arith, counts_append s ps qs)
+counts_append s ps qs = tallied_append Made s ps qs
 
 -- one more of the items that each have a pass
-pub counts_taken : {A : Type 0} (f : A → PassState) (s : ℕ) (xs : List A) (i : ℕ) (x : A) → i < length xs → x ≡ get_or xs i x → counts_at s (map f (take (suc i) xs)) ≡ counts_at s (map f (take i xs)) + slice_index (f x).counts s
-counts_taken f s [] i x lt is = absurd (omega arith)
-counts_taken f s (y ∷ ys) zero x lt is = let same : slice_index (f x).counts s ≡ slice_index (f y).counts s = ap (λ z. slice_index (f z).counts s) is in omega (arith, same)
-counts_taken f s (y ∷ ys) (suc i) x lt is = omega (arith, counts_taken f s ys i x (omega arith) is)
+tallied_more : {A : Type 0} (f : A → PassState) (t : PassCount) (s : ℕ) (xs : List A) (i : ℕ) (x : A) → i < length xs → x ≡ get_or xs i x → tallied_at t s (map f (take (suc i) xs)) ≡ tallied_at t s (map f (take i xs)) + slice_index (tally t (f x)) s
+tallied_more f t s [] i x lt is = absurd (omega arith)
+tallied_more f t s (y ∷ ys) zero x lt is = let same : slice_index (tally t (f x)) s ≡ slice_index (tally t (f y)) s = ap (λ z. slice_index (tally t (f z)) s) is in omega (arith, same)
+tallied_more f t s (y ∷ ys) (suc i) x lt is = omega (arith, tallied_more f t s ys i x (omega arith) is)
 
-pub less_one : {A : Type 0} (f : A → PassState) (s : ℕ) (xs : List A) (i : ℕ) (x : A) (left left' steps : ℕ) → left + counts_at s (map f (take i xs)) ≡ steps → i < length xs → x ≡ get_or xs i x → left' + slice_index (f x).counts s ≡ left → left' + counts_at s (map f (take (i + 1) xs)) ≡ steps
-less_one f s xs i x left left' steps so_far lt is less = rw add-one (omega (arith, so_far, less, counts_taken f s xs i x lt is))
+pub less_one : {A : Type 0} (f : A → PassState) (t : PassCount) (s : ℕ) (xs : List A) (i : ℕ) (x : A) (left left' steps : ℕ) → left + tallied_at t s (map f (take i xs)) ≡ steps → i < length xs → x ≡ get_or xs i x → left' + slice_index (tally t (f x)) s ≡ left → left' + tallied_at t s (map f (take (i + 1) xs)) ≡ steps
+less_one f t s xs i x left left' steps so_far lt is less = rw add-one (omega (arith, so_far, less, tallied_more f t s xs i x lt is))
 
 -- a fact that holds anyway holds if there is none
 pub on_none : {A : Type 0} (o : Option A) (P : Type 0) → P → IfNone o P
 on_none None P p = p
 on_none (Some x) P p = tt
 
-counts_front : {A : Type 0} (f : A → PassState) (s : ℕ) (xs : List A) (i : ℕ) → counts_at s (map f (take i xs)) ≤ counts_at s (map f xs)
-counts_front f s [] zero = omega arith
-counts_front f s [] (suc i) = omega arith
-counts_front f s (y ∷ ys) zero = omega arith
-counts_front f s (y ∷ ys) (suc i) = omega (arith, counts_front f s ys i)
+tallied_front : {A : Type 0} (f : A → PassState) (t : PassCount) (s : ℕ) (xs : List A) (i : ℕ) → tallied_at t s (map f (take i xs)) ≤ tallied_at t s (map f xs)
+tallied_front f t s [] zero = omega arith
+tallied_front f t s [] (suc i) = omega arith
+tallied_front f t s (y ∷ ys) zero = omega arith
+tallied_front f t s (y ∷ ys) (suc i) = omega (arith, tallied_front f t s ys i)
 
--- fewer steps are left than one item takes, so all items together take more than there were
-pub more_taken : {A : Type 0} (f : A → PassState) (s : ℕ) (xs : List A) (i : ℕ) (x : A) (left steps : ℕ) → left + counts_at s (map f (take i xs)) ≡ steps → i < length xs → x ≡ get_or xs i x → left < slice_index (f x).counts s → steps < counts_at s (map f xs)
-more_taken f s xs i x left steps so_far lt is more = omega (arith, so_far, more, counts_taken f s xs i x lt is, counts_front f s xs (suc i))
+-- fewer steps are left than one item counts, so all items together count more than there were
+pub more_tallied : {A : Type 0} (f : A → PassState) (t : PassCount) (s : ℕ) (xs : List A) (i : ℕ) (x : A) (left steps : ℕ) → left + tallied_at t s (map f (take i xs)) ≡ steps → i < length xs → x ≡ get_or xs i x → left < slice_index (tally t (f x)) s → steps < tallied_at t s (map f xs)
+more_tallied f t s xs i x left steps so_far lt is more = omega (arith, so_far, more, tallied_more f t s xs i x lt is, tallied_front f t s xs (suc i))
 
-pub more_taken_alone : (s : ℕ) (ps : List PassState) (i : ℕ) (p : PassState) (left steps : ℕ) → left + counts_at s (map (λ q. q) (take i ps)) ≡ steps → i < length ps → p ≡ get_or ps i p → left < slice_index p.counts s → steps < counts_at s ps
-more_taken_alone s ps i p left steps so_far lt is more = omega (arith, same ps, more_taken (λ q. q) s ps i p left steps so_far lt is more)
+pub more_tallied_alone : (t : PassCount) (s : ℕ) (ps : List PassState) (i : ℕ) (p : PassState) (left steps : ℕ) → left + tallied_at t s (map (λ q. q) (take i ps)) ≡ steps → i < length ps → p ≡ get_or ps i p → left < slice_index (tally t p) s → steps < tallied_at t s ps
+more_tallied_alone t s ps i p left steps so_far lt is more = omega (arith, same ps, more_tallied (λ q. q) t s ps i p left steps so_far lt is more)
   where
-    same : (qs : List PassState) → counts_at s (map (λ q. q) qs) ≡ counts_at s qs
+    same : (qs : List PassState) → tallied_at t s (map (λ q. q) qs) ≡ tallied_at t s qs
     same [] = refl
-    same (q ∷ qs) = ap (λ n. slice_index q.counts s + n) (same qs)
+    same (q ∷ qs) = ap (λ n. slice_index (tally t q) s + n) (same qs)
+
+-- what is left when the steps of the passes, and then those of the guards' passes, are subtracted
+pub all_tallied : (t : PassCount) (s : ℕ) (ps qs : List PassState) (left rest steps : ℕ) → left + tallied_at t s ps ≡ steps → rest + tallied_at t s qs ≡ left → rest ≡ 0 → steps ≡ tallied_at t s (ps ++ qs)
+all_tallied t s ps qs left rest steps first second none = omega (arith, first, second, none, tallied_append t s ps qs)
+
+pub more_than_steps : (t : PassCount) (s : ℕ) (ps qs : List PassState) (steps : ℕ) → steps < tallied_at t s ps → steps ≢ tallied_at t s (ps ++ qs)
+more_than_steps t s ps qs steps less is = absurd (omega (arith, less, is, tallied_append t s ps qs))
+
+pub more_than_left : (t : PassCount) (s : ℕ) (ps qs : List PassState) (left steps : ℕ) → left + tallied_at t s ps ≡ steps → left < tallied_at t s qs → steps ≢ tallied_at t s (ps ++ qs)
+more_than_left t s ps qs left steps first less is = absurd (omega (arith, first, less, is, tallied_append t s ps qs))
+
+pub some_left : (t : PassCount) (s : ℕ) (ps qs : List PassState) (left rest steps : ℕ) → left + tallied_at t s ps ≡ steps → rest + tallied_at t s qs ≡ left → nat_eq rest 0 ≡ false → steps ≢ tallied_at t s (ps ++ qs)
+some_left t s ps qs left rest steps first second some is =
+    let more : 0 < rest = grind (arith, nat_tests) in
+    absurd (omega (arith, first, second, more, is, tallied_append t s ps qs))
 
 -- ---- what was seen
 
@@ -145,8 +167,8 @@ each_shown_on : (ps : List PassState) (h h' : List Through) → IsPrefix h h' �
 each_shown_on [] h h' more all = tt
 each_shown_on (p ∷ ps) h h' more all = (prefix_trans p.shown h h' all.0 more, each_shown_on ps h h' more all.1)
 
-rest_of : (of : Opening) (wanted : Wanted) (ps : List PassState) (one two three : PassState) (s : ℕ) (v : View) (t : Rest) → AllByRecursion (λ p. IsPrefix p.seen one.seen) ps → IsEnded of one two s v t → IsPrefix two.seen three.seen → IsPrefix two.shown three.shown → IsCounted wanted ps s v → IsRest of ps three.seen three.shown s t.from t.entries.items
-rest_of of wanted ps one two three s v t seen m second later counted = record {
+rest_of : (of : Opening) (wanted : Wanted) (ps : List PassState) (one two three : PassState) (s : ℕ) (v : View) (t : Rest) → AllByRecursion (λ p. IsPrefix p.seen one.seen) ps → IsEnded of one two s v t → IsPrefix two.seen three.seen → IsPrefix two.shown three.shown → IsCounted wanted ps s v → wanted.keeping ≡ of.keeping → IsRest of ps three.seen three.shown s t.from t.entries.items
+rest_of of wanted ps one two three s v t seen m second later counted way = record {
   all = v.stored;
   final = record {
     legal = m.met.legal;
@@ -161,12 +183,13 @@ rest_of of wanted ps one two three s v t seen m second later counted = record {
   rest = m.entries ∙ (m.held ∙ ap (λ n. drop n v.stored) (sym m.from));
   is_whole = λ e. m.from ∙ m.whole e;
   unrecorded = λ e. m.entries ∙ m.unrecorded e;
+  streamed = λ e. m.from ∙ counted.streamed (way ∙ e);
 }
 
 pub ends : (of : Opening) (wanted : Wanted) (ps : List PassState) (vs : List View) (ts : List Rest) (one two three : PassState) (draws : ℕ) → AllByRecursion (λ p. IsPrefix p.seen one.seen) ps → AllByRecursion (λ p. IsPrefix p.shown one.shown) ps → IsPrefix one.shown two.shown → IsPrefix two.shown three.shown → AreLet three.seen three.shown
     → AreEnded of one two vs ts → IsPrefix one.seen two.seen → IsPrefix two.seen three.seen
-    → IsLegalHistory of.shards three.seen → draws ≡ draws_of three.seen → length vs ≡ of.shards → ((s : ℕ) (v : View) → s < of.shards → IsCounted wanted ps s (get_or vs s v)) → (v : View) → IsClosedRest of ps ts draws
-ends of wanted ps vs ts one two three draws seen shown more later through met first second legal drawn many counted v = record {
+    → IsLegalHistory of.shards three.seen → draws ≡ draws_of three.seen → length vs ≡ of.shards → ((s : ℕ) (v : View) → s < of.shards → IsCounted wanted ps s (get_or vs s v)) → wanted.keeping ≡ of.keeping → (v : View) → IsClosedRest of ps ts draws
+ends of wanted ps vs ts one two three draws seen shown more later through met first second legal drawn many counted way v = record {
   whole = three.seen;
   legal = legal;
   seen = each_seen ps (λ h p. prefix_trans h one.seen three.seen p (prefix_trans one.seen two.seen three.seen first second)) seen;
@@ -175,7 +198,7 @@ ends of wanted ps vs ts one two three draws seen shown more later through met fi
   shown = each_shown_on ps one.shown three.shown (prefix_trans one.shown two.shown three.shown more later) shown;
   draws_are = drawn;
   many = met.many ∙ many;
-  each = λ s d lt. rest_of of wanted ps one two three s (get_or vs s v) (get_or ts s d) seen (met.each s v d (omega (arith, lt, many))) second later (counted s v lt);
+  each = λ s d lt. rest_of of wanted ps one two three s (get_or vs s v) (get_or ts s d) seen (met.each s v d (omega (arith, lt, many))) second later (counted s v lt) way;
 }
 
 -- nothing is gone from shards that have to hold all of their steps
@@ -212,22 +235,6 @@ whole_closed of ps ts hs draws draws' m none same drawn = record {
         let at : get_or hs s d ≡ (get_or ts s t).entries = ap (λ l. get_or l s d) same ∙ get_or-map (λ t. t.entries) ts s t d (omega (arith, lt, m.many)) in
         all_left of ps m.whole m.whole_shown s (get_or ts s t).from (get_or ts s t).entries.items (get_or hs s d).items (m.each s t lt) (none s t lt) (sym (ap (λ x. x.items) at))
 
--- a shard with its index, and with exactly the steps of the passes and of the guards' passes
-pub counted_here : (wanted : Wanted) (ps qs : List PassState) (s left rest steps : ℕ) (v : View) → v.index ≡ s → steps ≡ length v.stored → left + counts_at s ps ≡ steps → rest + counts_at s qs ≡ left → rest ≡ 0 → v.max_steps ≡ wanted.max_steps → (wanted.whole ≡ true → v.before ≡ 0) → IsCounted wanted (ps ++ qs) s v
-counted_here wanted ps qs s left rest steps v index all first second none limit whole = record { index = index; counted = omega (arith, all, first, second, none, counts_append s ps qs); limit = limit; whole = whole }
-
--- a shard whose steps are fewer or more than those of the passes and of the guards' passes is not counted
-pub few_steps : (wanted : Wanted) (ps qs : List PassState) (s steps : ℕ) (v : View) → steps ≡ length v.stored → steps < counts_at s ps → IsCounted wanted (ps ++ qs) s v → ⊥
-few_steps wanted ps qs s steps v all less m = absurd (omega (arith, all, less, m.counted, counts_append s ps qs))
-
-pub few_left : (wanted : Wanted) (ps qs : List PassState) (s left steps : ℕ) (v : View) → steps ≡ length v.stored → left + counts_at s ps ≡ steps → left < counts_at s qs → IsCounted wanted (ps ++ qs) s v → ⊥
-few_left wanted ps qs s left steps v all first less m = absurd (omega (arith, all, first, less, m.counted, counts_append s ps qs))
-
-pub some_left : (wanted : Wanted) (ps qs : List PassState) (s left rest steps : ℕ) (v : View) → steps ≡ length v.stored → left + counts_at s ps ≡ steps → rest + counts_at s qs ≡ left → nat_eq rest 0 ≡ false → IsCounted wanted (ps ++ qs) s v → ⊥
-some_left wanted ps qs s left rest steps v all first second some m =
-    let more : 0 < rest = grind (arith, nat_tests) in
-    absurd (omega (arith, all, first, second, more, m.counted, counts_append s ps qs))
-
 -- the error of a table whose counts are wrong at one of its shards
 pub is_unclosed : (wanted : Wanted) (ps : List PassState) (vs : List View) (e : CloseError) (handed : ℕ) (c : Config) → IsMiscount wanted ps vs e → c.passes ≤ handed → length vs ≡ c.shards → IsUnclosed e handed c
 is_unclosed wanted ps vs (Counts index) handed c m enough same = (enough, subst (λ n. index < n) same m.0)
@@ -246,7 +253,7 @@ all_mapped P f (x ∷ xs) h zero d lt = h 0 x (omega arith)
 all_mapped P f (x ∷ xs) h (suc k) d lt = all_mapped P f xs (λ j e inside. h (suc j) e (omega (arith, inside))) k d (omega (arith, lt))
 
 pub sees_on : (old mid new : PassState) → SeesMore old mid → SeesMore mid new → SeesMore old new
-sees_on old mid new a b = record { of = b.of ∙ a.of; number = b.number ∙ a.number; counts = b.counts ∙ a.counts; seen = prefix_trans old.seen mid.seen new.seen a.seen b.seen; shown = prefix_trans old.shown mid.shown new.shown a.shown b.shown }
+sees_on old mid new a b = record { of = b.of ∙ a.of; number = b.number ∙ a.number; counts = b.counts ∙ a.counts; taken = b.taken ∙ a.taken; seen = prefix_trans old.seen mid.seen new.seen a.seen b.seen; shown = prefix_trans old.shown mid.shown new.shown a.shown b.shown; takes = prefix_trans old.takes mid.takes new.takes a.takes b.takes }
 
 -- a fact of each item holds of the last item
 pub of_last : {A : Type 0} (P : A → Type 0) (xs ys : List A) (y : A) → xs ≡ ys ++ y ∷ [] → ((k : ℕ) (d : A) → k < length xs → P (get_or xs k d)) → P y

@@ -11,15 +11,15 @@ use mathlib.Core.List.{IsPrefix}
 use Rattle.lt_rules.proofs.Cases.{all_append, distinct_append}
 use Rattle.lt_entry.specs.declared.entry.Entry.{Entry}
 use Rattle.lt_words.specs.History.{part, shard_of, OneHolderAtEachKey, ReadsPassAtEachKey}
-use Rattle.lt_words.specs.Row.{Opening, PassState, SeesMore, fresh}
+use Rattle.lt_words.specs.Row.{Opening, PassState, MakesNoStep, fresh}
 use Rattle.lt_words.proofs.Prefixes.{prefix_trans, prefix_get}
 use Rattle.lt_words.proofs.Histories.{part_prefix, part_length}
 use Rattle.lt_table_core.specs.Machine as runs
 use Rattle.lt_words.specs.declared.event.Event.{Event}
 use Rattle.lt_table_core.specs.Closed.{counts_at, IsFinal}
 use Rattle.lt_table_core.specs.Reported.{shard_at, Reported, AreReported, steps_at}
-use Rattle.lt_table_core.specs.Laws.{Lived, AreLives, at_index, at_index_of, EachStepIsReportedOnce, OneHolderAtClose, ReadsPassAtClose, LivesGoOn}
-use Rattle.lt_table_core.proofs.Ends.{sees_on}
+use Rattle.lt_table_core.specs.Laws.{Lived, AreLives, at_index, at_index_of, EachStepIsReportedOnce, OneHolderAtClose, ReadsPassAtClose, NoStepIsMade, LivesGoOn}
+use Rattle.lt_words.proofs.Passes.{no_step, take_no_step, no_step_on}
 use Rattle.lt_table_core.proofs.InPlace.{one_counted, add_one_more, inside_length, prefix_same}
 
 -- ---- how often a number is in a list
@@ -156,13 +156,13 @@ ties_no_later n low [] lt all = tt
 ties_no_later n low (k ∷ ks) lt all = (let more : n < k = omega (arith, lt, all.0) in grind (arith, nat_tests), ties_no_later n low ks lt all.1)
 
 -- a pass's step at a shard is at that shard in each later state of the pass
-at_shard : (shards s : ℕ) (p m n : PassState) (x : runs.Step) → p.of.shards ≡ shards → SeesMore p m → Reported m n x → nat_eq (shard_of x.key shards) s ≡ true → shard_at m x ≡ s
+at_shard : (shards s : ℕ) (p m n : PassState) (x : runs.Step) → p.of.shards ≡ shards → MakesNoStep p m → Reported m n x → nat_eq (shard_of x.key shards) s ≡ true → shard_at m x ≡ s
 at_shard shards s p m n x of more r is =
     let here : shard_of x.key shards ≡ s = grind (arith, nat_tests) in
     ap (λ k. shard_of x.key k) (ap (λ (o : Opening). o.shards) more.of ∙ of) ∙ here
 
 -- one more step of a pass, before steps for which this is known
-rises_here : (shards s : ℕ) (p m n : PassState) (x : runs.Step) (ks : List ℕ) (b : Bool) → p.of.shards ≡ shards → SeesMore p m → Reported m n x → nat_eq (shard_of x.key shards) s ≡ b →
+rises_here : (shards s : ℕ) (p m n : PassState) (x : runs.Step) (ks : List ℕ) (b : Bool) → p.of.shards ≡ shards → MakesNoStep p m → Reported m n x → nat_eq (shard_of x.key shards) s ≡ b →
     IsDistinct nat_eq ks × AllByRecursion (λ k. length (part s n.seen) ≤ k) ks →
     IsDistinct nat_eq (if b then x.answer.at ∷ ks else ks) × AllByRecursion (λ k. length (part s p.seen) ≤ k) (if b then x.answer.at ∷ ks else ks)
 rises_here shards s p m n x ks true of more r is rest =
@@ -290,20 +290,20 @@ reads_pass_at_close law of ps shards draws s d key past rest e ticket txn ts lon
 
 -- ---- a call extends what a pass did
 
-life_sees : (p q r : PassState) (xs : List runs.Step) → Lived p xs q → SeesMore q r → Lived p xs r
-life_sees p q r [] l more = sees_on p q r l more
+life_sees : (p q r : PassState) (xs : List runs.Step) → Lived p xs q → MakesNoStep q r → Lived p xs r
+life_sees p q r [] l more = no_step_on p q r l more
 life_sees p q r (x ∷ xs) l more = (l.0, l.1, l.2, l.3, life_sees l.1 q r xs l.4 more)
 
-pub sees_same : (p : PassState) → SeesMore p p
-sees_same p = record { of = refl; number = refl; counts = refl; seen = prefix_same p.seen p.seen refl; shown = prefix_same p.shown p.shown refl }
+pub sees_same : (p : PassState) → MakesNoStep p p
+sees_same p = record { of = refl; number = refl; counts = refl; seen = prefix_same p.seen p.seen refl; shown = prefix_same p.shown p.shown refl; takes = prefix_same p.takes p.takes refl }
 
 reported_lived : (p q : PassState) (xs : List runs.Step) → AreReported p xs q → Lived p xs q
-reported_lived p q [] r = subst (λ s. SeesMore p s) (sym r) (sees_same p)
+reported_lived p q [] r = subst (λ s. MakesNoStep p s) (sym r) (sees_same p)
 reported_lived p q (x ∷ xs) r = (p, r.0, sees_same p, r.1, reported_lived r.0 q xs r.2)
 
-pub sees_then : (p q r : PassState) (xs : List runs.Step) → SeesMore p q → Lived q xs r → Lived p xs r
-sees_then p q r [] more l = sees_on p q r more l
-sees_then p q r (x ∷ xs) more l = (l.0, l.1, sees_on p q l.0 more l.2, l.3, l.4)
+pub sees_then : (p q r : PassState) (xs : List runs.Step) → MakesNoStep p q → Lived q xs r → Lived p xs r
+sees_then p q r [] more l = no_step_on p q r more l
+sees_then p q r (x ∷ xs) more l = (l.0, l.1, no_step_on p q l.0 more l.2, l.3, l.4)
 
 life_then : (p q r : PassState) (xs ys : List runs.Step) → Lived p xs q → Lived q ys r → Lived p (xs ++ ys) r
 life_then p q r [] ys l m = sees_then p q r ys l m
@@ -311,3 +311,6 @@ life_then p q r (x ∷ xs) ys l m = (l.0, l.1, l.2, l.3, life_then l.1 q r xs ys
 
 pub lives_go_on : LivesGoOn
 lives_go_on p q r xs ys l = (λ more. life_sees p q r xs l more, λ reported. life_then p q r xs ys l (reported_lived q r ys reported))
+
+pub no_step_is_made : NoStepIsMade
+no_step_is_made p q = (no_step p q, λ shard from many t. take_no_step p q shard from many t)

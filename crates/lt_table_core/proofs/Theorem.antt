@@ -5,7 +5,7 @@ use mathlib.Core.List.{IsPrefix}
 use Rattle.lt_words.specs.declared.event.Event.{Event}
 use Rattle.lt_words.specs.History.{part, shard_of, LetIn, OneHolderAtEachKey, ReadsPassAtEachKey}
 use Rattle.lt_words.specs.Laws.{LetsStay, PartsAreLegal}
-use Rattle.lt_words.specs.Row.{Opening, PassState, SeesMore, fresh, fresh_passes}
+use Rattle.lt_words.specs.Row.{Opening, PassState, MakesNoStep, fresh, fresh_passes}
 use Rattle.lt_rules.proofs.Cases.{all_append}
 use Rattle.lt_words.proofs.Prefixes.{prefix_trans, prefix_get}
 use Rattle.lt_words.proofs.Histories.{part_prefix}
@@ -18,7 +18,7 @@ use Rattle.lt_table_core.specs.Reported.{shard_at, AreReported, GuardState, Sees
 use Rattle.lt_table_core.specs.Laws.{Lived, AreLives}
 use Rattle.lt_table_core.specs.Theorem.{Told, Heard, AreHeard, steps_told, ShardHistories, IsInFinal, FollowsSeen, AllTold, AllHeard, TheMainTheorem, TheTheoremSoFar, FreshHaveHeardNothing, HearingGoesOn, ThroughIsTold, told_by_poll, CloseIsEnd, RestIsEnd}
 use Rattle.lt_table_core.specs.Theorem.Told.{Made, WasLet}
-use Rattle.lt_table_core.proofs.Ends.{sees_on}
+use Rattle.lt_words.proofs.Passes.{no_step, no_step_on}
 use Rattle.lt_table_core.proofs.Lives.{once_in_final, once_so_far, sees_same, sees_then}
 
 heard_grows : (p q : PassState) (told : List Told) → Heard p told q → IsPrefix p.seen q.seen × (q.of ≡ p.of) × (q.number ≡ p.number)
@@ -158,15 +158,15 @@ rest_is_end of ps rests draws d closed = record {
   lets_shown = λ s here. (closed.each s d here).lets_shown;
 }
 
-heard_more : (p q r : PassState) (told : List Told) → Heard p told q → SeesMore q r → Heard p told r
-heard_more p q r [] h more = sees_on p q r h more
+heard_more : (p q r : PassState) (told : List Told) → Heard p told q → MakesNoStep q r → Heard p told r
+heard_more p q r [] h more = no_step_on p q r h more
 heard_more p q r (Made x ∷ told) h more = (h.0, h.1, h.2, h.3, heard_more h.1 q r told h.4 more)
 heard_more p q r (WasLet t ∷ told) h more = (h.0, h.1, h.2, heard_more h.0 q r told h.3 more)
 
-sees_first : (p q r : PassState) (told : List Told) → SeesMore p q → Heard q told r → Heard p told r
-sees_first p q r [] more h = sees_on p q r more h
-sees_first p q r (Made x ∷ told) more h = (h.0, h.1, sees_on p q h.0 more h.2, h.3, h.4)
-sees_first p q r (WasLet t ∷ told) more h = (h.0, sees_on p q h.0 more h.1, h.2, h.3)
+sees_first : (p q r : PassState) (told : List Told) → MakesNoStep p q → Heard q told r → Heard p told r
+sees_first p q r [] more h = no_step_on p q r more h
+sees_first p q r (Made x ∷ told) more h = (h.0, h.1, no_step_on p q h.0 more h.2, h.3, h.4)
+sees_first p q r (WasLet t ∷ told) more h = (h.0, no_step_on p q h.0 more h.1, h.2, h.3)
 
 heard_then : (p q r : PassState) (told more : List Told) → Heard p told q → Heard q more r → Heard p (told ++ more) r
 heard_then p q r [] more h k = sees_first p q r more h k
@@ -174,7 +174,7 @@ heard_then p q r (Made x ∷ told) more h k = (h.0, h.1, h.2, h.3, heard_then h.
 heard_then p q r (WasLet t ∷ told) more h k = (h.0, h.1, h.2, heard_then h.0 q r told more h.3 k)
 
 reported_heard : (q r : PassState) (steps : List Step) → AreReported q steps r → Heard q (map Made steps) r
-reported_heard q r [] reported = subst (λ s. SeesMore q s) (sym reported) (sees_same q)
+reported_heard q r [] reported = subst (λ s. MakesNoStep q s) (sym reported) (sees_same q)
 reported_heard q r (x ∷ steps) reported = (q, reported.0, sees_same q, reported.1, reported_heard reported.0 r steps reported.2)
 
 pub hearing_goes_on : HearingGoesOn
@@ -187,13 +187,13 @@ hearing_goes_on p q r told h = (
 poll_told : (p : PassState) (told : List Told) (old new : GuardState) (result : Poll) → Heard p told old.pass → IsPoll old new result → (result ≡ polls.Through → SeesLet new.pass new.walk) → Heard p (told ++ told_by_poll result (current_wait old.walk)) new.pass
 poll_told p told old new polls.Through h poll through =
     let same : current_wait new.walk ≡ current_wait old.walk = ap (λ w. current_wait w) poll.walk in
-    heard_then p old.pass new.pass told (WasLet (current_wait old.walk) ∷ []) h (new.pass, poll.reads, subst (λ t. LetIn new.pass.seen new.pass.number t) same (through refl), sees_same new.pass)
-poll_told p told old new polls.Waiting h poll through = heard_then p old.pass new.pass told [] h poll.reads
-poll_told p told old new polls.Idle h poll through = heard_then p old.pass new.pass told [] h poll.reads
+    heard_then p old.pass new.pass told (WasLet (current_wait old.walk) ∷ []) h (new.pass, no_step old.pass new.pass poll.reads, subst (λ t. LetIn new.pass.seen new.pass.number t) same (through refl), sees_same new.pass)
+poll_told p told old new polls.Waiting h poll through = heard_then p old.pass new.pass told [] h (no_step old.pass new.pass poll.reads)
+poll_told p told old new polls.Idle h poll through = heard_then p old.pass new.pass told [] h (no_step old.pass new.pass poll.reads)
 
 scan_told : (p : PassState) (told : List Told) (old new : GuardState) (max_waits : ℕ) (result : Result Scan ScanError) → Heard p told old.pass → (scan : IsScan max_waits old new result) → Heard p (told ++ map Made scan.steps) new.pass
 scan_told p told old new max_waits result h scan =
-    heard_then p old.pass new.pass told (map Made scan.steps) h (sees_first old.pass scan.read new.pass (map Made scan.steps) scan.reads (reported_heard scan.read new.pass scan.steps scan.reported))
+    heard_then p old.pass new.pass told (map Made scan.steps) h (sees_first old.pass scan.read new.pass (map Made scan.steps) (no_step old.pass scan.read scan.reads) (reported_heard scan.read new.pass scan.steps scan.reported))
 
 let_scan_told : (p : PassState) (told : List Told) (old new : GuardState) (max_waits : ℕ) (result : Result Scan ScanError) → Heard p told old.pass → (scan : IsScan max_waits old new result) → SeesLet new.pass old.walk →
     Heard p (told ++ map Made scan.steps ++ WasLet (current_wait old.walk) ∷ []) new.pass
@@ -239,7 +239,7 @@ all_differ of (suc n) =
 
 heard_nothing : (of : Opening) (ps : List PassState) → AllByRecursion (λ p. p ≡ fresh of p.number) ps → Differ ps → AreHeard of (map (λ p. []) ps) ps
 heard_nothing of [] are differ = tt
-heard_nothing of (p ∷ ps) are differ = (subst (λ x. SeesMore x p) are.0 (sees_same p), differ.0, heard_nothing of ps are.1 differ.1)
+heard_nothing of (p ∷ ps) are differ = (subst (λ x. MakesNoStep x p) are.0 (sees_same p), differ.0, heard_nothing of ps are.1 differ.1)
 
 pub fresh_have_heard_nothing : FreshHaveHeardNothing
 fresh_have_heard_nothing of n = heard_nothing of (fresh_passes of n) (all_fresh of n) (all_differ of n)

@@ -8,7 +8,7 @@ use Rattle.lt_entry.specs.declared.entry.Entry.{Entry}
 use Rattle.lt_entry.specs.Legal.{AreLegalKeys}
 use Rattle.lt_entry.specs.Ranges.{IsInRange}
 use Rattle.lt_words.specs.declared.event.Event.{Event}
-use Rattle.lt_words.specs.declared.keeping.Keeping.TheVariants.{Whole, Unrecorded}
+use Rattle.lt_words.specs.declared.keeping.Keeping.TheVariants.{Whole, Streamed, Unrecorded}
 use Rattle.lt_words.specs.History.{part, draws_of, shard_of, IsLegalHistory}
 use Rattle.lt_words.specs.Shown.{AreShown, AreLet}
 use Rattle.lt_words.specs.Row.{Opening, PassState}
@@ -17,6 +17,8 @@ use Rattle.lt_shard.specs.Shards.{View}
 use Rattle.lt_table_core.specs.declared.config.Config.{Config}
 use Rattle.lt_table_core.specs.declared.closing.Rests.{Rests}
 use Rattle.lt_table_core.specs.declared.closing.Wanted.{Wanted}
+use Rattle.lt_table_core.specs.declared.closing.PassCount.{PassCount}
+use Rattle.lt_table_core.specs.declared.closing.PassCount.TheVariants.{Made, Taken}
 use Rattle.lt_table_core.specs.declared.closing.CloseError.{CloseError}
 use Rattle.lt_table_core.specs.declared.closing.CloseError.TheVariants.{PassesOut, Memory, Counts}
 use Rattle.lt_table_core.specs.declared.leaving.Left.{Left}
@@ -28,10 +30,23 @@ abbrev pub IsLeave : GuardState → Result Left LeaveStopped → Type 0
 IsLeave old (Ok left) = AllLeft old left.pass left.answers.items
 IsLeave old (Err e) = StoppedLeaving old e.guard
 
+-- the steps that a pass counts for each shard: those that it made there, or those that it took out
+abbrev pub tally : PassCount → PassState → List ℕ
+tally Made p = p.counts
+tally Taken p = p.taken
+
+-- how many of these steps the passes count at a shard, together
+abbrev pub tallied_at : PassCount → ℕ → List PassState → ℕ
+tallied_at t s [] = 0
+tallied_at t s (p ∷ ps) = slice_index (tally t p) s + tallied_at t s ps
+
 -- how many steps these passes made at a shard, together
 abbrev pub counts_at : ℕ → List PassState → ℕ
-counts_at s [] = 0
-counts_at s (p ∷ ps) = slice_index p.counts s + counts_at s ps
+counts_at s ps = tallied_at Made s ps
+
+-- how many steps these passes took out of a shard, together
+abbrev pub taken_at : ℕ → List PassState → ℕ
+taken_at s ps = tallied_at Taken s ps
 
 -- the passes that are handed back, alone or in a guard, in this order
 abbrev pub passes_of : List PassState → List GuardState → List PassState
@@ -77,6 +92,8 @@ pub record IsRest (of : Opening) (ps : List PassState) (whole : List Event) (who
   -- nothing of a whole table is gone, and nothing of an unrecorded one is left
   pub is_whole : of.keeping ≡ Whole → from ≡ 0
   pub unrecorded : of.keeping ≡ Unrecorded → es ≡ []
+  -- of a streamed table exactly the steps are gone that the passes took out
+  pub streamed : of.keeping ≡ Streamed → from ≡ taken_at s ps
 
 -- What is left of each shard; one legal history of all shards, which extends what each pass had seen; and one list
 -- of the lets that were shown, which extends what each pass had seen shown.
@@ -121,12 +138,14 @@ pub record IsGivenBack (c : Config) (ps : List PassState) (gs : List GuardState)
 -- ---- while a table is being closed
 
 -- The shard has this index and has made as many steps as these passes made there. It may hold as many steps as is
--- wanted, and it holds all of its steps if that is wanted.
+-- wanted, and it holds all of its steps if that is wanted. A streamed table's shard holds all but those that the passes
+-- took out.
 pub record IsCounted (wanted : Wanted) (ps : List PassState) (s : ℕ) (v : View) : Type 0 where
   pub index : v.index ≡ s
   pub counted : length v.stored ≡ counts_at s ps
   pub limit : v.max_steps ≡ wanted.max_steps
   pub whole : wanted.whole ≡ true → v.before ≡ 0
+  pub streamed : wanted.keeping ≡ Streamed → v.before ≡ taken_at s ps
 
 -- The first n of these shards are counted in this sense.
 abbrev pub AreCounted : Wanted → List PassState → List View → ℕ → Type 0

@@ -14,7 +14,7 @@ use Rattle.lt_entry.specs.declared.entry.Entry.{Entry}
 use Rattle.lt_words.specs.History.{part, shard_of, key_history, IsLegalHistory, IsLetAmong, LetIn}
 use Rattle.lt_words.specs.Shown.{IsShown}
 use Rattle.lt_words.specs.declared.event.Event.{Event}
-use Rattle.lt_words.specs.Row.{Opening, PassState, SeesMore, fresh}
+use Rattle.lt_words.specs.Row.{Opening, PassState, SeesMore, MakesNoStep, TakesOut, fresh}
 use Rattle.lt_shard.specs.declared.answer.Answer.{Answer}
 use Rattle.lt_shard.specs.declared.answer.StepError.{StepError}
 use Rattle.lt_table_core.specs.declared.walk_progress.Mode.TheVariants.{Free, Awaiting}
@@ -186,14 +186,18 @@ ReadsPassAtClose = (of : Opening) (ps : List PassState) (shards : List (Vec Entr
     key_history key (slice_index_or shards s d).items ≡ past ++ e ∷ rest → e.call ≡ Visit ticket txn ts Read longest →
     ((e.reply ≡ Passed) × IsBelowOthers past txn ts) ⊎ ((e.reply ≡ MustWait) × (IsBelowOthers past txn ts → ⊥))
 
--- What a pass did: its calls reported these steps, one after the other, and in between it saw more.
+-- What a pass did: its calls reported these steps, one after the other, and in between it made none.
 abbrev pub Lived : PassState → List Step → PassState → Type 0
-Lived p [] q = SeesMore p q
-Lived p (x ∷ xs) q = (m : PassState) × (n : PassState) × SeesMore p m × Reported m n x × Lived n xs q
+Lived p [] q = MakesNoStep p q
+Lived p (x ∷ xs) q = (m : PassState) × (n : PassState) × MakesNoStep p m × Reported m n x × Lived n xs q
 
--- Each call extends what a pass did: it sees more, or it reports steps.
+-- A pass makes no step when it only sees more, nor when it takes stored steps out.
+abbrev pub NoStepIsMade : Type 0
+NoStepIsMade = (p q : PassState) → (SeesMore p q → MakesNoStep p q) × ((shard from many : ℕ) → TakesOut p q shard from many → MakesNoStep p q)
+
+-- Each call extends what a pass did: it makes no step, or it reports steps.
 abbrev pub LivesGoOn : Type 0
-LivesGoOn = (p q r : PassState) (xs ys : List Step) → Lived p xs q → (SeesMore q r → Lived p xs r) × (AreReported q ys r → Lived p (xs ++ ys) r)
+LivesGoOn = (p q r : PassState) (xs ys : List Step) → Lived p xs q → (MakesNoStep q r → Lived p xs r) × (AreReported q ys r → Lived p (xs ++ ys) r)
 
 -- These passes, with different numbers, made these steps since they were handed out.
 abbrev pub AreLives : Opening → List (List Step) → List PassState → Type 0

@@ -1,8 +1,9 @@
 -- What a take of a shard's steps gives.
-use Rattle.std.specs.Prelude.{ℕ, ◌≡◌, ◌+◌, ◌<◌, ◌≤◌, ◌++◌, List, length, drop, slice_index_or}
+use Rattle.std.specs.Prelude.{ℕ, ◌≡◌, ◌≢◌, ◌+◌, ◌<◌, ◌≤◌, ◌++◌, List, length, drop, slice_index, slice_index_or}
 use mathlib.Core.List.{IsPrefix}
 use Rattle.lt_entry.specs.declared.entry.Entry.{Entry}
 use Rattle.lt_words.specs.declared.event.Event.{Event}
+use Rattle.lt_words.specs.declared.keeping.Keeping.TheVariants.{Streamed}
 use Rattle.lt_words.specs.History.{part}
 use Rattle.lt_words.specs.Row.{Opening, PassState}
 use Rattle.lt_shard.specs.declared.holding.Rest.{Rest}
@@ -31,3 +32,10 @@ abbrev pub RestJoins : Type 0
 RestJoins = (of : Opening) (ps : List PassState) (rests : List Rest) (draws k s from : ℕ) (p : PassState) (seen : List Event) (es : List Entry) (d : Rest) (closed : IsClosedRest of ps rests draws) (here : s < of.shards) →
     k < length ps → p ≡ slice_index_or ps k p → IsPrefix seen p.seen → IsTaken s seen from es → (slice_index_or rests s d).from ≡ from + length es →
     es ++ (slice_index_or rests s d).entries.items ≡ drop from (closed.each s d here).all
+
+-- If only one of the passes took steps out of a shard of a streamed table, what a close leaves of the shard begins where
+-- its takes ended: after as many steps as it took.
+abbrev pub RestFollowsOneReader : Type 0
+RestFollowsOneReader = (of : Opening) (ps : List PassState) (rests : List Rest) (draws k s : ℕ) (p : PassState) (d : Rest) → IsClosedRest of ps rests draws → s < of.shards → of.keeping ≡ Streamed →
+    k < length ps → p ≡ slice_index_or ps k p → ((j : ℕ) (q : PassState) → j < length ps → j ≢ k → q ≡ slice_index_or ps j q → slice_index q.taken s ≡ 0) →
+    (slice_index_or rests s d).from ≡ slice_index p.taken s

@@ -15,7 +15,7 @@ use Rattle.lt_entry.specs.declared.entry.Entry.{Entry}
 use Rattle.lt_words.specs.declared.event.Event.{Event}
 use Rattle.lt_words.specs.History.{part, shard_of, key_history, IsLegalHistory, LetIn}
 use Rattle.lt_words.specs.Shown.{AreShown, AreLet}
-use Rattle.lt_words.specs.Row.{Opening, PassState, SeesMore, fresh, fresh_passes}
+use Rattle.lt_words.specs.Row.{Opening, PassState, MakesNoStep, fresh, fresh_passes}
 use Rattle.lt_shard.specs.declared.holding.Rest.{Rest}
 use Rattle.lt_table_core.specs.declared.scan_results.Scan.{Scan}
 use Rattle.lt_table_core.specs.declared.scan_results.ScanError.{ScanError}
@@ -31,12 +31,12 @@ pub data Told : Type 0 where
   Made : Step → Told
   WasLet : Wait → Told
 
--- What the caller of a pass was told, in order. Between two calls the pass may see more, and so it does in a call that
--- tells nothing of these.
+-- What the caller of a pass was told, in order. In between the pass makes no step: it sees more, or takes stored steps
+-- out.
 abbrev pub Heard : PassState → List Told → PassState → Type 0
-Heard p [] q = SeesMore p q
-Heard p (Made x ∷ told) q = (m : PassState) × (n : PassState) × SeesMore p m × Reported m n x × Heard n told q
-Heard p (WasLet t ∷ told) q = (n : PassState) × SeesMore p n × LetIn n.seen n.number t × Heard n told q
+Heard p [] q = MakesNoStep p q
+Heard p (Made x ∷ told) q = (m : PassState) × (n : PassState) × MakesNoStep p m × Reported m n x × Heard n told q
+Heard p (WasLet t ∷ told) q = (n : PassState) × MakesNoStep p n × LetIn n.seen n.number t × Heard n told q
 
 -- These are all passes of a table, with different numbers, and what their callers were told since the table was opened.
 abbrev pub AreHeard : Opening → List (List Told) → List PassState → Type 0
@@ -145,13 +145,13 @@ TheTheoremSoFar = (of : Opening) (ps : List PassState) (h : List Event) (all : L
 abbrev pub FreshHaveHeardNothing : Type 0
 FreshHaveHeardNothing = (of : Opening) (n : ℕ) → AreHeard of (map (λ p. []) (fresh_passes of n)) (fresh_passes of n)
 
--- Each call extends what the caller was told: the pass sees more, or the call tells of steps, or it tells that the request
--- was let through.
+-- Each call extends what the caller was told: it makes no step, or it tells of steps, or it tells that the request was let
+-- through.
 abbrev pub HearingGoesOn : Type 0
 HearingGoesOn = (p q r : PassState) (told : List Told) → Heard p told q →
-    (SeesMore q r → Heard p told r)
+    (MakesNoStep q r → Heard p told r)
     × ((steps : List Step) → AreReported q steps r → Heard p (told ++ map Made steps) r)
-    × ((t : Wait) → SeesMore q r → LetIn r.seen r.number t → Heard p (told ++ WasLet t ∷ []) r)
+    × ((t : Wait) → MakesNoStep q r → LetIn r.seen r.number t → Heard p (told ++ WasLet t ∷ []) r)
 
 -- what a poll or a wait tells the caller of a request in this wait
 abbrev pub told_by_poll : Poll → Wait → List Told

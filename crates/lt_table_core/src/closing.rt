@@ -3,20 +3,20 @@
 //! One pass learns what all the others had seen, and then meets each shard once. So what it has then seen is one
 //! history that extends what every pass had seen, and each shard's steps are a prefix of that history's part. Read
 //! next `IsClosed` in `specs/Closed.antt`, and then `close` and `close_rest` at the end of this file.
-ghost use Rattle.std.specs.Prelude.{◌≡◌, ◌≢◌, ◌≤◌, ◌<◌, ◌+◌, ℕ, [], true, IsTrue, IsFalse, map, length, slice_index_or, vec_len, vec_capacity, IfOk, IfErr, IfSome, IfNone, OnErr, OnOk};
+ghost use Rattle.std.specs.Prelude.{◌≡◌, ◌≢◌, ◌≤◌, ◌<◌, ◌+◌, ℕ, [], true, IsTrue, IsFalse, map, length, slice_index, slice_index_or, vec_len, vec_capacity, IfOk, IfErr, IfSome, IfNone, OnErr, OnOk};
 ghost use Rattle.std.specs.List.{All, AllByRecursion};
 ghost use mathlib.Core.List.{IsPrefix};
 ghost use Rattle.lt_shard.specs.Shards.{View};
 ghost use Rattle.lt_words.specs.Row.{SeesMore};
 ghost use Rattle.lt_table_core.specs.Configs.{AreInPlace};
-ghost use Rattle.lt_table_core.specs.Closed.{counts_at, passes_of, IsCounted, AreCounted, IsMiscount, IsEnded, AreEnded, IsClosed, IsClosedRest, AreRestsOf, AreWhole, IsRoomFor, IsUnclosed, IsGivenBack};
+ghost use Rattle.lt_table_core.specs.Closed.{tally, tallied_at, taken_at, passes_of, IsCounted, AreCounted, IsMiscount, IsEnded, AreEnded, IsClosed, IsClosedRest, AreRestsOf, AreWhole, IsRoomFor, IsUnclosed, IsGivenBack};
 
 use crate::guard::Guard;
 use crate::table::{Label, Slot, Table};
 use lt_entry::Entry;
 use lt_rules::KeyTable;
 use lt_shard::{Rest, Shard};
-use lt_words::{Book, Name, Pass, Waker, abandon_all};
+use lt_words::{Book, Keeping, Name, Pass, Waker, abandon_all};
 use std::alloc::{AllocError, Global};
 use std::sync::Wait;
 use thiserror::Error;
@@ -48,9 +48,9 @@ pub enum CloseError {
     PassesOut(usize),
     #[error("out of memory")]
     Memory,
-    /// The shard at this index is another shard, may hold another number of steps, or has made a number of steps
-    /// that is not the sum of the passes' counts there. `close` also gives this error if steps of the shard are
-    /// gone. It never comes from `close` of a whole table, nor from `close_rest` of any table.
+    /// The shard at this index is another shard, may hold another number of steps, has made a number of steps that is
+    /// not the sum of the passes' counts there, or lacks other steps than those that the passes took out. `close` also
+    /// gives this error if steps of the shard are gone. It never comes from `close` of a whole table, nor from `close_rest` of any table.
     #[error("the steps of a shard are not those of the passes: {0}")]
     Counts(usize),
 }
@@ -96,31 +96,83 @@ pub fn abandon_guards(mut guards: Vec<Guard>) {
     guards.destroy_empty();
 }
 
-/// How many of a shard's steps are left after subtracting those that the passes made. `None` if the passes made
-/// more.
-fn without_passes(steps: u64, index: usize, passes: &[Pass]) -> Option<u64>
+/// Which steps of the passes are counted: those that they made at a shard, or those that they took out of it.
+#[derive(Clone, Copy)]
+enum PassCount {
+    Made,
+    Taken,
+}
+
+/// How many of these steps the pass counts at the shard.
+fn tallied(pass: &Pass, which: PassCount, index: usize) -> u64
+    requires { index < pass.now.of.shards }
+    ensures { result ≡ slice_index (tally which pass.now) index }
+{
+    match which {
+        PassCount::Made => pass.count(index),
+        PassCount::Taken => pass.taken(index),
+    }
+}
+
+/// How many of a shard's steps are left after subtracting those that the passes count. `None` if they count more.
+fn without_passes(steps: u64, which: PassCount, index: usize, passes: &[Pass]) -> Option<u64>
     requires { All (λ p. index < p.of.shards) passes.now }
-    ensures some { IfSome result (λ left. left + counts_at index passes.now ≡ steps) }
-    ensures none { IfNone result (steps < counts_at index passes.now) }
+    ensures some { IfSome result (λ left. left + tallied_at which index passes.now ≡ steps) }
+    ensures none { IfNone result (steps < tallied_at which index passes.now) }
 {
     let mut left = steps;
     for pass in passes {
-        left = left.checked_sub(pass.count(index))?;
+        left = left.checked_sub(tallied(pass, which, index))?;
     }
     Some(left)
 }
 
 /// `without_passes` for the passes of guards.
-fn without_guards(steps: u64, index: usize, guards: &[Guard]) -> Option<u64>
+fn without_guards(steps: u64, which: PassCount, index: usize, guards: &[Guard]) -> Option<u64>
     requires { All (λ g. index < g.pass.of.shards) guards.now }
-    ensures some { IfSome result (λ left. left + counts_at index (map (λ g. g.pass) guards.now) ≡ steps) }
-    ensures none { IfNone result (steps < counts_at index (map (λ g. g.pass) guards.now)) }
+    ensures some { IfSome result (λ left. left + tallied_at which index (map (λ g. g.pass) guards.now) ≡ steps) }
+    ensures none { IfNone result (steps < tallied_at which index (map (λ g. g.pass) guards.now)) }
 {
     let mut left = steps;
     for guard in guards {
-        left = left.checked_sub(guard.pass.count(index))?;
+        left = left.checked_sub(tallied(&guard.pass, which, index))?;
     }
     Some(left)
+}
+
+/// Whether the passes, alone or in guards, count exactly this many steps at the shard.
+fn are_tallied(
+    steps: u64,
+    which: PassCount,
+    index: usize,
+    passes: &[Pass],
+    guards: &[Guard],
+) -> bool
+    requires passes { All (λ p. index < p.of.shards) passes.now }
+    requires guards { All (λ g. index < g.pass.of.shards) guards.now }
+    ensures yes { IsTrue result → steps ≡ tallied_at which index (passes_of passes.now guards.now) }
+    ensures no { IsFalse result → steps ≢ tallied_at which index (passes_of passes.now guards.now) }
+{
+    let Some(left) = without_passes(steps, which, index, passes) else {
+        return false;
+    };
+    let Some(rest) = without_guards(left, which, index, guards) else {
+        return false;
+    };
+    rest == 0
+}
+
+/// Whether a streamed table's shard lacks exactly the steps that the passes took out.
+fn are_taken(keeping: Keeping, before: u64, index: usize, passes: &[Pass], guards: &[Guard]) -> bool
+    requires passes { All (λ p. index < p.of.shards) passes.now }
+    requires guards { All (λ g. index < g.pass.of.shards) guards.now }
+    ensures yes { IsTrue result → keeping ≡ Keeping.Streamed → before ≡ taken_at index (passes_of passes.now guards.now) }
+    ensures no { IsFalse result → (keeping ≡ Keeping.Streamed) × (before ≢ taken_at index (passes_of passes.now guards.now)) }
+{
+    match keeping {
+        Keeping::Streamed => are_tallied(before, PassCount::Taken, index, passes, guards),
+        Keeping::Whole | Keeping::Unrecorded => true,
+    }
 }
 
 /// What each shard has to satisfy when its table is closed.
@@ -130,6 +182,8 @@ struct Wanted {
     whole: bool,
     /// How many steps it may hold.
     max_steps: u64,
+    /// How its table keeps steps.
+    keeping: Keeping,
 }
 
 /// Whether steps are gone that have to be there.
@@ -162,13 +216,10 @@ fn is_counted<N: Name, T: KeyTable>(
     if is_missing(wanted.whole, shard.before()) {
         return false;
     }
-    let Some(left) = without_passes(shard.count(), index, passes) else {
+    if !are_tallied(shard.count(), PassCount::Made, index, passes, guards) {
         return false;
-    };
-    let Some(rest) = without_guards(left, index, guards) else {
-        return false;
-    };
-    rest == 0
+    }
+    are_taken(wanted.keeping, shard.before(), index, passes, guards)
 }
 
 /// Names the first shard that is not counted in the sense of `is_counted`.
@@ -349,6 +400,7 @@ fn end<N: Name, T: KeyTable + Drop, R: Wait>(
     requires passes { All (λ p. p.of ≡ N.of) passes.items }
     requires many { length shards.items ≡ N.of.shards }
     requires counted { AreCounted wanted passes.items shards.items N.of.shards }
+    requires keeping { wanted.keeping ≡ N.of.keeping }
     requires empty { rests.items ≡ [] }
     requires room { length shards.items ≤ vec_capacity rests }
     ensures closed { IsClosedRest N.of passes.items result.shards.items result.draws }
@@ -445,6 +497,7 @@ impl<N: Name, T: KeyTable + Drop, W: Waker + Drop> Table<N, T, W> {
         let wanted = Wanted {
             whole: only_whole,
             max_steps: config.max_steps,
+            keeping: book.keeping(),
         };
         if let Some(error) = count_fault(&shards, wanted, &passes, &guards) {
             let shards = slots_back(shards, config.max_steps, room.slots);

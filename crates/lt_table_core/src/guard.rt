@@ -63,6 +63,13 @@ impl Guard {
         self.walk.number()
     }
 
+    /// The number of the guard's pass. [`Table::interrupt`](crate::Table::interrupt) takes it.
+    pub fn pass_number(&self) -> u32
+        ensures number { result ≡ self.now.pass.number }
+    {
+        self.pass.number()
+    }
+
     /// The answers of the latest scan, also if the scan was refused partway. On a guard that is leaving, the
     /// answers of its leave steps so far.
     pub fn answers(&self) -> &[Answer]
@@ -90,6 +97,7 @@ impl Guard {
         ensures of { result.of ≡ self.now.pass.of }
         ensures seen { result.seen ≡ self.now.pass.seen }
         ensures shown { result.shown ≡ self.now.pass.shown }
+        ensures takes { result.takes ≡ self.now.pass.takes }
     {
         self.pass.seen()
     }
@@ -100,6 +108,7 @@ impl Guard {
         ensures more { SeesMore self.old.pass self.new.pass }
         ensures seen { IsPrefix front.now.seen self.new.pass.seen }
         ensures shown { IsPrefix front.now.shown self.new.pass.shown }
+        ensures takes { IsPrefix front.now.takes self.new.pass.takes }
         ensures walk { self.new.walk ≡ self.old.walk }
     {
         self.pass.learn(front);

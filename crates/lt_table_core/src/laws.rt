@@ -2,9 +2,9 @@
 //!
 //! Each law is the contract of a function that does no work; `specs/Laws.antt` has the statements, over the
 //! definitions alone.
-ghost use Rattle.lt_table_core.specs.Laws.{OneKeyList, ReportedStand, ProceedHasPassedEach, ThroughGoesOn, ShownIsThrough, ShownGoesOn, NoWakeUpIsLost, NumbersOfGuardsDiffer, ReportedStandAtClose, OneHolderAtClose, ReadsPassAtClose, LivesGoOn, EachStepIsReportedOnce, ResumedHasPassedEach, ResumedIsOneScan, RefusedPartwayGoesOn};
+ghost use Rattle.lt_table_core.specs.Laws.{OneKeyList, ReportedStand, ProceedHasPassedEach, ThroughGoesOn, ShownIsThrough, ShownGoesOn, NoWakeUpIsLost, NumbersOfGuardsDiffer, ReportedStandAtClose, OneHolderAtClose, ReadsPassAtClose, NoStepIsMade, LivesGoOn, EachStepIsReportedOnce, ResumedHasPassedEach, ResumedIsOneScan, RefusedPartwayGoesOn};
 ghost use Rattle.lt_table_core.specs.Reported.{StepIndicesRise};
-ghost use Rattle.lt_table_core.specs.Taken.{RestJoins, TakesJoin};
+ghost use Rattle.lt_table_core.specs.Taken.{RestFollowsOneReader, RestJoins, TakesJoin};
 ghost use Rattle.lt_table_core.specs.Theorem.{TheMainTheorem, TheTheoremSoFar, FreshHaveHeardNothing, HearingGoesOn, ThroughIsTold, CloseIsEnd, RestIsEnd};
 
 use lt_words::laws::{lets_stay, one_holder_at_each_key, parts_are_legal, reads_pass_at_each_key};
@@ -94,6 +94,12 @@ pub fn rest_joins()
     ensures { RestJoins }
 {}
 
+/// If only one pass took steps out of a shard of a streamed table, what a close leaves of the shard begins where its takes
+/// ended: after as many steps as it took.
+pub fn rest_follows_one_reader()
+    ensures { RestFollowsOneReader }
+{}
+
 /// In what a close gives, no two transactions hold a key's lock at the same point of its history.
 pub fn one_holder_at_close()
     ensures { OneHolderAtClose }
@@ -109,6 +115,11 @@ pub fn reads_pass_at_close()
     reads_pass_at_each_key();
 }
 
+/// A pass makes no step when it only sees more, nor when it takes stored steps out.
+pub fn no_step_is_made()
+    ensures { NoStepIsMade }
+{}
+
 /// Each call of a pass extends what the pass did.
 pub fn lives_go_on()
     ensures { LivesGoOn }
@@ -120,9 +131,9 @@ pub fn each_step_is_reported_once()
     ensures { EachStepIsReportedOnce }
 {}
 
-/// The main theorem. Each key step that a returned call reports stands with its reply in one legal table history, once
-/// and after all that its caller had seen; a request read as let through was let through in that history; no key ever
-/// has two holders; and a reader passes another transaction's lock only where its timestamp is below the lock's.
+/// The main theorem. In every schedule: each key step that a call reports is in one legal history of all steps: with its
+/// reply, once, and after everything that its caller had seen; a request that is read as let through was let through in
+/// that history; no key ever has two holders; a reader passes another transaction's lock only below the lock's timestamp.
 pub fn main_theorem()
     ensures { TheMainTheorem }
 {

@@ -1,6 +1,6 @@
 //! How are a table's steps taken out while it runs? Read next `specs/Taken.antt`.
-ghost use Rattle.std.specs.Prelude.{◌≡◌, ◌≢◌, ◌<◌, [], IfErr, OnErr, OnOk};
-ghost use Rattle.lt_words.specs.Row.{SeesMore};
+ghost use Rattle.std.specs.Prelude.{◌≡◌, ◌≢◌, ◌<◌, [], length, IfErr, OnErr, OnOk};
+ghost use Rattle.lt_words.specs.Row.{SeesMore, MakesNoStep, TakesOut, AreGone};
 ghost use Rattle.lt_table_core.specs.Taken.{IsTaken, reader_after};
 
 use crate::table::Table;
@@ -42,7 +42,10 @@ impl<N: Name, T: KeyTable, W: Waker> Table<N, T, W> {
         requires keeping { N.of.keeping ≢ Keeping.Whole }
         requires empty { steps.old.items ≡ [] }
         ensures taken { IsTaken shard pass.new.seen result steps.new.items }
-        ensures more { SeesMore pass.old pass.new }
+        // A streamed table gives each step out once: the take begins where the takes before it ended.
+        ensures took { N.of.keeping ≡ Keeping.Streamed → TakesOut pass.old pass.new shard result (length steps.new.items) }
+        ensures none { N.of.keeping ≢ Keeping.Streamed → SeesMore pass.old pass.new }
+        ensures more { MakesNoStep pass.old pass.new }
     {
         let lock = &self.shards[shard].lock;
         for _ in rt.forever() {
@@ -58,7 +61,7 @@ impl<N: Name, T: KeyTable, W: Waker> Table<N, T, W> {
     /// Takes out the steps that the reader was not given yet: all from `next` on in what the pass has then seen. So
     /// the pieces that a reader is given, one after the other, are the shard's history from its first step on,
     /// without a gap and with no step twice. `steps` is empty, and its room goes to the shard, as in
-    /// [`Table::take_history`]. On an `Err` nothing changed.
+    /// [`Table::take_history`]. On an `Err` nothing was taken, and the reader stays where it was.
     pub fn take_next<R: Wait>(
         &self,
         rt: &R,
@@ -72,10 +75,12 @@ impl<N: Name, T: KeyTable, W: Waker> Table<N, T, W> {
         requires empty { steps.old.items ≡ [] }
         ensures taken { OnOk result (IsTaken reader.old.shard pass.new.seen reader.old.next steps.new.items) }
         ensures next { OnOk result (reader.new ≡ reader_after reader.old steps.new.items) }
-        ensures more { SeesMore pass.old pass.new }
-        // The number of steps that are gone is not the number that the reader was given.
-        ensures gone { IfErr result (λ e. e.0 ≢ reader.old.next) }
-        ensures err { OnErr result ((reader.new ≡ reader.old) × (pass.new ≡ pass.old) × (steps.new ≡ steps.old)) }
+        ensures took { OnOk result (N.of.keeping ≡ Keeping.Streamed → TakesOut pass.old pass.new reader.old.shard reader.old.next (length steps.new.items)) }
+        ensures none { N.of.keeping ≢ Keeping.Streamed → SeesMore pass.old pass.new }
+        ensures more { MakesNoStep pass.old pass.new }
+        // So many steps are gone in what the pass has then seen, and the reader was not given so many.
+        ensures gone { IfErr result (λ e. AreGone N.of.keeping pass.new reader.old.shard e.0 × (e.0 ≢ reader.old.next)) }
+        ensures err { OnErr result ((reader.new ≡ reader.old) × SeesMore pass.old pass.new × (steps.new ≡ steps.old)) }
     {
         let index = reader.shard;
         let lock = &self.shards[index].lock;

@@ -7,7 +7,7 @@ use crate::guard::Guard;
 use crate::scan_results::Poll;
 use crate::table::Table;
 use lt_rules::KeyTable;
-use lt_words::{Name, Waker};
+use lt_words::{Announced, LookedAgain, Name, Waker};
 use std::hint;
 use std::sync::Wait;
 use std::time::{Clock, Duration, Instant};
@@ -41,18 +41,29 @@ impl<N: Name, T: KeyTable, W: Waker> Table<N, T, W> {
         found
     }
 
-    /// Polls once. If the request waits, sleeps until it may have been let through.
+    /// The poll of a request whose caller has announced that it will sleep.
+    fn poll_again(&self, guard: &mut Guard, announced: Announced) -> (Poll, LookedAgain)
+        requires pass { guard.old.pass.of ≡ N.of }
+        ensures poll { IsPoll guard.old guard.new result.0 }
+        ensures through { result.0 ≡ Poll.Through → SeesLet guard.new.pass guard.new.walk }
+    {
+        guard.walk.sound();
+        let (word, looked) = self.book.look_again(&mut guard.pass, announced);
+        (guard.walk.poll(word), looked)
+    }
+
+    /// Polls once. If the request waits, sleeps until it may have been let through, or its caller is interrupted.
     fn poll_or_sleep<R: Wait>(&self, rt: &R, guard: &mut Guard) -> Poll
         requires pass { guard.old.pass.of ≡ N.of }
         ensures poll { IsPoll guard.old guard.new result }
         ensures through { result ≡ Poll.Through → SeesLet guard.new.pass guard.new.walk }
     {
-        self.book.prepare(&guard.pass);
-        let found = self.poll(guard);
+        let announced = self.book.prepare(&guard.pass);
+        let (found, looked) = self.poll_again(guard, announced);
         if found == Poll::Waiting {
-            self.book.sleep(rt, &guard.pass);
+            self.book.sleep(rt, &guard.pass, looked);
         } else {
-            self.book.cancel(&guard.pass);
+            self.book.cancel(&guard.pass, looked);
         }
         found
     }
@@ -63,19 +74,19 @@ impl<N: Name, T: KeyTable, W: Waker> Table<N, T, W> {
         ensures poll { IsPoll guard.old guard.new result }
         ensures through { result ≡ Poll.Through → SeesLet guard.new.pass guard.new.walk }
     {
-        self.book.prepare(&guard.pass);
-        let found = self.poll(guard);
+        let announced = self.book.prepare(&guard.pass);
+        let (found, looked) = self.poll_again(guard, announced);
         if found == Poll::Waiting {
-            self.book.sleep_for(rt, &guard.pass, time);
+            self.book.sleep_for(rt, &guard.pass, looked, time);
         } else {
-            self.book.cancel(&guard.pass);
+            self.book.cancel(&guard.pass, looked);
         }
         found
     }
 
     /// Polls a few times, and then sleeps until the request is let through. Answers `Through`, or `Idle` if the
     /// request does not wait; never `Waiting`. To the proofs it is one [`Table::poll`] with that answer. It holds
-    /// no lock and allocates nothing.
+    /// no lock and allocates nothing. No interrupt ends it: it takes those that come.
     ///
     /// No wake-up is lost. A wait announces that it will sleep, polls once more, and then sleeps. A step shows its
     /// lets, and then checks which of their callers have announced that they will sleep. The operations of both are
@@ -92,13 +103,43 @@ impl<N: Name, T: KeyTable, W: Waker> Table<N, T, W> {
             if found != Poll::Waiting {
                 return found;
             }
+            self.book.take_interrupt(&guard.pass);
             found = self.poll_or_sleep(rt, guard);
         }
         unreachable!()
     }
 
-    /// [`Table::wait`] up to a deadline of the monotonic clock. After the deadline, or if the clock cannot be read,
-    /// answers what a last poll finds, which may be `Waiting`.
+    /// [`Table::wait`], until the pass of the request is interrupted ([`Table::interrupt`]). Then answers what its
+    /// latest poll found, which may be `Waiting`.
+    pub fn wait_interruptibly<R: Wait>(&self, rt: &R, guard: &mut Guard) -> Poll
+        requires pass { guard.old.pass.of ≡ N.of }
+        ensures poll { IsPoll guard.old guard.new result }
+        ensures through { result ≡ Poll.Through → SeesLet guard.new.pass guard.new.walk }
+        ensures stays { GuardStays guard.old guard.new }
+    {
+        let mut found = self.poll_some(guard);
+        for _ in rt.forever() {
+            if found != Poll::Waiting || self.book.take_interrupt(&guard.pass) {
+                return found;
+            }
+            found = self.poll_or_sleep(rt, guard);
+        }
+        unreachable!()
+    }
+
+    /// Ends a wait without a let: the [`Table::wait_interruptibly`] or [`Table::wait_until`] of the request in the pass
+    /// with this number answers `Waiting`. If the pass is in no such wait, its next one ends at once. A second interrupt
+    /// before that one ends adds nothing. No pass above the table's is there to be interrupted.
+    ///
+    /// No history says anything of it: the request stays in its queues, and may be let through later. So a store tells a
+    /// request that it is to give up by a word of its own, and then interrupts its pass. `interrupt` takes no lock and
+    /// never blocks.
+    pub fn interrupt(&self, pass: u32) {
+        self.book.interrupt(pass);
+    }
+
+    /// [`Table::wait_interruptibly`] up to a deadline of the monotonic clock. After the deadline, or if the clock cannot
+    /// be read, answers what a last poll finds, which may be `Waiting`.
     pub fn wait_until<R: Wait + Clock>(&self, rt: &R, guard: &mut Guard, deadline: Instant) -> Poll
         requires pass { guard.old.pass.of ≡ N.of }
         ensures poll { IsPoll guard.old guard.new result }
@@ -107,7 +148,7 @@ impl<N: Name, T: KeyTable, W: Waker> Table<N, T, W> {
     {
         let mut found = self.poll_some(guard);
         for _ in rt.forever() {
-            if found != Poll::Waiting {
+            if found != Poll::Waiting || self.book.take_interrupt(&guard.pass) {
                 return found;
             }
             let Some(left) = time_left(rt, deadline) else {

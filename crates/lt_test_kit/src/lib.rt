@@ -4,6 +4,7 @@
 //!   a pass or its guard. [`play`] plays one command on a seat and reports the outcome of the call. [`asking`]
 //!   asks a running table for the state of a key or the keys of a shard. [`key`] maps a byte to a key. [`run`]
 //!   plays a list of commands and then closes the table.
+//! - **One request.** [`request`] has a lock held, and a request come and go.
 //! - **Small parts.** [`replay`] repeats the steps of a history, [`plain`] makes the plain tables of a table's
 //!   shards, and [`random`] is a pseudorandom stream that is the same in each run.
 #![tactic(auto)]
@@ -16,5 +17,6 @@ pub mod plain;
 pub mod play;
 pub mod random;
 pub mod replay;
+pub mod request;
 pub mod run;
 pub mod seat;

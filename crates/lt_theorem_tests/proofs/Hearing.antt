@@ -3,7 +3,7 @@ use Rattle.std.proofs.Common.{◌≡◌, ◌≢◌, ℕ, Bool, true, false, nat_
 use Rattle.std.proofs.lemmas.List.{map-append}
 use Rattle.lt_ids.specs.Ids.{Wait}
 use Rattle.lt_rules.specs.declared.call.Call.{Call}
-use Rattle.lt_words.specs.Row.{PassState, SeesMore, fresh}
+use Rattle.lt_words.specs.Row.{PassState, SeesMore, MakesNoStep, fresh}
 use Rattle.lt_words.specs.History.{LetIn}
 use Rattle.lt_shard.specs.declared.answer.Answer.{Answer}
 use Rattle.lt_table_core.specs.declared.walk_progress.Mode.{Mode}
@@ -66,10 +66,14 @@ told_steps law p q answers lets steps reported w =
 pub told_call : HearingGoesOn → (p q : PassState) (answers : List Answer) (lets : List ℕ) (key : List ℕ) (call : Call) (answer : Answer) → ReportsCall p q key call answer → WasTold p answers lets → WasTold q (answers ++ answer ∷ []) lets
 told_call law p q answers lets key call answer reports w = told_steps law p q answers lets (record { key = key; call = call; answer = answer } ∷ []) (q, reports, refl) w
 
+-- what a pass only saw is no step of its
+no_step : (p q : PassState) → SeesMore p q → MakesNoStep p q
+no_step p q m = record { of = m.of; number = m.number; counts = m.counts; seen = m.seen; shown = m.shown; takes = m.takes }
+
 pub told_more : HearingGoesOn → (p q : PassState) (answers : List Answer) (lets : List ℕ) → SeesMore p q → WasTold p answers lets → WasTold q answers lets
 told_more law p q answers lets more w = record {
   told = w.told;
-  heard = heard_as p q w.told more.of more.number ((law (fresh p.of p.number) p q w.told w.heard).0 more);
+  heard = heard_as p q w.told more.of more.number ((law (fresh p.of p.number) p q w.told w.heard).0 (no_step p q more));
   answers_are = w.answers_are;
   lets_are = w.lets_are;
 }
@@ -79,7 +83,7 @@ told_let law p q answers lets t more through w =
     let all : steps_told (w.told ++ WasLet t ∷ []) ≡ steps_told w.told = steps_told-append w.told (WasLet t ∷ []) ∙ append-nil (steps_told w.told) in
     record {
       told = w.told ++ WasLet t ∷ [];
-      heard = heard_as p q (w.told ++ WasLet t ∷ []) more.of more.number ((law (fresh p.of p.number) p q w.told w.heard).2 t more through);
+      heard = heard_as p q (w.told ++ WasLet t ∷ []) more.of more.number ((law (fresh p.of p.number) p q w.told w.heard).2 t (no_step p q more) through);
       answers_are = w.answers_are ∙ sym (ap (map answer_of) all);
       lets_are = ap (λ ns. ns ++ t.number ∷ []) w.lets_are ∙ sym (ap (map (λ u. u.number)) (lets_told-append w.told (WasLet t ∷ [])) ∙ map-append (λ u. u.number) (lets_told w.told) (t ∷ []));
     }

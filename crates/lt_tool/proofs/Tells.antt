@@ -1,6 +1,6 @@
 -- What the answers of an output and its histories say of one another.
-use Rattle.std.proofs.Common.{◌≡◌, ◌≢◌, ℕ, suc, ◌+◌, ◌<◌, Bool, true, List, [], ◌∷◌, ◌++◌, length, map, Option, Some, None, Result, Ok, Err, inl, inr, refl, sym, ap, subst, ◌∙◌}
-use Rattle.std.specs.Prelude.{slice_get}
+use Rattle.std.proofs.Common.{◌≡◌, ◌≢◌, ℕ, suc, ◌+◌, ◌<◌, List, [], ◌∷◌, ◌++◌, length, map, Option, Some, None, Result, Ok, Err, inl, inr, refl, sym, ap, subst, ◌∙◌}
+use Rattle.std.specs.Prelude.{slice_get, ◌⊎◌}
 use Rattle.std.specs.Global.{Vec}
 use Rattle.std.specs.List.{flat_map, AllByRecursion}
 use Rattle.std.proofs.lemmas.List.{map-append}
@@ -28,15 +28,17 @@ use Rattle.lt_runner.specs.declared.outcome.Finish.TheVariants.{Done, TurnsOut}
 use Rattle.lt_runner.specs.Machine.{Rules, ExecutedLine, Runs, IsLineDone, IsToldAt, IsScanAnswer, IsLookAt, poll_answer, index_of, lets_of, lets_of_executed, numbers_of}
 use Rattle.lt_runner.specs.Laws.{latest_number, HasNumber, HaveLatest, IsCallOf}
 use Rattle.lt_runner.specs.Standing.{made_by, made_from, IsInFinalHistory, IsLetThere, TicketsAreLet, Apart, NumbersDiffer, run_numbers}
+use Rattle.lt_runner.specs.Gates.{GateAnswers, MayRefuseNext, MayRun, NeverRefuses}
 use Rattle.lt_runner.specs.Worked.{is_turns, line_of_executed, steps_of_executed, answer_line, pass_lines, HasEnded, EndsInTurns}
 use Rattle.lt_runner.specs.Worked as worked
+use Rattle.lt_runner.specs.Turns.{IsAmong}
 use Rattle.lt_runner.specs.Closing.{finish_all, join}
 use Rattle.lt_runner.specs.Ran.{AreAnswered, all_entries}
 use Rattle.lt_runner.proofs.Latest.{numbers_latest}
 use Rattle.lt_runner.proofs.Replying.{reply_step, let_ticket}
 use Rattle.lt_runner.proofs.Waiting.{waiting_visit, long_visit}
 use Rattle.lt_tool.specs.Output.{IsOutput, rules_of_options}
-use Rattle.lt_tool.specs.Laws.{Answered, command_of, answered_line, AreAnswerPrefixes, StandsInHistories, IsAsked, LineHasStep, LineEndsInVisit, WasLet, AnswerTells, AllTell, EachTells, indices_of, numbers_in, IndicesRise, NoAnswerIsTurns, SomeTurns, TellsAll, OutputTells}
+use Rattle.lt_tool.specs.Laws.{Answered, command_of, answered_line, AreAnswerPrefixes, StandsInHistories, IsAsked, LineHasStep, LineEndsInVisit, WasLet, AnswerTells, AllTell, EachTells, indices_of, numbers_in, IndicesRise, NoAnswerIsTurns, LastIsTurns, IsStopped, SomeStopped, SomeTurns, TellsAll, OutputTells}
 use Rattle.lt_tool.proofs.Places.{finals_of, index, made_index, joined_at, step_there, all_within, all_differ, all_rise, made_indices, all_left, all_right, apart_left, apart_right, all_counted, before}
 
 -- ---- which lines have such an answer
@@ -281,7 +283,7 @@ module _ (shards : ℕ) (hs : List (Vec Entry)) where
   no_turns_in [] h = tt
   no_turns_in (d ∷ ds) h = (h.0, no_turns_in ds h.1)
 
-  turns_last : (ds : List ExecutedLine) → EndsInTurns ds → (prefix : List Answered) × (last : Answered) × (map done_of ds ≡ prefix ++ last ∷ []) × (is_turns last.answer ≡ true)
+  turns_last : (ds : List ExecutedLine) → EndsInTurns ds → LastIsTurns (map done_of ds)
   turns_last ds h = (map done_of h.prefix, done_of h.last, ap (map done_of) h.all ∙ map-append done_of h.prefix (h.last ∷ []), ap is_turns h.turns)
 
   -- ---- all passes
@@ -308,15 +310,15 @@ module _ (shards : ℕ) (hs : List (Vec Entry)) where
         each_rises (n + 1) dss (all_right (IsInFinalHistory shards (finals_of hs)) (map (made_by n) (flat_map steps_of_executed ds)) (made_from (n + 1) dss) f) (apart_right shards (map (made_by n) (flat_map steps_of_executed ds)) (made_from (n + 1) dss) a),
       )
 
-  each_tells : (rules : Rules) (always : Bool) (cs : List Command) (n : ℕ) (dss : List (List ExecutedLine)) (gs : List (Vec AnswerLine)) (fs : List Finish) → AreAnswered rules always cs n dss gs fs → AllByRecursion (IsInFinalHistory shards (finals_of hs)) (made_from n dss) → TicketsAreLet (finals_of hs) n dss → EachTells (all_entries hs) n (all_done dss)
-  each_tells rules always cs n [] [] [] h f lets = tt
-  each_tells rules always cs n [] [] (x ∷ fs) h f lets = absurd h
-  each_tells rules always cs n [] (g ∷ gs) fs h f lets = absurd h
-  each_tells rules always cs n (ds ∷ dss) [] fs h f lets = absurd h
-  each_tells rules always cs n (ds ∷ dss) (g ∷ gs) [] h f lets = absurd h
-  each_tells rules always cs n (ds ∷ dss) (g ∷ gs) (x ∷ fs) h f lets = (
+  each_tells : (rules : Rules) (gate : GateAnswers) (cs : List Command) (n : ℕ) (dss : List (List ExecutedLine)) (gs : List (Vec AnswerLine)) (fs : List Finish) → AreAnswered rules gate cs n dss gs fs → AllByRecursion (IsInFinalHistory shards (finals_of hs)) (made_from n dss) → TicketsAreLet (finals_of hs) n dss → EachTells (all_entries hs) n (all_done dss)
+  each_tells rules gate cs n [] [] [] h f lets = tt
+  each_tells rules gate cs n [] [] (x ∷ fs) h f lets = absurd h
+  each_tells rules gate cs n [] (g ∷ gs) fs h f lets = absurd h
+  each_tells rules gate cs n (ds ∷ dss) [] fs h f lets = absurd h
+  each_tells rules gate cs n (ds ∷ dss) (g ∷ gs) [] h f lets = absurd h
+  each_tells rules gate cs n (ds ∷ dss) (g ∷ gs) (x ∷ fs) h f lets = (
     all_tell rules n None None h.0.after ds h.0.runs (numbers_latest rules ds h.0.after h.0.runs) (all_left (IsInFinalHistory shards (finals_of hs)) (map (made_by n) (flat_map steps_of_executed ds)) (made_from (n + 1) dss) f) lets.0,
-    each_tells rules always cs (n + 1) dss gs fs h.1 (all_right (IsInFinalHistory shards (finals_of hs)) (map (made_by n) (flat_map steps_of_executed ds)) (made_from (n + 1) dss) f) lets.1,
+    each_tells rules gate cs (n + 1) dss gs fs h.1 (all_right (IsInFinalHistory shards (finals_of hs)) (map (made_by n) (flat_map steps_of_executed ds)) (made_from (n + 1) dss) f) lets.1,
   )
 
   -- Each pass ended in this way.
@@ -328,68 +330,97 @@ module _ (shards : ℕ) (hs : List (Vec Entry)) where
   all_ended (Done ∷ fs) e = (refl, all_ended fs e)
   all_ended (TurnsOut ∷ fs) e = absurd (cc e)
 
-  whole_prefix : (always : Bool) (ds : List ExecutedLine) (rest : List Command) (f : Finish) → HasEnded always ds rest f → f ≡ Done → (rest ≡ []) × worked.NoTurns ds
-  whole_prefix always ds rest Done h e = h
-  whole_prefix always ds rest TurnsOut h e = absurd (cc e)
+  whole_prefix : (gate : GateAnswers) (ds : List ExecutedLine) (rest : List Command) (f : Finish) → HasEnded gate ds rest f → f ≡ Done → (rest ≡ []) × worked.NoTurns ds
+  whole_prefix gate ds rest Done h e = h
+  whole_prefix gate ds rest TurnsOut h e = absurd (cc e)
 
-  prefixes : (rules : Rules) (always : Bool) (cs : List Command) (finish : Finish) (n : ℕ) (dss : List (List ExecutedLine)) (gs : List (Vec AnswerLine)) (fs : List Finish) → AreAnswered rules always cs n dss gs fs → (finish ≡ Done → AllDone fs) → AreAnswerPrefixes finish cs n gs (all_done dss)
-  prefixes rules always cs finish n [] [] [] h d = tt
-  prefixes rules always cs finish n [] [] (x ∷ fs) h d = absurd h
-  prefixes rules always cs finish n [] (g ∷ gs) fs h d = absurd h
-  prefixes rules always cs finish n (ds ∷ dss) [] fs h d = absurd h
-  prefixes rules always cs finish n (ds ∷ dss) (g ∷ gs) [] h d = absurd h
-  prefixes rules always cs finish n (ds ∷ dss) (g ∷ gs) (x ∷ fs) h d = (
+  prefix_ended : (gate : GateAnswers) (ds : List ExecutedLine) (rest : List Command) (f : Finish) → HasEnded gate ds rest f → (rest ≡ []) ⊎ (LastIsTurns (map done_of ds) ⊎ MayRefuseNext gate rest)
+  prefix_ended gate ds rest Done h = inl h.0
+  prefix_ended gate ds rest TurnsOut (inl h) = inr (inl (turns_last ds h))
+  prefix_ended gate ds rest TurnsOut (inr h) = inr (inr h.0)
+
+  may_run : (gate : GateAnswers) (ds : List ExecutedLine) → AllByRecursion (λ d. MayRun gate d.line) ds → AllByRecursion (λ a. MayRun gate a.command) (map done_of ds)
+  may_run gate [] h = tt
+  may_run gate (d ∷ ds) h = (h.0, may_run gate ds h.1)
+
+  prefixes : (rules : Rules) (gate : GateAnswers) (cs : List Command) (finish : Finish) (n : ℕ) (dss : List (List ExecutedLine)) (gs : List (Vec AnswerLine)) (fs : List Finish) → AreAnswered rules gate cs n dss gs fs → (finish ≡ Done → AllDone fs) → AreAnswerPrefixes gate finish cs n gs (all_done dss)
+  prefixes rules gate cs finish n [] [] [] h d = tt
+  prefixes rules gate cs finish n [] [] (x ∷ fs) h d = absurd h
+  prefixes rules gate cs finish n [] (g ∷ gs) fs h d = absurd h
+  prefixes rules gate cs finish n (ds ∷ dss) [] fs h d = absurd h
+  prefixes rules gate cs finish n (ds ∷ dss) (g ∷ gs) [] h d = absurd h
+  prefixes rules gate cs finish n (ds ∷ dss) (g ∷ gs) (x ∷ fs) h d = (
     record {
       rest = h.0.rest;
       all = h.0.all ∙ ap (λ (l : List Command). l ++ h.0.rest) (sym (commands_are ds));
       given_are = h.0.answers_are ∙ sym (lines_are ds);
-      whole = λ e. (whole_prefix always ds h.0.rest x h.0.ended (d e).0).0;
+      may_run = may_run gate ds h.0.may_run;
+      ended = prefix_ended gate ds h.0.rest x h.0.ended;
+      whole = λ e. (whole_prefix gate ds h.0.rest x h.0.ended (d e).0).0;
     },
-    prefixes rules always cs finish (n + 1) dss gs fs h.1 (λ e. (d e).1),
+    prefixes rules gate cs finish (n + 1) dss gs fs h.1 (λ e. (d e).1),
   )
 
-  without_turns : (rules : Rules) (always : Bool) (cs : List Command) (n : ℕ) (dss : List (List ExecutedLine)) (gs : List (Vec AnswerLine)) (fs : List Finish) → AreAnswered rules always cs n dss gs fs → AllDone fs → AllByRecursion NoAnswerIsTurns (all_done dss)
-  without_turns rules always cs n [] [] [] h d = tt
-  without_turns rules always cs n [] [] (x ∷ fs) h d = absurd h
-  without_turns rules always cs n [] (g ∷ gs) fs h d = absurd h
-  without_turns rules always cs n (ds ∷ dss) [] fs h d = absurd h
-  without_turns rules always cs n (ds ∷ dss) (g ∷ gs) [] h d = absurd h
-  without_turns rules always cs n (ds ∷ dss) (g ∷ gs) (x ∷ fs) h d = (no_turns_in ds (whole_prefix always ds h.0.rest x h.0.ended d.0).1, without_turns rules always cs (n + 1) dss gs fs h.1 d.1)
+  without_turns : (rules : Rules) (gate : GateAnswers) (cs : List Command) (n : ℕ) (dss : List (List ExecutedLine)) (gs : List (Vec AnswerLine)) (fs : List Finish) → AreAnswered rules gate cs n dss gs fs → AllDone fs → AllByRecursion NoAnswerIsTurns (all_done dss)
+  without_turns rules gate cs n [] [] [] h d = tt
+  without_turns rules gate cs n [] [] (x ∷ fs) h d = absurd h
+  without_turns rules gate cs n [] (g ∷ gs) fs h d = absurd h
+  without_turns rules gate cs n (ds ∷ dss) [] fs h d = absurd h
+  without_turns rules gate cs n (ds ∷ dss) (g ∷ gs) [] h d = absurd h
+  without_turns rules gate cs n (ds ∷ dss) (g ∷ gs) (x ∷ fs) h d = (no_turns_in ds (whole_prefix gate ds h.0.rest x h.0.ended d.0).1, without_turns rules gate cs (n + 1) dss gs fs h.1 d.1)
 
-  one_turns : (always : Bool) (ds : List ExecutedLine) (dss : List (List ExecutedLine)) (rest : List Command) (f : Finish) (others : Finish) → always ≡ true → HasEnded always ds rest f → join f others ≡ TurnsOut → (others ≡ TurnsOut → SomeTurns (all_done dss)) → SomeTurns (all_done (ds ∷ dss))
-  one_turns always ds dss rest Done others sure h e later = inr (later e)
-  one_turns always ds dss rest TurnsOut others sure (inl h) e later = inl (turns_last ds h)
-  one_turns always ds dss rest TurnsOut others sure (inr h) e later = absurd (let no = h.0 in cc (sure, no))
+  stopped_at : (gate : GateAnswers) (lines : List Command) (ds : List ExecutedLine) (rest : List Command) → lines ≡ map line_of_executed ds ++ rest → LastIsTurns (map done_of ds) ⊎ MayRefuseNext gate rest → IsStopped gate lines (map done_of ds)
+  stopped_at gate lines ds rest all why = record { rest = rest; all = all ∙ ap (λ (l : List Command). l ++ rest) (sym (commands_are ds)); why = why }
 
-  some_turns : (rules : Rules) (always : Bool) (cs : List Command) (n : ℕ) (dss : List (List ExecutedLine)) (gs : List (Vec AnswerLine)) (fs : List Finish) → AreAnswered rules always cs n dss gs fs → always ≡ true → finish_all fs ≡ TurnsOut → SomeTurns (all_done dss)
-  some_turns rules always cs n [] [] [] h sure e = absurd (cc e)
-  some_turns rules always cs n [] [] (x ∷ fs) h sure e = absurd h
-  some_turns rules always cs n [] (g ∷ gs) fs h sure e = absurd h
-  some_turns rules always cs n (ds ∷ dss) [] fs h sure e = absurd h
-  some_turns rules always cs n (ds ∷ dss) (g ∷ gs) [] h sure e = absurd h
-  some_turns rules always cs n (ds ∷ dss) (g ∷ gs) (x ∷ fs) h sure e = one_turns always ds dss h.0.rest x (finish_all fs) sure h.0.ended e (some_turns rules always cs (n + 1) dss gs fs h.1 sure)
+  one_stopped : (gate : GateAnswers) (cs : List Command) (n : ℕ) (ds : List ExecutedLine) (dss : List (List ExecutedLine)) (rest : List Command) (f others : Finish) → pass_lines n cs ≡ map line_of_executed ds ++ rest → HasEnded gate ds rest f → join f others ≡ TurnsOut → (others ≡ TurnsOut → SomeStopped gate cs (n + 1) (all_done dss)) → SomeStopped gate cs n (all_done (ds ∷ dss))
+  one_stopped gate cs n ds dss rest Done others all h e later = inr (later e)
+  one_stopped gate cs n ds dss rest TurnsOut others all (inl h) e later = inl (stopped_at gate (pass_lines n cs) ds rest all (inl (turns_last ds h)))
+  one_stopped gate cs n ds dss rest TurnsOut others all (inr h) e later = inl (stopped_at gate (pass_lines n cs) ds rest all (inr h.0))
+
+  some_stopped : (rules : Rules) (gate : GateAnswers) (cs : List Command) (n : ℕ) (dss : List (List ExecutedLine)) (gs : List (Vec AnswerLine)) (fs : List Finish) → AreAnswered rules gate cs n dss gs fs → finish_all fs ≡ TurnsOut → SomeStopped gate cs n (all_done dss)
+  some_stopped rules gate cs n [] [] [] h e = absurd (cc e)
+  some_stopped rules gate cs n [] [] (x ∷ fs) h e = absurd h
+  some_stopped rules gate cs n [] (g ∷ gs) fs h e = absurd h
+  some_stopped rules gate cs n (ds ∷ dss) [] fs h e = absurd h
+  some_stopped rules gate cs n (ds ∷ dss) (g ∷ gs) [] h e = absurd h
+  some_stopped rules gate cs n (ds ∷ dss) (g ∷ gs) (x ∷ fs) h e = one_stopped gate cs n ds dss h.0.rest x (finish_all fs) h.0.all h.0.ended e (some_stopped rules gate cs (n + 1) dss gs fs h.1)
+
+-- ---- a gate that refuses no line
+
+only_turns : (gate : GateAnswers) (done : List Answered) (rest : List Command) → NeverRefuses gate → LastIsTurns done ⊎ MayRefuseNext gate rest → LastIsTurns done
+only_turns gate done rest sure (inl h) = h
+only_turns gate done [] sure (inr h) = absurd h
+only_turns gate done (c ∷ rest) sure (inr h) = absurd (sure c h)
+
+stopped_turns : (gate : GateAnswers) (cs : List Command) (n : ℕ) (done : List (List Answered)) → NeverRefuses gate → SomeStopped gate cs n done → SomeTurns done
+stopped_turns gate cs n [] sure h = h
+stopped_turns gate cs n (as' ∷ done) sure (inl h) = inl (only_turns gate as' h.rest sure h.why)
+stopped_turns gate cs n (as' ∷ done) sure (inr h) = inr (stopped_turns gate cs (n + 1) done sure h)
 
 -- ---- the law
 
-tells_ran : (options : Options) (always : Bool) (commands : List Command) (text : List ℕ) (finish : Finish) (o : IsOutput options always commands text finish) → TellsAll always commands o.ran.answers.items (all_entries o.ran.histories.items) finish
-tells_ran options always commands text finish o =
+tells_ran : (options : Options) (gate : GateAnswers) (commands : List Command) (text : List ℕ) (finish : Finish) (o : IsOutput options gate commands text finish) → TellsAll gate commands o.ran.answers.items (all_entries o.ran.histories.items) finish
+tells_ran options gate commands text finish o =
     let r = o.is_ran in
     let shards : ℕ = options.shards in
     let hs : List (Vec Entry) = o.ran.histories.items in
     let all : flat_map indices_of (all_done shards hs r.lines_done) ≡ map (made_index shards hs) (made_from 1 r.lines_done) = all_indices shards hs 1 r.lines_done in
     let ended : finish ≡ finish_all r.finishes = o.finish_is ∙ r.finish in
+    let stopped : finish ≡ TurnsOut → SomeStopped gate commands 1 (all_done shards hs r.lines_done) = λ e. some_stopped shards hs (rules_of_options options) gate commands 1 r.lines_done o.ran.answers.items r.finishes r.answered (sym ended ∙ e) in
     let many : length (made_from 1 r.lines_done) ≡ length (all_entries hs) = all_counted shards 1 hs r.lines_done r.many r.stand.stand r.all in
     record {
       done = all_done shards hs r.lines_done;
-      prefixes = prefixes shards hs (rules_of_options options) always commands finish 1 r.lines_done o.ran.answers.items r.finishes r.answered (λ e. all_ended shards hs r.finishes (sym ended ∙ e));
-      each = each_tells shards hs (rules_of_options options) always commands 1 r.lines_done o.ran.answers.items r.finishes r.answered r.stand.stand r.stand.lets;
+      among = subst (λ (n : ℕ). AllByRecursion (IsAmong n) commands) (sym (many_map (map (done_of shards hs)) r.lines_done)) r.among;
+      prefixes = prefixes shards hs (rules_of_options options) gate commands finish 1 r.lines_done o.ran.answers.items r.finishes r.answered (λ e. all_ended shards hs r.finishes (sym ended ∙ e));
+      each = each_tells shards hs (rules_of_options options) gate commands 1 r.lines_done o.ran.answers.items r.finishes r.answered r.stand.stand r.stand.lets;
       within = subst (AllByRecursion (λ n. n < length (all_entries hs))) (sym all) (all_within shards hs (made_from 1 r.lines_done) r.stand.stand);
       once = subst NumbersDiffer (sym all) (all_differ shards hs (made_from 1 r.lines_done) r.stand.stand r.stand.apart);
       many = ap length all ∙ (many_map (made_index shards hs) (made_from 1 r.lines_done) ∙ many);
       rise = each_rises shards hs 1 r.lines_done r.stand.stand r.stand.apart;
       numbers = subst NumbersDiffer (sym (all_numbers shards hs r.lines_done)) r.stand.distinct;
-      no_turns = λ e. without_turns shards hs (rules_of_options options) always commands 1 r.lines_done o.ran.answers.items r.finishes r.answered (all_ended shards hs r.finishes (sym ended ∙ e));
-      turns = λ sure e. some_turns shards hs (rules_of_options options) always commands 1 r.lines_done o.ran.answers.items r.finishes r.answered sure (sym ended ∙ e);
+      no_turns = λ e. without_turns shards hs (rules_of_options options) gate commands 1 r.lines_done o.ran.answers.items r.finishes r.answered (all_ended shards hs r.finishes (sym ended ∙ e));
+      stopped = stopped;
+      turns = λ sure e. stopped_turns gate commands 1 (all_done shards hs r.lines_done) sure (stopped e);
     }
   where
     many_map : {A B : Type 0} (f : A → B) (xs : List A) → length (map f xs) ≡ length xs
@@ -397,4 +428,4 @@ tells_ran options always commands text finish o =
     many_map f (x ∷ xs) = ap (λ n. suc n) (many_map f xs)
 
 pub tells_all : OutputTells
-tells_all options always commands text finish o = subst (λ (es : List Entry). TellsAll always commands o.ran.answers.items es finish) (sym o.entries_are) (tells_ran options always commands text finish o)
+tells_all options gate commands text finish o = subst (λ (es : List Entry). TellsAll gate commands o.ran.answers.items es finish) (sym o.entries_are) (tells_ran options gate commands text finish o)

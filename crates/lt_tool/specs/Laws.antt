@@ -1,5 +1,5 @@
 -- What the answer lines and the histories of an output say of one another.
-use Rattle.std.specs.Prelude.{ℕ, ◌≡◌, ◌⊎◌, ◌+◌, ◌<◌, Bool, true, false, List, [], ◌∷◌, ◌++◌, length, map, Option, Some, None, slice_get}
+use Rattle.std.specs.Prelude.{ℕ, ◌≡◌, ◌⊎◌, ◌+◌, ◌<◌, true, false, List, [], ◌∷◌, ◌++◌, length, map, Option, Some, None, slice_get}
 use Rattle.std.specs.Global.{Vec}
 use Rattle.std.specs.List.{flat_map, AllByRecursion}
 use Rattle.lt_ids.specs.Ids.{Wait}
@@ -21,7 +21,9 @@ use Rattle.lt_runner.specs.declared.outcome.Finish.TheVariants.{Done, TurnsOut}
 use Rattle.lt_runner.specs.Machine.{numbers_of}
 use Rattle.lt_runner.specs.Laws.{latest_number, IsVisitOf}
 use Rattle.lt_runner.specs.Standing.{NumbersDiffer}
+use Rattle.lt_runner.specs.Gates.{GateAnswers, MayRefuseNext, MayRun, NeverRefuses}
 use Rattle.lt_runner.specs.Worked.{is_turns, pass_lines}
+use Rattle.lt_runner.specs.Turns.{IsAmong}
 use Rattle.lt_tool.specs.Output.{IsOutput}
 
 -- A line that was answered, and the indices of its steps in the histories, in their order.
@@ -38,19 +40,26 @@ answered_line a = record { line = a.command.line; answer = a.answer }
 
 -- ---- which lines are answered
 
--- The answers of a pass are those of a prefix of its lines, one for each line, in their order. If the run is done,
--- they are those of all its lines.
-pub record IsAnswerPrefix (finish : Finish) (lines : List Command) (given : List AnswerLine) (done : List Answered) : Type 0 where
+-- The last answer is `turns`.
+abbrev pub LastIsTurns : List Answered → Type 0
+LastIsTurns as' = (prefix : List Answered) × (last : Answered) × (as' ≡ prefix ++ last ∷ []) × (is_turns last.answer ≡ true)
+
+-- The answers of a pass are those of a prefix of its lines, one for each line, in their order. The gate may let each of
+-- these lines run. If lines are left, the last answer is `turns`, or the gate may refuse the first line that is left. If
+-- the run is done, none are left.
+pub record IsAnswerPrefix (gate : GateAnswers) (finish : Finish) (lines : List Command) (given : List AnswerLine) (done : List Answered) : Type 0 where
   pub rest : List Command
   pub all : lines ≡ map command_of done ++ rest
   pub given_are : given ≡ map answered_line done
+  pub may_run : AllByRecursion (λ a. MayRun gate a.command) done
+  pub ended : (rest ≡ []) ⊎ (LastIsTurns done ⊎ MayRefuseNext gate rest)
   pub whole : finish ≡ Done → rest ≡ []
 
 -- The same for all passes from this number on.
-abbrev pub AreAnswerPrefixes : Finish → List Command → ℕ → List (Vec AnswerLine) → List (List Answered) → Type 0
-AreAnswerPrefixes finish commands n [] [] = Unit {0}
-AreAnswerPrefixes finish commands n (g ∷ gs) (as' ∷ done) = IsAnswerPrefix finish (pass_lines n commands) g.items as' × AreAnswerPrefixes finish commands (n + 1) gs done
-AreAnswerPrefixes finish commands n _ _ = ⊥
+abbrev pub AreAnswerPrefixes : GateAnswers → Finish → List Command → ℕ → List (Vec AnswerLine) → List (List Answered) → Type 0
+AreAnswerPrefixes gate finish commands n [] [] = Unit {0}
+AreAnswerPrefixes gate finish commands n (g ∷ gs) (as' ∷ done) = IsAnswerPrefix gate finish (pass_lines n commands) g.items as' × AreAnswerPrefixes gate finish commands (n + 1) gs done
+AreAnswerPrefixes gate finish commands n _ _ = ⊥
 
 -- ---- what an answer says of the histories
 
@@ -142,17 +151,30 @@ NoAnswerIsTurns as' = AllByRecursion (λ a. is_turns a.answer ≡ false) as'
 -- The last answer of one of the passes is `turns`.
 abbrev pub SomeTurns : List (List Answered) → Type 0
 SomeTurns [] = ⊥
-SomeTurns (as' ∷ done) = ((prefix : List Answered) × (last : Answered) × (as' ≡ prefix ++ last ∷ []) × (is_turns last.answer ≡ true)) ⊎ SomeTurns done
+SomeTurns (as' ∷ done) = LastIsTurns as' ⊎ SomeTurns done
+
+-- The pass stopped after these of its lines: the last answer is `turns`, or the gate may refuse the next line.
+pub record IsStopped (gate : GateAnswers) (lines : List Command) (done : List Answered) : Type 0 where
+  pub rest : List Command
+  pub all : lines ≡ map command_of done ++ rest
+  pub why : LastIsTurns done ⊎ MayRefuseNext gate rest
+
+-- One of the passes from this number on stopped.
+abbrev pub SomeStopped : GateAnswers → List Command → ℕ → List (List Answered) → Type 0
+SomeStopped gate commands n [] = ⊥
+SomeStopped gate commands n (as' ∷ done) = IsStopped gate (pass_lines n commands) as' ⊎ SomeStopped gate commands (n + 1) done
 
 -- ---- all of it
 
--- Each pass is answered for its lines in their order. Each reply, `waiting`, `long` and `let` has in the histories
--- what it says. Each step of the histories belongs to exactly one line. Of one pass and key, the steps of a later
--- line come later. No number is answered twice. Some line is answered `turns` exactly if the run is not done,
--- unless a gate may end a pass.
-pub record TellsAll (always : Bool) (commands : List Command) (given : List (Vec AnswerLine)) (entries : List Entry) (finish : Finish) : Type 0 where
+-- Each command is of one of the passes. Each pass is answered for its lines in their order, up to a line `turns` or one
+-- that the gate may refuse. Each reply, `waiting`, `long` and `let` has in the histories what it says. Each step of the
+-- histories belongs to exactly one line. Of one pass and key, the steps of a later line come later. No number is answered
+-- twice. If the run is done, no line is answered `turns`. Otherwise one of the passes stopped, and if the gate refuses no
+-- line, its last answer is `turns`.
+pub record TellsAll (gate : GateAnswers) (commands : List Command) (given : List (Vec AnswerLine)) (entries : List Entry) (finish : Finish) : Type 0 where
   pub done : List (List Answered)
-  pub prefixes : AreAnswerPrefixes finish commands 1 given done
+  pub among : AllByRecursion (IsAmong (length done)) commands
+  pub prefixes : AreAnswerPrefixes gate finish commands 1 given done
   pub each : EachTells entries 1 done
   pub within : AllByRecursion (λ n. n < length entries) (flat_map indices_of done)
   pub once : NumbersDiffer (flat_map indices_of done)
@@ -160,8 +182,9 @@ pub record TellsAll (always : Bool) (commands : List Command) (given : List (Vec
   pub rise : AllByRecursion (λ as'. IndicesRise entries (indices_of as')) done
   pub numbers : NumbersDiffer (flat_map numbers_in done)
   pub no_turns : finish ≡ Done → AllByRecursion NoAnswerIsTurns done
-  pub turns : always ≡ true → finish ≡ TurnsOut → SomeTurns done
+  pub stopped : finish ≡ TurnsOut → SomeStopped gate commands 1 done
+  pub turns : NeverRefuses gate → finish ≡ TurnsOut → SomeTurns done
 
 abbrev pub OutputTells : Type 0
-OutputTells = (options : Options) (always : Bool) (commands : List Command) (text : List ℕ) (finish : Finish) →
-    (o : IsOutput options always commands text finish) → TellsAll always commands o.ran.answers.items o.legal.entries finish
+OutputTells = (options : Options) (gate : GateAnswers) (commands : List Command) (text : List ℕ) (finish : Finish) →
+    (o : IsOutput options gate commands text finish) → TellsAll gate commands o.ran.answers.items o.legal.entries finish

@@ -1,5 +1,5 @@
 -- What a run writes, and what the output means.
-use Rattle.std.specs.Prelude.{ℕ, ◌≡◌, ◌⊎◌, ◌<◌, ◌≤◌, ◌^◌, Bool, List, ◌++◌, length, Option, Some, None, IfSome, Result, Ok, Err, if◌then◌else◌}
+use Rattle.std.specs.Prelude.{ℕ, ◌≡◌, ◌⊎◌, ◌<◌, ◌≤◌, ◌^◌, List, ◌++◌, length, Option, Some, None, IfSome, Result, Ok, Err, if◌then◌else◌}
 use Rattle.std.specs.Io.KnownBytes.{Appends}
 use Rattle.lt_checker.specs.declared.checker.Report.{Report}
 use Rattle.lt_checker.specs.Histories.{IsTextOf}
@@ -16,6 +16,7 @@ use Rattle.lt_runner.specs.declared.outcome.RunFault.{RunFault}
 use Rattle.lt_runner.specs.declared.outcome.RunFault.TheVariants as faults
 use Rattle.lt_runner.specs.Machine.{Rules}
 use Rattle.lt_runner.specs.Ran.{IsRan, all_entries, run_rules}
+use Rattle.lt_runner.specs.Gates.{GateAnswers}
 use Rattle.lt_tool.specs.declared.input.Unread.{Unread}
 use Rattle.lt_tool.specs.declared.input.Unread.TheVariants as inputs
 use Rattle.lt_command_line.specs.declared.options.Options.{Options}
@@ -41,9 +42,9 @@ pub record IsComposed (ran : Ran) (text : List ℕ) (finish : Finish) : Type 0 w
 -- The commands were run. The text answers each command that was run, and ends with a text of legal histories in the
 -- latest version, which a check accepts. Its entries are those that the run left, and everything that the answers
 -- tell is in them.
-pub record IsOutput (options : Options) (always : Bool) (commands : List Command) (text : List ℕ) (finish : Finish) : Type 0 where
+pub record IsOutput (options : Options) (gate : GateAnswers) (commands : List Command) (text : List ℕ) (finish : Finish) : Type 0 where
   pub ran : Ran
-  pub is_ran : IsRan (rules_of_options options) always options.shards commands ran
+  pub is_ran : IsRan (rules_of_options options) gate options.shards commands ran
   pub finish_is : finish ≡ ran.finish
   pub histories : List ℕ
   pub report : Report
@@ -66,20 +67,20 @@ pub record IsScript (text : List ℕ) : Type 0 where
   pub are_of : IsShort text × (commands_of text ≡ Ok commands)
 
 -- The writer has received the output of the script and nothing else, and the run ended in this way.
-pub record WritesOutput (options : Options) (always : Bool) (finish : Finish) (script old new : Option (List ℕ)) : Type 0 where
+pub record WritesOutput (options : Options) (gate : GateAnswers) (finish : Finish) (script old new : Option (List ℕ)) : Type 0 where
   pub commands : List Command
   pub text : List ℕ
   pub are_of : AreCommandsOf commands script
-  pub output : IsOutput options always commands text finish
+  pub output : IsOutput options gate commands text finish
   pub written : Appends old new text
 
 -- The writer has received a prefix of the output of the script.
-pub record WritesInPart (options : Options) (always : Bool) (script old new : Option (List ℕ)) : Type 0 where
+pub record WritesInPart (options : Options) (gate : GateAnswers) (script old new : Option (List ℕ)) : Type 0 where
   pub commands : List Command
   pub text : List ℕ
   pub finish : Finish
   pub are_of : AreCommandsOf commands script
-  pub output : IsOutput options always commands text finish
+  pub output : IsOutput options gate commands text finish
   pub written : AppendsPrefix old new text
 
 -- Why a script was not run, if its bytes are known. A table is closed only after a script was run.

@@ -1,5 +1,5 @@
 -- What the program did for its words.
-use Rattle.std.specs.Prelude.{ℕ, ◌≡◌, true, List, Option, Some, None, Result, Ok, Err}
+use Rattle.std.specs.Prelude.{ℕ, ◌≡◌, List, Option, Some, None, Result, Ok, Err}
 use Rattle.std.specs.Io.KnownBytes.{Appends}
 use Rattle.std.specs.String.{string_bytes}
 use Rattle.lt_tool.specs.declared.check.CheckTextError.TheVariants as checks
@@ -9,6 +9,7 @@ use Rattle.lt_tool.specs.declared.script.RunError.TheVariants as runs
 use Rattle.lt_checker.specs.declared.checker.Report.{Report}
 use Rattle.lt_runner.specs.declared.outcome.Finish.{Finish}
 use Rattle.lt_runner.specs.declared.outcome.Finish.TheVariants.{Done}
+use Rattle.lt_runner.specs.Gates.{open_gate}
 use Rattle.lt_command_line.specs.declared.options.Options.{Options}
 use Rattle.lt_tool.specs.Check.{IsChecked, IsUnchecked, ToldInPart, IsUpgraded, UpgradedInPart, report_line}
 use Rattle.lt_command_line.specs.declared.words.Job.{Job}
@@ -32,7 +33,7 @@ pub record Upgraded (source old new : Option (List ℕ)) : Type 0 where
 
 -- Why a script was not run, and what was written then.
 abbrev pub IsFailedRun : Options → Failure → Option (List ℕ) → Option (List ℕ) → Option (List ℕ) → Type 0
-IsFailedRun options (failures.Run runs.Write) source old new = WritesInPart options true source old new
+IsFailedRun options (failures.Run runs.Write) source old new = WritesInPart options open_gate source old new
 IsFailedRun options (failures.Run e) source old new = IsScriptRefused e source
 IsFailedRun options _ source old new = ⊥
 
@@ -64,7 +65,7 @@ source_of (Some file) input = None
 
 -- The job was done, and ended in this way.
 abbrev pub JobIsDone : Job → Finish → Option (List ℕ) → Option (List ℕ) → Option (List ℕ) → Type 0
-JobIsDone (jobs.Run file options) finish input old new = WritesOutput options true finish (source_of file input) old new
+JobIsDone (jobs.Run file options) finish input old new = WritesOutput options open_gate finish (source_of file input) old new
 JobIsDone (jobs.Check file) finish input old new = (finish ≡ Done) × ReportIsWritten (source_of file input) old new
 JobIsDone (jobs.Upgrade file) finish input old new = (finish ≡ Done) × Upgraded (source_of file input) old new
 

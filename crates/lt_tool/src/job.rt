@@ -2,10 +2,11 @@
 //!
 //! [`perform`] reads the words, opens the file of the job or takes the input, and does the job by `script.rt` or
 //! `check.rt`. Read next: `specs/Work.antt`, which defines when a job is done and why it fails.
-ghost use Rattle.std.specs.Prelude.{◌≡◌, None, true, IfOk, IfErr};
+ghost use Rattle.std.specs.Prelude.{◌≡◌, None, IfOk, IfErr};
 ghost use Rattle.std.specs.Io.KnownBytes.{Appends};
 ghost use Rattle.lt_writer.specs.Puts.{AppendsPrefix};
 ghost use Rattle.lt_command_line.specs.Options.{AreInRange};
+ghost use Rattle.lt_runner.specs.Gates.{open_gate};
 ghost use Rattle.lt_tool.specs.Output.{WritesOutput};
 ghost use Rattle.lt_command_line.specs.Words.{HasOptionsInRange, texts};
 ghost use Rattle.lt_tool.specs.Work.{IsFailedRun, IsFailedCheck, IsFailedUpgrade, ReportIsWritten, Upgraded, LeavesOutput, JobIsDone, IsFailed, ReadsInput, AskForInput, Performs, WorkFails};
@@ -28,7 +29,7 @@ fn run_from<H: Threads + Wait + RandomSource + Sync, R: Read, W: Write>(
     options: &Options,
 ) -> Result<Finish, Failure>
     requires { AreInRange options.now }
-    ensures ok { IfOk result (λ finish. WritesOutput options.now true finish
+    ensures ok { IfOk result (λ finish. WritesOutput options.now open_gate finish
         (R.remaining input.old) (W.contents output.old) (W.contents output.new)) }
     ensures err { IfErr result (λ e. IsFailedRun options.now e
         (R.remaining input.old) (W.contents output.old) (W.contents output.new)) }
@@ -83,7 +84,7 @@ fn run_file<H: Threads + Wait + RandomSource + Sync, F: Files, W: Write>(
     options: &Options,
 ) -> Result<Finish, Failure>
     requires { AreInRange options.now }
-    ensures ok { IfOk result (λ finish. WritesOutput options.now true finish
+    ensures ok { IfOk result (λ finish. WritesOutput options.now open_gate finish
         None (W.contents output.old) (W.contents output.new)) }
     ensures err { IfErr result (λ e. IsFailedRun options.now e None (W.contents output.old) (W.contents output.new)) }
     ensures unwritten { IfErr result (λ e. LeavesOutput e → output.new ≡ output.old) }

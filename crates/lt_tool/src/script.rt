@@ -2,8 +2,9 @@
 //!
 //! [`run_script_with`] reads and checks the script, runs it, and writes the output that `table_run.rt` composed.
 //! Read next: `table_run.rt`, and `specs/Output.antt` for what is written.
-ghost use Rattle.std.specs.Prelude.{◌≡◌, ◌≢◌, true, IfOk, IfErr};
+ghost use Rattle.std.specs.Prelude.{◌≡◌, ◌≢◌, IfOk, IfErr};
 ghost use Rattle.lt_command_line.specs.Options.{AreInRange};
+ghost use Rattle.lt_runner.specs.Gates.{open_gate};
 ghost use Rattle.lt_tool.specs.Output.{WritesOutput, WritesInPart, IsScriptRefused, AreCommandsOf, RefusesFaultyScript, RefusesLongScript, unread_script, unscripted, unfinished};
 
 use crate::input::{Unread, read_text};
@@ -106,7 +107,7 @@ pub fn run_script_with<H: Threads + Wait + RandomSource + Sync, R: Read, W: Writ
 
     // Each line that was run is answered. Then comes a text of legal histories, which a check accepts and which
     // holds everything that the answers tell. Nothing else is written.
-    ensures done { IfOk result (λ finish. WritesOutput options.now (G.always gate.now) finish
+    ensures done { IfOk result (λ finish. WritesOutput options.now (G.may_answer gate.now) finish
         (R.remaining reader.old) (W.contents writer.old) (W.contents writer.new)) }
 
     // A text that is refused has this fault, and that on this line, first.
@@ -114,7 +115,7 @@ pub fn run_script_with<H: Threads + Wait + RandomSource + Sync, R: Read, W: Writ
     ensures unwritten { IfErr result (λ e. e ≢ RunError.Write → writer.new ≡ writer.old) }
 
     // If a write failed, the writer has received a prefix of the output.
-    ensures write { IfErr result (λ e. e ≡ RunError.Write → WritesInPart options.now (G.always gate.now)
+    ensures write { IfErr result (λ e. e ≡ RunError.Write → WritesInPart options.now (G.may_answer gate.now)
         (R.remaining reader.old) (W.contents writer.old) (W.contents writer.new)) }
 
     // A faulty script is refused with exactly that fault, and one that is too long as too long, unless a read or an
@@ -142,12 +143,12 @@ pub fn run_script<H: Threads + Wait + RandomSource + Sync, R: Read, W: Write>(
     options: &Options,
 ) -> Result<Finish, RunError>
     requires { AreInRange options.now }
-    ensures done { IfOk result (λ finish. WritesOutput options.now true finish
+    ensures done { IfOk result (λ finish. WritesOutput options.now open_gate finish
         (R.remaining reader.old) (W.contents writer.old) (W.contents writer.new)) }
     // A refused script has this fault on this line, and it is the first one.
     ensures refused { IfErr result (λ e. IsScriptRefused e (R.remaining reader.old)) }
     ensures unwritten { IfErr result (λ e. e ≢ RunError.Write → writer.new ≡ writer.old) }
-    ensures write { IfErr result (λ e. e ≡ RunError.Write → WritesInPart options.now true
+    ensures write { IfErr result (λ e. e ≡ RunError.Write → WritesInPart options.now open_gate
         (R.remaining reader.old) (W.contents writer.old) (W.contents writer.new)) }
     ensures faulty { RefusesFaultyScript (R.remaining reader.old) result }
     ensures too_long { RefusesLongScript (R.remaining reader.old) result }

@@ -58,7 +58,7 @@ pub(crate) fn run_commands<G: Gate + Sync, H: Threads + Wait + RandomSource + Sy
     script: Script,
 ) -> Result<Outcome, RunFault>
     requires { AreInRange options.now }
-    ensures { IfOk result (λ o. IsOutput options.now (G.always gate.now) script o.text.items o.finish) }
+    ensures { IfOk result (λ o. IsOutput options.now (G.may_answer gate.now) script o.text.items o.finish) }
 {
     // Only the time of a run depends on the start, so a run goes on without random bytes.
     let start = random_start(rt).unwrap_or(0);

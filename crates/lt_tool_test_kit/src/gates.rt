@@ -1,7 +1,7 @@
 //! How do the tests observe and order the lines of a run?
 //! [`GateNotes`] notes the calls of a gate and can end a pass. The other gates hold the line of one pass until
 //! another pass has come far enough. Read next `scripts`, which runs scripts with them.
-ghost use Rattle.std.specs.Prelude.{false};
+ghost use Rattle.std.specs.Prelude.{true};
 
 use lt_tool::Gate;
 use std::array;
@@ -80,7 +80,9 @@ impl GateNotes {
 }
 
 impl Gate for GateNotes {
-    ghost always = { λ _. false };
+    ghost use Rattle.std.specs.Prelude.{◌==◌, if◌then◌else◌, not};
+
+    ghost may_answer = { λ notes _ line answer. if line == notes.refused then not answer else answer };
 
     fn before(&self, pass: u32, line: usize) -> bool {
         self.note(pass, line, false);
@@ -110,7 +112,7 @@ impl Crossed {
 }
 
 impl Gate for Crossed {
-    ghost always = { λ _. false };
+    ghost may_answer = { λ _ _ _ _. true };
 
     fn before(&self, _pass: u32, line: usize) -> bool {
         match line {
@@ -146,7 +148,7 @@ impl Between {
 }
 
 impl Gate for Between {
-    ghost always = { λ _. false };
+    ghost may_answer = { λ _ _ _ _. true };
 
     fn before(&self, _pass: u32, line: usize) -> bool {
         for _ in 0..TURNS {
@@ -182,7 +184,7 @@ impl GateTold {
 }
 
 impl Gate for GateTold {
-    ghost always = { λ _. false };
+    ghost may_answer = { λ _ _ _ _. true };
 
     fn before(&self, _pass: u32, line: usize) -> bool {
         match line {
@@ -223,7 +225,7 @@ impl Late {
 }
 
 impl Gate for Late {
-    ghost always = { λ _. false };
+    ghost may_answer = { λ _ _ _ _. true };
 
     fn before(&self, _pass: u32, line: usize) -> bool {
         match line {

@@ -6,7 +6,7 @@ use lt_audit::{AuditError, CutPlan, TextAt, check_pieces, check_stream};
 use lt_checker::{CheckError, Report, check};
 use std::alloc::Global;
 use std::io;
-use std::io::ErrorKind;
+use std::io::{BufReader, ErrorKind, Read};
 use std::thread::Threads;
 
 /// Two legal texts; then a wrong reply, a wrong index, a key that comes too late, a key that comes twice, a last line
@@ -97,6 +97,47 @@ fn verdict_on_torn<H: Threads + Sync>(
         look: 100,
     };
     check_pieces(threads, alloc, &torn, &plan, &mut ())
+}
+
+/// A reader of which every other read is interrupted.
+#[derive(Drop)]
+struct Interrupted<'a> {
+    rest: &'a [u8],
+    is_due: bool,
+}
+
+impl Read for Interrupted<'_> {
+    fn read(&mut self, buf: &mut [u8]) -> io::Result<usize> {
+        self.is_due = !self.is_due;
+        if self.is_due {
+            return Err(io::Error::from(ErrorKind::Interrupted));
+        }
+        let n = buf.len().min(self.rest.len());
+        let (piece, rest) = self.rest.split_at(n);
+        buf[..n].copy_from_slice(piece);
+        self.rest = rest;
+        Ok(n)
+    }
+}
+
+/// The verdict of the check of a text that is read so, some bytes at a time.
+fn verdict_on_interrupted(alloc: Global, text: &[u8]) -> Verdict {
+    let reader = Interrupted {
+        rest: text,
+        is_due: false,
+    };
+    match BufReader::with_capacity(alloc, 7, reader) {
+        Ok(mut reader) => check_stream(alloc, &mut reader),
+        Err(_) => Err(AuditError::Memory),
+    }
+}
+
+#[test]
+fn an_interrupted_read_is_made_again(rt: HostRuntime) {
+    for text in TEXTS {
+        let verdict = verdict_on_interrupted(rt.alloc(), text.as_bytes());
+        assert!(&rt; verdict == expected(rt.alloc(), text.as_bytes()), "{text}");
+    }
 }
 
 #[test]

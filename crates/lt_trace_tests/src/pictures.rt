@@ -6,8 +6,8 @@
 //! reservation and then the lock. 2 leaves. When 1 finishes, 5 is let through and has the reservation, and leaves.
 use lt_ids::{Access, IdError, Key, Ticket, Timestamp, TxnId};
 use lt_picture::{
-    Arrow, Bar, ColourChoice, Lane, Layout, Phase, PictureError, ShownStep, Terminal, html,
-    lanes_of, picture, put_escaped, put_heading, put_key, put_printable, put_shown,
+    Arrow, Bar, ColourChoice, Lane, Layout, Phase, PictureError, ShownRange, ShownStep, Terminal,
+    html, lanes_of, picture, put_escaped, put_heading, put_key, put_printable, put_shown,
 };
 use lt_plain::PlainTable;
 use lt_rules::{Call, KeyState, KeyTable, Reply};
@@ -107,6 +107,45 @@ fn play(alloc: Global, key: &Key, calls: &[Call]) -> Result<Vec<ShownStep>, Allo
         steps.push(shown(alloc, &mut table, key, index, *call)?)?;
     }
     Ok(steps)
+}
+
+/// The steps of these calls from this index on, with the state before them. The last `undrawn` steps are left out.
+fn cut(
+    alloc: Global,
+    key: &Key,
+    calls: &[Call],
+    from: usize,
+    undrawn: usize,
+) -> Result<ShownRange, AllocError> {
+    let mut range = ShownRange {
+        before: KeyState::empty(alloc),
+        steps: Vec::new(alloc),
+        goes_on: undrawn > 0,
+    };
+    let drawn = calls.len().saturating_sub(undrawn);
+    for step in play(alloc, key, calls)? {
+        if step.index < from as u64 {
+            let ShownStep { state, .. } = step;
+            range.before = state;
+        } else if step.index <= drawn as u64 {
+            range.steps.push(step)?;
+        }
+    }
+    Ok(range)
+}
+
+/// The same, made again if memory ran out.
+fn range_of(
+    alloc: Global,
+    calls: &[Call],
+    from: usize,
+    undrawn: usize,
+) -> Result<ShownRange, Fail> {
+    let key = key(alloc, b"k")?;
+    match cut(alloc, &key, calls, from, undrawn) {
+        Err(_) => Ok(cut(alloc, &key, calls, from, undrawn)?),
+        Ok(range) => Ok(range),
+    }
 }
 
 fn steps_of(alloc: Global, calls: &[Call]) -> Result<Vec<ShownStep>, Fail> {
@@ -343,106 +382,149 @@ fn the_options_decide_and_then_the_terminal(rt: HostRuntime) {
     }
 }
 
+/// A bar: the index of its lane, its phase, and the numbers of the steps that began and ended it.
+type BarRow = (usize, Phase, usize, usize);
+
+/// An arrow: the number of its step, and the indexes of the lanes from which and to which it leads.
+type ArrowRow = (usize, usize, usize);
+
 /// The lanes, bars and arrows of some steps.
 #[derive(Clone, Copy)]
 struct PictureRow<'a> {
     lanes: &'a [Lane],
-    bars: &'a [Bar],
-    arrows: &'a [Arrow],
+    bars: &'a [BarRow],
+    arrows: &'a [ArrowRow],
 }
 
-const fn bar(lane: usize, phase: Phase, first: usize, end: usize) -> Bar {
-    Bar {
-        lane,
-        phase,
-        first,
-        end,
-    }
+/// Whether these are the bars of a row.
+fn are_bars(bars: &[Bar], row: &[BarRow]) -> bool {
+    let is_bar = |(bar, (lane, phase, first, end)): (&Bar, &BarRow)| {
+        bar.lane == *lane && bar.phase == *phase && bar.first == *first && bar.end == *end
+    };
+    bars.len() == row.len() && bars.iter().zip(row).all(is_bar)
 }
 
-const fn arrow(step: usize, from: usize, to: usize) -> Arrow {
-    Arrow { step, from, to }
+/// Whether these are the arrows of a row.
+fn are_arrows(arrows: &[Arrow], row: &[ArrowRow]) -> bool {
+    let is_arrow = |(arrow, (step, from, to)): (&Arrow, &ArrowRow)| {
+        arrow.step == *step && arrow.from == *from && arrow.to == *to
+    };
+    arrows.len() == row.len() && arrows.iter().zip(row).all(is_arrow)
 }
 
 /// Fails unless the steps have these lanes, bars and arrows.
 fn expect_picture(
     rt: &impl Abort,
     alloc: Global,
-    steps: &[ShownStep],
+    range: &ShownRange,
     row: &PictureRow,
 ) -> Result<(), Fail> {
-    let layout = match lanes_of(alloc, steps) {
-        Err(PictureError::Memory) => lanes_of(alloc, steps)?,
+    let layout = match lanes_of(alloc, &range.before, &range.steps) {
+        Err(PictureError::Memory) => lanes_of(alloc, &range.before, &range.steps)?,
         made => made?,
     };
     assert_eq!(rt; layout.lanes.as_slice(), row.lanes);
-    assert_eq!(rt; layout.bars.as_slice(), row.bars);
-    assert_eq!(rt; layout.arrows.as_slice(), row.arrows);
+    assert!(rt; are_bars(&layout.bars, row.bars));
+    assert!(rt; are_arrows(&layout.arrows, row.arrows));
     Ok(())
 }
 
-#[test]
-fn the_worked_key_has_these_lanes(rt: HostRuntime) -> Result<(), Fail> {
-    let steps = steps_of(rt.alloc(), &worked_calls()?)?;
-    let whole = PictureRow {
-        lanes: &[
-            Lane::Txn(1),
-            Lane::Txn(9),
-            Lane::Request(1),
-            Lane::Request(2),
-            Lane::Request(3),
-            Lane::Request(5),
-        ],
-        bars: &[
-            bar(0, Phase::Holds, 7, 9),
-            bar(1, Phase::Holds, 1, 6),
-            bar(2, Phase::Waits(1), 2, 6),
-            bar(2, Phase::Reserved, 6, 7),
-            bar(3, Phase::Waits(1), 3, 8),
-            bar(4, Phase::Waits(1), 4, 6),
-            bar(5, Phase::Waits(1), 5, 9),
-            bar(5, Phase::Reserved, 9, 10),
-        ],
-        arrows: &[arrow(6, 1, 4), arrow(6, 1, 2), arrow(9, 0, 5)],
-    };
-    expect_picture(&rt, rt.alloc(), &steps, &whole)?;
-    // Steps 7 to 9 alone. What was there before step 7 begins at the first step, and what is not over ends after the
-    // last.
-    let part = PictureRow {
-        lanes: &[Lane::Txn(1), Lane::Request(2), Lane::Request(5)],
-        bars: &[
-            bar(0, Phase::Holds, 1, 3),
-            bar(1, Phase::Waits(1), 1, 2),
-            bar(2, Phase::Waits(1), 1, 3),
-            bar(2, Phase::Reserved, 3, 4),
-        ],
-        arrows: &[arrow(3, 0, 2)],
-    };
-    let three = steps.get(6..9).ok_or("three steps")?;
-    expect_picture(&rt, rt.alloc(), three, &part)
-}
+/// The whole worked key.
+const WHOLE: PictureRow = PictureRow {
+    lanes: &[
+        Lane::Txn(1),
+        Lane::Txn(9),
+        Lane::Request(1),
+        Lane::Request(2),
+        Lane::Request(3),
+        Lane::Request(5),
+    ],
+    bars: &[
+        (0, Phase::Holds, 7, 9),
+        (1, Phase::Holds, 1, 6),
+        (2, Phase::Waits(1), 2, 6),
+        (2, Phase::Reserved, 6, 7),
+        (3, Phase::Waits(1), 3, 8),
+        (4, Phase::Waits(1), 4, 6),
+        (5, Phase::Waits(1), 5, 9),
+        (5, Phase::Reserved, 9, 10),
+    ],
+    arrows: &[(6, 1, 4), (6, 1, 2), (9, 0, 5)],
+};
+
+/// Steps 7 to 9 of it. Before step 7, request 1 has the reservation, and 2 and 5 wait. After step 9, request 5 has it.
+const MIDDLE: PictureRow = PictureRow {
+    lanes: &[
+        Lane::Txn(1),
+        Lane::Request(1),
+        Lane::Request(2),
+        Lane::Request(5),
+    ],
+    bars: &[
+        (0, Phase::Holds, 1, 3),
+        (1, Phase::Reserved, 0, 1),
+        (2, Phase::Waits(1), 0, 2),
+        (3, Phase::Waits(1), 0, 3),
+        (3, Phase::Reserved, 3, 4),
+    ],
+    arrows: &[(3, 0, 3)],
+};
+
+/// Step 6 alone. Before it transaction 9 holds the lock and all four wait; no bar of 2 and 5 ends.
+const FINISH: PictureRow = PictureRow {
+    lanes: &[
+        Lane::Txn(9),
+        Lane::Request(1),
+        Lane::Request(2),
+        Lane::Request(3),
+        Lane::Request(5),
+    ],
+    bars: &[
+        (0, Phase::Holds, 0, 1),
+        (1, Phase::Waits(1), 0, 1),
+        (1, Phase::Reserved, 1, 2),
+        (2, Phase::Waits(1), 0, 2),
+        (3, Phase::Waits(1), 0, 1),
+        (4, Phase::Waits(1), 0, 2),
+    ],
+    arrows: &[(1, 0, 3), (1, 0, 1)],
+};
+
+const LOST: PictureRow = PictureRow {
+    lanes: &[Lane::Txn(9), Lane::Request(1), Lane::Request(2)],
+    bars: &[
+        (0, Phase::Holds, 1, 3),
+        (1, Phase::Reserved, 4, 5),
+        (2, Phase::Waits(1), 2, 3),
+        (2, Phase::Reserved, 3, 4),
+        (2, Phase::Idle, 4, 5),
+    ],
+    arrows: &[(3, 0, 2)],
+};
+
+const NOTHING: PictureRow = PictureRow {
+    lanes: &[],
+    bars: &[],
+    arrows: &[],
+};
 
 #[test]
-fn a_lost_reservation_has_its_bars(rt: HostRuntime) -> Result<(), Fail> {
-    let steps = steps_of(rt.alloc(), &lost_calls()?)?;
-    let lost = PictureRow {
-        lanes: &[Lane::Txn(9), Lane::Request(1), Lane::Request(2)],
-        bars: &[
-            bar(0, Phase::Holds, 1, 3),
-            bar(1, Phase::Reserved, 4, 5),
-            bar(2, Phase::Waits(1), 2, 3),
-            bar(2, Phase::Reserved, 3, 4),
-            bar(2, Phase::Idle, 4, 5),
-        ],
-        arrows: &[arrow(3, 0, 2)],
-    };
-    expect_picture(&rt, rt.alloc(), &steps, &lost)?;
-    let none = PictureRow {
-        lanes: &[],
-        bars: &[],
-        arrows: &[],
-    };
-    expect_picture(&rt, rt.alloc(), &[], &none)
+fn each_range_of_steps_has_its_lanes_bars_and_arrows(rt: HostRuntime) -> Result<(), Fail> {
+    let alloc = rt.alloc();
+    let worked = worked_calls()?;
+    let lost = lost_calls()?;
+    // The calls, the first step, how many of the last steps are not drawn, and what is drawn.
+    let rows: [(&[Call], usize, usize, &PictureRow); 5] = [
+        (&worked, 1, 0, &WHOLE),
+        (&worked, 7, 1, &MIDDLE),
+        (&worked, 6, 4, &FINISH),
+        (&lost, 1, 0, &LOST),
+        (&[], 1, 0, &NOTHING),
+    ];
+    for (calls, from, undrawn, row) in rows {
+        expect_picture(&rt, alloc, &range_of(alloc, calls, from, undrawn)?, row)?;
+    }
+    Ok(())
 }
 
 fn printable(alloc: Global, bytes: &[u8]) -> Result<Vec<u8>, AllocError> {
@@ -506,8 +588,11 @@ fn expect_parts(rt: &impl Abort, text: &[u8], rows: &[(&[u8], usize)]) -> Result
     Ok(())
 }
 
+/// Parts of a text, and how often it has each.
+type PartRows<'a> = &'a [(&'a [u8], usize)];
+
 // The legend has each kind of bar once, an arrow and eight markers.
-const PICTURE_PARTS: [(&[u8], usize); 10] = [
+const WHOLE_PARTS: PartRows = &[
     (b"<svg ", 1),
     (b"class=\"waits\"", 5),
     (b"class=\"holds\"", 3),
@@ -515,47 +600,141 @@ const PICTURE_PARTS: [(&[u8], usize); 10] = [
     (b"class=\"idle\"", 1),
     (b"class=\"arrow\"", 4),
     (b"class=\"halo\"", 3),
+    (b"class=\"torn\"", 0),
     (b"<circle class=\"marker", 18),
     (b"a&lt;b&amp;c&quot;d", 1),
     (b"a<b", 0),
+    (b">steps 1 to 10<", 1),
+    (
+        b">request 5 has the reservation, from step 9 to step 10<",
+        1,
+    ),
+];
+
+// Three bars begin before step 7, and one goes on beyond step 9.
+const MIDDLE_PARTS: PartRows = &[
+    (b">steps 7 to 9; earlier and later ones are not drawn<", 1),
+    (
+        b"<title>before them: holder - reserved 1 writers 2* 5 readers -<",
+        1,
+    ),
+    (b">txn 1 holds the lock, from step 7 to step 9<", 1),
+    (
+        b">request 1 has the reservation, from before step 7 to step 7<",
+        1,
+    ),
+    (b">request 2 waits, from before step 7 to step 8<", 1),
+    (b">request 5 waits, from before step 7 to step 9<", 1),
+    (
+        b">request 5 has the reservation, from step 9 to beyond step 9<",
+        1,
+    ),
+    (b"class=\"torn\"", 4),
+];
+
+// The last step is drawn, so a bar that is not over goes on to the end of the history.
+const LOST_PARTS: PartRows = &[
+    (b">steps 3 to 4; earlier ones are not drawn<", 1),
+    (b">txn 9 holds the lock, from before step 3 to step 3<", 1),
+    (b">request 2 waits, from before step 3 to step 3<", 1),
+    (b">request 1 has the reservation, from step 4 on<", 1),
+    (
+        b">request 2 is queued and does not wait, from step 4 on<",
+        1,
+    ),
+    (b"class=\"torn\"", 2),
+];
+
+fn picture_of(alloc: Global, key_bytes: &[u8], range: &ShownRange) -> Result<Vec<u8>, Fail> {
+    let key = key(alloc, key_bytes)?;
+    match picture(alloc, &key, range) {
+        Err(PictureError::Memory) => Ok(picture(alloc, &key, range)?),
+        made => Ok(made?),
+    }
+}
+
+#[test]
+fn the_picture_says_where_each_bar_begins_and_ends(rt: HostRuntime) -> Result<(), Fail> {
+    let alloc = rt.alloc();
+    let worked = worked_calls()?;
+    let lost = lost_calls()?;
+    // The calls, the first step, how many of the last steps are not drawn, and what the picture has.
+    let rows: [(&[Call], usize, usize, PartRows); 3] = [
+        (&worked, 1, 0, WHOLE_PARTS),
+        (&worked, 7, 1, MIDDLE_PARTS),
+        (&lost, 3, 0, LOST_PARTS),
+    ];
+    for (calls, from, undrawn, parts) in rows {
+        let svg = picture_of(alloc, b"a<b&c\"d", &range_of(alloc, calls, from, undrawn)?)?;
+        expect_parts(&rt, &svg, parts)?;
+    }
+    Ok(())
+}
+
+// A key of 40 bytes is shown whole, and of a longer one the first 40 bytes.
+const LONG_KEYS: [(&[u8], &[u8]); 2] = [
+    (
+        b"0123456789012345678901234567890123456789",
+        b">key 0123456789012345678901234567890123456789</text>",
+    ),
+    (
+        b"0123456789012345678901234567890123456789&",
+        b"><title>0123456789012345678901234567890123456789&amp;</title>key 0123456789012345678901234567890123456789~</text>",
+    ),
 ];
 
 #[test]
-fn the_picture_has_the_bars_and_the_arrows(rt: HostRuntime) -> Result<(), Fail> {
+fn a_long_key_is_cut_and_has_a_title(rt: HostRuntime) -> Result<(), Fail> {
     let alloc = rt.alloc();
-    let steps = steps_of(alloc, &worked_calls()?)?;
-    let key = key(alloc, b"a<b&c\"d")?;
-    let svg = match picture(alloc, &key, &steps) {
-        Err(PictureError::Memory) => picture(alloc, &key, &steps)?,
-        made => made?,
-    };
-    expect_parts(&rt, &svg, &PICTURE_PARTS)
+    let range = looks_of(alloc, 1)?;
+    for (key, shown) in LONG_KEYS {
+        expect_parts(&rt, &picture_of(alloc, key, &range)?, &[(shown, 1)])?;
+    }
+    Ok(())
 }
 
-const PAGE_PARTS: [(&[u8], usize); 7] = [
+const PAGE_PARTS: PartRows = &[
     (b"<!DOCTYPE html>", 1),
     (b"<svg ", 1),
     (b"<tr>", 11),
+    (b"<td> before</td>", 0),
     (b"<td> 3.1 1.1</td>", 1),
     (b"a&lt;b&amp;c&quot;d", 3),
     (b"<script", 0),
     (b"</html>\n", 1),
 ];
 
+// The page has a row for the state before the first step.
+const CUT_PAGE_PARTS: PartRows = &[
+    (b"<tr>", 4),
+    (b", steps 9 to 10; earlier ones are not drawn</h1>", 1),
+    (
+        b"<tr><td> before</td><td> -</td><td> -</td><td> -</td><td> 1 at 13.0</td><td> -</td><td> 5*</td><td> -</td><td> -</td></tr>",
+        1,
+    ),
+];
+
+fn page_of(alloc: Global, range: &ShownRange) -> Result<Vec<u8>, Fail> {
+    let key = key(alloc, b"a<b&c\"d")?;
+    match html(alloc, &key, range) {
+        Err(PictureError::Memory) => Ok(html(alloc, &key, range)?),
+        made => Ok(made?),
+    }
+}
+
 #[test]
 fn the_page_has_the_picture_and_the_steps(rt: HostRuntime) -> Result<(), Fail> {
     let alloc = rt.alloc();
-    let steps = steps_of(alloc, &worked_calls()?)?;
-    let key = key(alloc, b"a<b&c\"d")?;
-    let page = match html(alloc, &key, &steps) {
-        Err(PictureError::Memory) => html(alloc, &key, &steps)?,
-        made => made?,
-    };
-    expect_parts(&rt, &page, &PAGE_PARTS)
+    let worked = worked_calls()?;
+    for (from, parts) in [(1, PAGE_PARTS), (9, CUT_PAGE_PARTS)] {
+        let page = page_of(alloc, &range_of(alloc, &worked, from, 0)?)?;
+        expect_parts(&rt, &page, parts)?;
+    }
+    Ok(())
 }
 
 /// This many looks at an empty key.
-fn looks(alloc: Global, many: usize) -> Result<Vec<ShownStep>, AllocError> {
+fn looks(alloc: Global, many: usize) -> Result<ShownRange, AllocError> {
     let mut steps = Vec::new(alloc);
     for index in 0..many {
         steps.push(ShownStep {
@@ -567,29 +746,39 @@ fn looks(alloc: Global, many: usize) -> Result<Vec<ShownStep>, AllocError> {
             state: KeyState::empty(alloc),
         })?;
     }
-    Ok(steps)
+    Ok(ShownRange {
+        before: KeyState::empty(alloc),
+        steps,
+        goes_on: false,
+    })
+}
+
+fn looks_of(alloc: Global, many: usize) -> Result<ShownRange, Fail> {
+    match looks(alloc, many) {
+        Err(_) => Ok(looks(alloc, many)?),
+        Ok(range) => Ok(range),
+    }
 }
 
 #[test]
 fn more_than_400_steps_are_refused(rt: HostRuntime) -> Result<(), Fail> {
     let alloc = rt.alloc();
     let key = key(alloc, b"k")?;
-    let steps = match looks(alloc, 401) {
-        Err(_) => looks(alloc, 401)?,
-        Ok(steps) => steps,
-    };
-    assert!(rt; matches!(lanes_of(alloc, &steps), Err(PictureError::TooManySteps)));
+    let range = looks_of(alloc, 401)?;
     assert!(rt;
         matches!(
-            picture(alloc, &key, &steps),
+            lanes_of(alloc, &range.before, &range.steps),
             Err(PictureError::TooManySteps)
         )
     );
-    assert!(rt; matches!(html(alloc, &key, &steps), Err(PictureError::TooManySteps)));
-    let svg = match picture(alloc, &key, &steps[1..]) {
-        Err(PictureError::Memory) => picture(alloc, &key, &steps[1..])?,
-        made => made?,
-    };
+    assert!(rt;
+        matches!(
+            picture(alloc, &key, &range),
+            Err(PictureError::TooManySteps)
+        )
+    );
+    assert!(rt; matches!(html(alloc, &key, &range), Err(PictureError::TooManySteps)));
+    let svg = picture_of(alloc, b"k", &looks_of(alloc, 400)?)?;
     assert!(rt; svg.starts_with(b"<svg "));
     Ok(())
 }

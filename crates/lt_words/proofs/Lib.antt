@@ -1,6 +1,7 @@
 pub mod Prefixes
 pub mod Histories
 pub mod Showing
+pub mod Taking
 pub mod Logs
 pub mod Cells
 pub mod Moving

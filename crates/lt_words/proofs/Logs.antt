@@ -6,21 +6,30 @@ use Rattle.lt_ids.specs.declared.ticket.Through.{Through}
 use Rattle.lt_words.specs.declared.event.Event.{Event}
 use Rattle.lt_words.specs.declared.event.Event.TheVariants.{Opened}
 use Rattle.lt_words.specs.declared.event.Logged.{Logged}
-use Rattle.lt_words.specs.declared.event.Logged.TheVariants.{Happened, Shown}
+use Rattle.lt_words.specs.declared.event.Logged.TheVariants.{Happened, Shown, Took}
+use Rattle.lt_words.specs.declared.event.Take.{Take}
 use Rattle.lt_words.specs.History.{IsLegalHistory}
 use Rattle.lt_words.specs.Shown.{AreLet}
-use Rattle.lt_words.specs.Rules.{events_of, shown_of, history_of, after_first, shards_first, passes_first, keeping_first, shards_in, passes_in, keeping_in, IsOpenLog}
+use Rattle.lt_words.specs.Rules.{events_of, shown_of, takes_of, history_of, after_first, shards_first, passes_first, keeping_first, shards_in, passes_in, keeping_in, IsOpenLog}
 use Rattle.lt_words.specs.Row.{front_state, FrontGrows}
 
 events_of-append : (xs ys : List Logged) → events_of (xs ++ ys) ≡ events_of xs ++ events_of ys
 events_of-append [] ys = refl
 events_of-append (Happened e ∷ xs) ys = ap (λ (l : List Event). e ∷ l) (events_of-append xs ys)
 events_of-append (Shown t ∷ xs) ys = events_of-append xs ys
+events_of-append (Took t ∷ xs) ys = events_of-append xs ys
 
 pub shown_of-append : (xs ys : List Logged) → shown_of (xs ++ ys) ≡ shown_of xs ++ shown_of ys
 shown_of-append [] ys = refl
 shown_of-append (Happened e ∷ xs) ys = shown_of-append xs ys
 shown_of-append (Shown t ∷ xs) ys = ap (λ (l : List Through). t ∷ l) (shown_of-append xs ys)
+shown_of-append (Took t ∷ xs) ys = shown_of-append xs ys
+
+pub takes_of-append : (xs ys : List Logged) → takes_of (xs ++ ys) ≡ takes_of xs ++ takes_of ys
+takes_of-append [] ys = refl
+takes_of-append (Happened e ∷ xs) ys = takes_of-append xs ys
+takes_of-append (Shown t ∷ xs) ys = takes_of-append xs ys
+takes_of-append (Took t ∷ xs) ys = ap (λ (l : List Take). t ∷ l) (takes_of-append xs ys)
 
 -- a log that was extended has the same opening
 pub events_on : (log more : List Logged) → IsOpenLog log → events_of (log ++ more) ≡ Opened (shards_in log) (passes_in log) (keeping_in log) ∷ (history_of log ++ events_of more)
@@ -55,6 +64,9 @@ history_prefix v w is pre = (events_of pre.0, sym (history_on v pre.0 is) ∙ ap
 pub shown_prefix : (v w : List Logged) → IsPrefix v w → IsPrefix (shown_of v) (shown_of w)
 shown_prefix v w pre = (shown_of pre.0, sym (shown_of-append v pre.0) ∙ ap shown_of pre.1)
 
+pub takes_prefix : (v w : List Logged) → IsPrefix v w → IsPrefix (takes_of v) (takes_of w)
+takes_prefix v w pre = (takes_of pre.0, sym (takes_of-append v pre.0) ∙ ap takes_of pre.1)
+
 pub same_shards : (v w : List Logged) → IsOpenLog v → IsPrefix v w → shards_in w ≡ shards_in v
 same_shards v w is pre = ap shards_in (sym pre.1) ∙ shards_on v pre.0 is
 
@@ -69,4 +81,5 @@ sight_grows book book2 v w same is pre = record {
   of = λ i. record { book = same i; shards = same_shards v w is pre i; passes = same_passes v w is pre i; keeping = same_keeping v w is pre i };
   seen = history_prefix v w is pre;
   shown = shown_prefix v w pre;
+  takes = takes_prefix v w pre;
 }

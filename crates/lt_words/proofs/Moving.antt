@@ -8,17 +8,19 @@ use Rattle.lt_entry.specs.declared.entry.Entry.{Entry}
 use Rattle.lt_words.specs.declared.event.Event.{Event}
 use Rattle.lt_words.specs.declared.event.Event.TheVariants.{Draw, Step}
 use Rattle.lt_words.specs.declared.event.Logged.{Logged}
-use Rattle.lt_words.specs.declared.event.Logged.TheVariants.{Happened, Shown}
+use Rattle.lt_words.specs.declared.event.Logged.TheVariants.{Happened, Shown, Took}
+use Rattle.lt_words.specs.declared.event.Take.{Take}
 use Rattle.lt_ids.specs.Ids.{value_of, IsNumber, IsWaitNumber}
 use Rattle.lt_ids.specs.declared.ticket.Through.{Through}
 use Rattle.lt_words.specs.History.{part, shard_of, MayFollow, LetIn, IsStatus}
 use Rattle.lt_words.specs.Shown.{word_of, IsShown}
-use Rattle.lt_words.specs.Rules.{history_of, shown_of, shards_in, passes_in, IsOpenLog, WordsMatchLog, DrawnGives, ReadGives, DrawGives, CommitGives, ExactGives, SignalGives}
+use Rattle.lt_words.specs.Takes.{taken_of}
+use Rattle.lt_words.specs.Rules.{history_of, shown_of, takes_of, shards_in, passes_in, IsOpenLog, WordsMatchLog, DrawnGives, ReadGives, DrawGives, CommitGives, ExactGives, SignalGives, TakeGives, TakenGives}
 use Rattle.lt_words.proofs.Prefixes.{prefix_trans}
 use Rattle.lt_words.proofs.Histories.{part_same, let_later}
 use Rattle.lt_words.proofs.Showing.{word_here, status_is}
-use Rattle.lt_words.proofs.Logs.{history_prefix, history_on, shown_of-append, same_shards, same_passes}
-use Rattle.lt_words.proofs.Cells.{kept_same, kept_draw, kept_step, kept_shown}
+use Rattle.lt_words.proofs.Logs.{history_prefix, history_on, shown_of-append, takes_of-append, takes_prefix, same_shards, same_passes}
+use Rattle.lt_words.proofs.Cells.{kept_same, kept_draw, kept_step, kept_shown, kept_take}
 
 -- what clients see of the log
 abbrev pub bare : List Logged → List Logged
@@ -69,14 +71,14 @@ count_moves v ask = loads 0 v (DrawnGives (step 0 0 0 ask) (at_rest v))
     (λ cs log kept pre. (kept.is_open, kept.number))
 
 -- a status word is read
-pub read_moves : (v : List Logged) (pass : ℕ) (ask : Logged) → IsOpenLog v → 0 < pass → pass ≤ passes_in v → Moves WordsMatchLog bare moved (pass + 64) (at_rest v) (λ n. n) (ReadGives (step (pass + 64) 0 0 ask) (at_rest v))
-read_moves v pass ask is low high = loads (pass + 64) v (ReadGives (step (pass + 64) 0 0 ask) (at_rest v))
+pub read_moves : (v : List Logged) (pass : ℕ) (ask : Logged) → IsOpenLog v → 0 < pass → pass ≤ passes_in v → Moves WordsMatchLog bare moved (pass + 128) (at_rest v) (λ n. n) (ReadGives (step (pass + 128) 0 0 ask) (at_rest v))
+read_moves v pass ask is low high = loads (pass + 128) v (ReadGives (step (pass + 128) 0 0 ask) (at_rest v))
     (λ cs log kept pre. omega (arith, kept.many, same_passes v log is pre))
     (λ cs log kept pre.
-    let back : (pass + 64) - 64 ≡ pass = omega arith in
-    let word : (cell cs (pass + 64)).0 ≡ word_of pass (shown_of log) = kept.status pass low (omega (arith, high, same_passes v log is pre)) in
-    let status : IsStatus (history_of log) pass (cell cs (pass + 64)).0 = subst (IsStatus (history_of log) pass) (sym word) (status_is (history_of log) pass (shown_of log) kept.is_open.let_through) in
-    (kept.is_open, word ∙ ap (λ p. word_of p (shown_of log)) (sym back), subst (λ (p : ℕ). IsStatus (history_of log) p (cell cs (pass + 64)).0) (sym back) status))
+    let back : (pass + 128) - 128 ≡ pass = omega arith in
+    let word : (cell cs (pass + 128)).0 ≡ word_of pass (shown_of log) = kept.status pass low (omega (arith, high, same_passes v log is pre)) in
+    let status : IsStatus (history_of log) pass (cell cs (pass + 128)).0 = subst (IsStatus (history_of log) pass) (sym word) (status_is (history_of log) pass (shown_of log) kept.is_open.let_through) in
+    (kept.is_open, word ∙ ap (λ p. word_of p (shown_of log)) (sym back), subst (λ (p : ℕ). IsStatus (history_of log) p (cell cs (pass + 128)).0) (sym back) status))
 
 -- the number word goes from old to old + 1
 pub draw_moves : (v : List Logged) (pass old new : ℕ) → IsOpenLog v → new ≡ old + 1
@@ -126,10 +128,10 @@ meet_moves v shard old ask small =
 
 -- a status word goes up to a ticket that was let through
 pub signal_moves : (v : List Logged) (old new : ℕ) (t : Through) → IsOpenLog v → 0 < t.pass → t.pass ≤ passes_in v → old < new → IsNumber t.ticket.number → IsWaitNumber t.ticket.wait → new ≡ value_of t.ticket → LetIn (history_of v) t.pass t.ticket
-    → Moves WordsMatchLog bare moved (t.pass + 64) (at_rest v) (λ n. either (n == old) new n) (SignalGives (step (t.pass + 64) old new (Shown t)) (at_rest v))
+    → Moves WordsMatchLog bare moved (t.pass + 128) (at_rest v) (λ n. either (n == old) new n) (SignalGives (step (t.pass + 128) old new (Shown t)) (at_rest v))
 signal_moves v old new t is low high below number wait value let_in =
-    let T : ℕ → View Logged ℕ → Type 0 = SignalGives (step (t.pass + 64) old new (Shown t)) (at_rest v) in
-    exchanges (t.pass + 64) v old new T
+    let T : ℕ → View Logged ℕ → Type 0 = SignalGives (step (t.pass + 128) old new (Shown t)) (at_rest v) in
+    exchanges (t.pass + 128) v old new T
     (λ cs log kept pre. omega (arith, kept.many, same_passes v log is pre))
     (λ cs log kept pre e.
     let high2 : t.pass ≤ passes_in log = omega (arith, high, same_passes v log is pre) in
@@ -138,4 +140,29 @@ signal_moves v old new t is low high below number wait value let_in =
     let above : word_of t.pass (shown_of log) < value_of t.ticket = omega (arith, e, below, value, kept.status t.pass low high2) in
     let reached : IsShown (shown_of (log ++ Shown t ∷ [])) t.pass t.ticket = omega (arith, ap (word_of t.pass) (shown_of-append log (Shown t ∷ [])), word_here t.pass (shown_of log) t refl above) in
     (Shown t ∷ [], next, (next.is_open, match_true (old == old) _ _ (eq-eqb old old refl) (reached, tt))))
-    (λ cs log kept pre ne. (kept.is_open, match_false ((cell cs (t.pass + 64)).0 == old) _ _ (ne_eqb (cell cs (t.pass + 64)).0 old ne) tt))
+    (λ cs log kept pre ne. (kept.is_open, match_false ((cell cs (t.pass + 128)).0 == old) _ _ (ne_eqb (cell cs (t.pass + 128)).0 old ne) tt))
+
+-- a take word goes from old to old + many
+pub take_moves : (v : List Logged) (old new : ℕ) (t : Take) → t.shard < 64 → new ≡ old + t.many
+    → Moves WordsMatchLog bare moved (t.shard + 65) (at_rest v) (λ n. either (n == old) new n) (TakeGives (step (t.shard + 65) old new (Took t)) (at_rest v))
+take_moves v old new t small more =
+    let back : (t.shard + 65) - 65 ≡ t.shard = omega arith in
+    exchanges (t.shard + 65) v old new (TakeGives (step (t.shard + 65) old new (Took t)) (at_rest v))
+    (λ cs log kept pre. omega (arith, kept.many, small))
+    (λ cs log kept pre e.
+    let next = kept_take cs log t new kept small (omega (arith, e, more)) in
+    let counted : taken_of ((t.shard + 65) - 65) (takes_of log) ≡ old = ap (λ s. taken_of s (takes_of log)) back ∙ (sym (kept.takes t.shard small) ∙ e) in
+    (Took t ∷ [], next, (next.is_open, match_true (old == old) _ _ (eq-eqb old old refl) (takes_of log, takes_prefix v log pre, counted, takes_of-append log (Took t ∷ [])))))
+    (λ cs log kept pre ne. (kept.is_open, match_false ((cell cs (t.shard + 65)).0 == old) _ _ (ne_eqb (cell cs (t.shard + 65)).0 old ne) tt))
+
+-- a take word goes from n to n
+pub taken_moves : (v : List Logged) (shard old : ℕ) (ask : Logged) → shard < 64 → Moves WordsMatchLog bare moved (shard + 65) (at_rest v) (λ n. either (n == old) old n) (TakenGives (step (shard + 65) old old ask) (at_rest v))
+taken_moves v shard old ask small =
+    let back : (shard + 65) - 65 ≡ shard = omega arith in
+    exchanges (shard + 65) v old old (TakenGives (step (shard + 65) old old ask) (at_rest v))
+    (λ cs log kept pre. omega (arith, kept.many, small))
+    (λ cs log kept pre e.
+    let here : WordsMatchLog (set cs (shard + 65) (old, true)) (log ++ []) = subst (λ (n : ℕ). WordsMatchLog (set cs (shard + 65) (n, true)) (log ++ [])) e (kept_same cs log (shard + 65) kept (omega (arith, kept.many, small))) in
+    let counted : taken_of ((shard + 65) - 65) (takes_of (log ++ [])) ≡ old = ap (λ s. taken_of s (takes_of (log ++ []))) back ∙ (ap (λ l. taken_of shard (takes_of l)) (append-nil log) ∙ (sym (kept.takes shard small) ∙ e)) in
+    ([], here, (here.is_open, match_true (old == old) _ _ (eq-eqb old old refl) counted)))
+    (λ cs log kept pre ne. (kept.is_open, match_false ((cell cs (shard + 65)).0 == old) _ _ (ne_eqb (cell cs (shard + 65)).0 old ne) tt))

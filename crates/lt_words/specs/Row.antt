@@ -7,11 +7,13 @@ use Rattle.lt_words.specs.declared.event.Event.{Event}
 use Rattle.lt_words.specs.declared.event.Event.TheVariants.{Draw, Step}
 use Rattle.lt_words.specs.declared.event.Logged.{Logged}
 use Rattle.lt_words.specs.declared.keeping.Keeping.{Keeping}
-use Rattle.lt_words.specs.declared.keeping.Keeping.TheVariants.{Whole}
+use Rattle.lt_words.specs.declared.keeping.Keeping.TheVariants.{Whole, Streamed, Unrecorded}
 use Rattle.lt_words.specs.declared.cache_line.CacheLine.{CacheLine}
 use Rattle.lt_words.specs.History.{part, draws_of}
 use Rattle.lt_words.specs.Shown.{AreShown}
-use Rattle.lt_words.specs.Rules.{word_at, shards_in, passes_in, keeping_in, history_of, shown_of}
+use Rattle.lt_words.specs.declared.event.Take.{Take}
+use Rattle.lt_words.specs.Takes.{taken_of, AppendsTake}
+use Rattle.lt_words.specs.Rules.{word_at, shards_in, passes_in, keeping_in, history_of, shown_of, takes_of}
 use Rattle.lt_entry.specs.declared.entry.Entry.{Entry}
 use Rattle.lt_rules.specs.declared.call.Call.{Call}
 use Rattle.lt_rules.specs.declared.call.Reply.{Reply}
@@ -35,10 +37,11 @@ pub record Opening : Type 0 where
   pub passes : ℕ
   pub keeping : Keeping
 
--- Each word is the book's word at its index: the number word, 64 step words, and a status word for each pass.
+-- Each word is the book's word at its index: the number word, 64 step words, 64 take words, and a status word for each
+-- pass.
 pub record IsWordRow (of : Opening) (lines : List CacheLine) : Type 0 where
   pub sizes : AreSizes of.shards of.passes
-  pub many : length lines ≡ of.passes + 65
+  pub many : length lines ≡ of.passes + 129
   pub each : (k : ℕ) (d : CacheLine) → k < length lines → (slice_index_or lines k d).word ≡ word_at of.book k
 
 abbrev pub opening_of : Book → List Logged → Opening
@@ -48,45 +51,53 @@ opening_of book log = record { book = book; shards = shards_in log; passes = pas
 abbrev pub brand_opening : Opening
 brand_opening = record { book = record { number = 0; log_name = 0; cells_name = 0 }; shards = 1; passes = 1; keeping = Whole }
 
--- what a front has seen: its book, a prefix of the book's table history, and the lets that were shown meanwhile
+-- what a front has seen: its book, a prefix of the book's table history, and the lets that were shown and the steps
+-- that were taken out meanwhile
 pub record FrontState : Type 0 where
   pub of : Opening
   pub seen : List Event
   pub shown : List Through
+  pub takes : List Take
 
 abbrev pub front_state : Book → List Logged → FrontState
-front_state book log = record { of = opening_of book log; seen = history_of log; shown = shown_of log }
+front_state book log = record { of = opening_of book log; seen = history_of log; shown = shown_of log; takes = takes_of log }
 
 -- The row is the row of words of the start's book. The start has seen nothing, and the book keeps steps in this way.
 abbrev pub IsSoundBook : FrontState → List CacheLine → Keeping → Type 0
 IsSoundBook start lines keeping =
-    IsWordRow start.of lines × (start.seen ≡ []) × (start.shown ≡ []) × (keeping ≡ start.of.keeping)
+    IsWordRow start.of lines × (start.seen ≡ []) × (start.shown ≡ []) × (start.takes ≡ []) × (keeping ≡ start.of.keeping)
 
 -- The book is the same, and the seen prefix only grew.
 pub record FrontGrows (old new : FrontState) : Type 0 where
   pub of : new.of ≡ old.of
   pub seen : IsPrefix old.seen new.seen
   pub shown : IsPrefix old.shown new.shown
+  pub takes : IsPrefix old.takes new.takes
 
--- what a pass carries: its book, its number, its seen prefix, the lets that were shown meanwhile, and how many
--- steps it made at each shard
+-- what a pass carries: its book, its number, its seen prefix, the lets that were shown and the steps that were taken
+-- out meanwhile, how many steps it made at each shard, and how many of each shard it took out
 pub record PassState : Type 0 where
   pub of : Opening
   pub number : ℕ
   pub seen : List Event
   pub shown : List Through
+  pub takes : List Take
   pub counts : List ℕ
+  pub taken : List ℕ
 
-abbrev pub pass_state : ℕ → FrontState → List ℕ → PassState
-pass_state number sight counts = record { of = sight.of; number = number; seen = sight.seen; shown = sight.shown; counts = counts }
+abbrev pub pass_state : ℕ → FrontState → List ℕ → List ℕ → PassState
+pass_state number sight counts taken = record { of = sight.of; number = number; seen = sight.seen; shown = sight.shown; takes = sight.takes; counts = counts; taken = taken }
 
--- The pass is one of the book's. It has seen at least as many steps of each shard as it made there.
+-- The pass is one of the book's. It has seen at least as many steps of each shard as it made there, and at least as many
+-- steps taken out as it took.
 pub record IsPass (p : PassState) : Type 0 where
   pub low : 0 < p.number
   pub high : p.number ≤ p.of.passes
   pub few : p.number ≤ MAX_PASS
   pub many : length p.counts ≡ p.of.shards
   pub within : (s : ℕ) → slice_index p.counts s ≤ length (part s p.seen)
+  pub many_taken : length p.taken ≡ p.of.shards
+  pub within_taken : (s : ℕ) → slice_index p.taken s ≤ taken_of s p.takes
 
 -- What is seen afterwards is a history that extends what was seen before and satisfies P, followed by e.
 abbrev pub Appends : List Event → (List Event → Type 0) → Event → List Event → Type 0
@@ -116,12 +127,23 @@ pub record SeesMore (old new : PassState) : Type 0 where
   pub of : new.of ≡ old.of
   pub number : new.number ≡ old.number
   pub counts : new.counts ≡ old.counts
+  pub taken : new.taken ≡ old.taken
   pub seen : IsPrefix old.seen new.seen
   pub shown : IsPrefix old.shown new.shown
+  pub takes : IsPrefix old.takes new.takes
 
--- a pass that has seen nothing and made no step
+-- The pass made no step, and what it has seen only grew. It may have taken steps out.
+pub record MakesNoStep (old new : PassState) : Type 0 where
+  pub of : new.of ≡ old.of
+  pub number : new.number ≡ old.number
+  pub counts : new.counts ≡ old.counts
+  pub seen : IsPrefix old.seen new.seen
+  pub shown : IsPrefix old.shown new.shown
+  pub takes : IsPrefix old.takes new.takes
+
+-- a pass that has seen nothing, made no step and taken none out
 abbrev pub fresh : Opening → ℕ → PassState
-fresh of number = record { of = of; number = number; seen = []; shown = []; counts = replicate of.shards 0 }
+fresh of number = record { of = of; number = number; seen = []; shown = []; takes = []; counts = replicate of.shards 0; taken = replicate of.shards 0 }
 
 -- the passes of a new book, numbered from 1
 abbrev pub fresh_passes : Opening → ℕ → List PassState
@@ -138,8 +160,30 @@ pub record Reports (old new : PassState) (shard at : ℕ) (entry : Entry) : Type
   pub later : length (part shard old.seen) ≤ at
   pub seen : IsPrefix old.seen new.seen
   pub shown : IsPrefix old.shown new.shown
+  pub takes : IsPrefix old.takes new.takes
   pub lets_shown : AreShown new.shown entry.lets
   pub counted : slice_index new.counts shard ≡ slice_index old.counts shard + 1
   pub others : (s : ℕ) → s ≢ shard → slice_index new.counts s ≡ slice_index old.counts s
+  pub taken : new.taken ≡ old.taken
   pub of : new.of ≡ old.of
   pub number : new.number ≡ old.number
+
+-- Between the states old and new the pass took these many steps out of the shard. The take stands in what the pass has
+-- then seen, after everything that the pass had seen before, and before it `from` steps of the shard had been taken out.
+-- The pass counts them, and none of any other shard.
+pub record TakesOut (old new : PassState) (shard from many : ℕ) : Type 0 where
+  pub took : AppendsTake old.takes from (record { pass = old.number; shard = shard; many = many }) new.takes
+  pub counted : slice_index new.taken shard ≡ slice_index old.taken shard + many
+  pub others : (s : ℕ) → s ≢ shard → slice_index new.taken s ≡ slice_index old.taken s
+  pub seen : IsPrefix old.seen new.seen
+  pub shown : IsPrefix old.shown new.shown
+  pub counts : new.counts ≡ old.counts
+  pub of : new.of ≡ old.of
+  pub number : new.number ≡ old.number
+
+-- In what the pass has seen, this many steps of the shard are gone, the first ones. A streamed table stores the steps
+-- that were not taken out, and an unrecorded one stores none.
+abbrev pub AreGone : Keeping → PassState → ℕ → ℕ → Type 0
+AreGone Whole p shard n = n ≡ 0
+AreGone Streamed p shard n = n ≡ taken_of shard p.takes
+AreGone Unrecorded p shard n = n ≡ length (part shard p.seen)

@@ -8,14 +8,16 @@ ghost use Rattle.std.specs.Prelude.{◌≡◌, ◌+◌, ◌<◌, ◌≤◌, ◌^
 ghost use mathlib.Core.List.{IsPrefix};
 ghost use Rattle.lt_words.specs.History.{part, draws_of, shard_of, DrewIn, LetIn, MayFollow, IsStatus};
 ghost use Rattle.lt_words.specs.Shown.{word_of, IsShown};
-ghost use Rattle.lt_words.specs.Row.{AreSizes, AppendsStep, IsNextDraw, SeesMore, fresh_passes};
+ghost use Rattle.lt_words.specs.Row.{AreSizes, AppendsStep, IsNextDraw, SeesMore, TakesOut, fresh_passes};
+ghost use Rattle.lt_words.specs.Takes.{taken_of};
 
 use crate::cache_line::CacheLine;
 use crate::entry_parts::EntryParts;
-use crate::event::Event;
+use crate::event::{Event, Take};
 use crate::front::Front;
 use crate::keeping::Keeping;
 use crate::law::{BookRule, Opens, Sizes};
+use crate::parking::{Announced, LookedAgain};
 use crate::pass::{Pass, abandon_all};
 use crate::waker::Waker;
 use logbook::{Seen, Start, Word};
@@ -26,7 +28,8 @@ use std::marker::Model;
 use std::sync::Wait;
 use std::time::Duration;
 
-/// The words that all threads of a table share: the number word, 64 step words, and a status word for each pass.
+/// The words that all threads of a table share: the number word, 64 step words, 64 take words, and a status word for
+/// each pass.
 /// Contracts see which book it is, its numbers of shards and passes, and how its table keeps steps.
 #[derive(Drop)]
 pub struct Book {
@@ -55,7 +58,7 @@ fn open_row(
     requires { AreSizes shards passes }
     ensures { IfOk result (λ b. (b.shards ≡ shards) × (b.passes ≡ passes) × (b.keeping ≡ keeping)) }
 {
-    let many = passes + 65;
+    let many = passes + 129;
     let mut lines = Vec::new(alloc);
     let (start, mut pens) = Seen::open_row::<Sizes, Opens>(
         &Sizes {
@@ -148,6 +151,7 @@ impl Book {
         ensures of { result.of ≡ self.now }
         ensures seen { result.seen ≡ [] }
         ensures shown { result.shown ≡ [] }
+        ensures takes { result.takes ≡ [] }
     {
         self.start.again()
     }
@@ -197,11 +201,15 @@ impl Book {
         ensures of { (pass.new.of ≡ self.now) × (front.new.of ≡ self.now) }
         ensures one { front.new.seen ≡ pass.new.seen }
         ensures both { front.new.shown ≡ pass.new.shown }
+        ensures both_takes { front.new.takes ≡ pass.new.takes }
         ensures step { AppendsStep pass.old.seen front.old.seen shard entry.now pass.new.seen }
         ensures pass_shown { IsPrefix pass.old.shown pass.new.shown }
         ensures front_shown { IsPrefix front.old.shown front.new.shown }
+        ensures pass_takes { IsPrefix pass.old.takes pass.new.takes }
+        ensures front_takes { IsPrefix front.old.takes front.new.takes }
         ensures stored { part shard front.new.seen ≡ part shard front.old.seen ++ entry.now ∷ [] }
         ensures counted { pass.new.counts ≡ slice_set pass.old.counts shard (slice_index pass.old.counts shard + 1) }
+        ensures taken { pass.new.taken ≡ pass.old.taken }
         ensures number { pass.new.number ≡ pass.old.number }
         // The word had room to count one more step.
         ensures room { count + 1 < 2 ^ 64 }
@@ -228,11 +236,15 @@ impl Book {
         ensures of { (pass.new.of ≡ self.now) × (front.new.of ≡ self.now) }
         ensures one { front.new.seen ≡ pass.new.seen }
         ensures both { front.new.shown ≡ pass.new.shown }
+        ensures both_takes { front.new.takes ≡ pass.new.takes }
         ensures step { AppendsStep pass.old.seen front.old.seen shard entry.now pass.new.seen }
         ensures pass_shown { IsPrefix pass.old.shown pass.new.shown }
         ensures front_shown { IsPrefix front.old.shown front.new.shown }
+        ensures pass_takes { IsPrefix pass.old.takes pass.new.takes }
+        ensures front_takes { IsPrefix front.old.takes front.new.takes }
         ensures stored { part shard front.new.seen ≡ part shard front.old.seen ++ entry.now ∷ [] }
         ensures counted { pass.new.counts ≡ slice_set pass.old.counts shard (slice_index pass.old.counts shard + 1) }
+        ensures taken { pass.new.taken ≡ pass.old.taken }
         ensures number { pass.new.number ≡ pass.old.number }
         // The word had room to count one more step.
         ensures room { count + 1 < 2 ^ 64 }
@@ -265,12 +277,84 @@ impl Book {
         ensures both { front.new.shown ≡ pass.new.shown }
         ensures seen { IsPrefix front.old.seen front.new.seen }
         ensures shown { IsPrefix front.old.shown front.new.shown }
+        ensures takes { IsPrefix front.old.takes front.new.takes }
+        ensures both_takes { front.new.takes ≡ pass.new.takes }
         ensures exact { length (part shard front.new.seen) ≡ count }
     {
         // Ghost read: tells the prover the book's invariant.
         let _ = &self.lines;
         pass.seen.learn(front);
         pass.seen.exact(rt, self, shard, count);
+        *front = pass.seen.again();
+    }
+
+    /// Notes in the log that the pass takes `many` stored steps out of a shard. The shard's take word goes from `from`
+    /// to `from + many`: so many of its steps were taken out before and then. Afterwards the pass and the front have
+    /// seen the same log. Retries until its exchange succeeds.
+    pub fn take<R: Wait>(
+        &self,
+        rt: &R,
+        pass: &mut Pass,
+        front: &mut Front,
+        shard: usize,
+        from: u64,
+        many: u64,
+    )
+        requires pass_of { self.now ≡ pass.old.of }
+        requires front_of { self.now ≡ front.old.of }
+        requires shard { shard < self.now.shards }
+        requires room { from + many < 2 ^ 64 }
+        ensures took { TakesOut pass.old pass.new shard from many }
+        ensures of { front.new.of ≡ self.now }
+        ensures one { front.new.seen ≡ pass.new.seen }
+        ensures both { front.new.shown ≡ pass.new.shown }
+        ensures both_takes { front.new.takes ≡ pass.new.takes }
+        ensures seen { IsPrefix front.old.seen front.new.seen }
+        ensures shown { IsPrefix front.old.shown front.new.shown }
+        ensures takes { IsPrefix front.old.takes front.new.takes }
+        ensures exact { taken_of shard front.new.takes ≡ from + many }
+    {
+        // Ghost read: tells the prover the book's invariant.
+        let _ = &self.lines;
+        pass.seen.learn(front);
+        let take = Take {
+            pass: pass.number,
+            shard,
+            many,
+        };
+        pass.seen.take(rt, self, from, &take);
+        *front = pass.seen.again();
+        let taken = &mut pass.rest.taken;
+        taken[shard] += many;
+    }
+
+    /// Lets the pass and the front see one log in which exactly `count` steps of the shard were taken out. Retries
+    /// until its exchange succeeds.
+    pub fn taken<R: Wait>(
+        &self,
+        rt: &R,
+        pass: &mut Pass,
+        front: &mut Front,
+        shard: usize,
+        count: u64,
+    )
+        requires pass_of { self.now ≡ pass.old.of }
+        requires front_of { self.now ≡ front.old.of }
+        requires shard { shard < self.now.shards }
+        ensures more { SeesMore pass.old pass.new }
+        ensures of { front.new.of ≡ self.now }
+        ensures one { front.new.seen ≡ pass.new.seen }
+        ensures both { front.new.shown ≡ pass.new.shown }
+        ensures both_takes { front.new.takes ≡ pass.new.takes }
+        ensures seen { IsPrefix front.old.seen front.new.seen }
+        ensures shown { IsPrefix front.old.shown front.new.shown }
+        ensures takes { IsPrefix front.old.takes front.new.takes }
+        ensures exact { taken_of shard front.new.takes ≡ count }
+    {
+        // Ghost read: tells the prover the book's invariant.
+        let _ = &self.lines;
+        pass.seen.learn(front);
+        pass.seen.taken(rt, self, shard, count);
         *front = pass.seen.again();
     }
 
@@ -308,18 +392,16 @@ impl Book {
         pass.seen.signal(rt, self, to_pass, ticket);
     }
 
-    /// Notes the let for [`Book::wake`] if its caller sleeps or if the pass notes every let. If the pass has no
-    /// room for it, wakes the caller at once.
+    /// Notes for [`Book::wake`] whom it has to wake, and the let itself if a waker is to be called for each.
     fn note(&self, pass: &mut Pass, through: Through)
         ensures { pass.new ≡ pass.old }
     {
-        let Some(line) = self.lines.get(through.pass as usize + 64) else {
-            return;
-        };
-        let tells = pass.rest.notes_each || line.parking.is_taken();
-        if tells && !pass.note(through) {
-            line.parking.wake();
+        if let Some(line) = self.lines.get(through.pass as usize + 128) {
+            if line.parking.is_taken() {
+                pass.note_sleeper(through.pass);
+            }
         }
+        pass.note(through);
     }
 
     /// Wakes the sleeping callers that the pass's latest step has let through, and calls the waker for each let
@@ -327,44 +409,84 @@ impl Book {
     pub fn wake<W: Waker>(&self, pass: &mut Pass, waker: &W)
         ensures { pass.new ≡ pass.old }
     {
+        if !pass.rest.sleepers.is_empty() {
+            self.wake_sleepers(pass);
+        }
         if pass.rest.noted.is_empty() {
             return;
         }
         for through in &pass.rest.noted {
-            if let Some(line) = self.lines.get(through.pass as usize + 64) {
-                line.parking.wake();
-            }
             waker.wake(through.pass, through.ticket);
         }
         pass.rest.noted.clear();
     }
 
-    /// Announces that the caller of the pass is about to sleep: a let that is shown from now on wakes it. The
-    /// caller then checks once more whether it still has to wait.
-    pub fn prepare(&self, pass: &Pass) {
-        if let Some(line) = self.lines.get(pass.number as usize + 64) {
-            line.parking.prepare();
+    #[inline(never)]
+    fn wake_sleepers(&self, pass: &mut Pass)
+        ensures { pass.new ≡ pass.old }
+    {
+        pass.rest.sleepers.take_each(|number| {
+            if let Some(line) = self.lines.get(number as usize + 128) {
+                line.parking.wake();
+            }
+        });
+    }
+
+    /// Ends the sleep of the caller of the pass with this number. If it does not sleep, its next sleep ends at once.
+    pub fn interrupt(&self, pass: u32) {
+        if let Some(line) = self.lines.get(pass as usize + 128) {
+            line.parking.interrupt();
         }
     }
 
+    /// Whether the caller of the pass was interrupted. The interrupt is then over.
+    pub fn take_interrupt(&self, pass: &Pass) -> bool {
+        match self.lines.get(pass.number as usize + 128) {
+            Some(line) => line.parking.take_interrupt(),
+            None => false,
+        }
+    }
+
+    /// Announces that the caller of the pass is about to sleep: a let that is shown from now on wakes it. The
+    /// caller then looks once more whether it still has to wait ([`Book::look_again`]).
+    pub fn prepare(&self, pass: &Pass) -> Announced {
+        if let Some(line) = self.lines.get(pass.number as usize + 128) {
+            line.parking.prepare();
+        }
+        Announced::new()
+    }
+
+    /// [`Book::read`], for a caller that has announced its sleep.
+    pub fn look_again(&self, pass: &mut Pass, announced: Announced) -> (u64, LookedAgain)
+        requires { self.now ≡ pass.old.of }
+        ensures word { result.0 ≡ word_of pass.old.number pass.new.shown }
+        ensures status { IsStatus pass.new.seen pass.old.number result.0 }
+        ensures more { SeesMore pass.old pass.new }
+    {
+        (self.read(pass), announced.looked())
+    }
+
     /// Takes the announcement back: the caller of the pass does not sleep after all.
-    pub fn cancel(&self, pass: &Pass) {
-        if let Some(line) = self.lines.get(pass.number as usize + 64) {
+    pub fn cancel(&self, pass: &Pass, looked: LookedAgain) {
+        looked.end();
+        if let Some(line) = self.lines.get(pass.number as usize + 128) {
             line.parking.cancel();
         }
     }
 
-    /// Sleeps until a let is shown to the pass. Returns at once if one was shown since [`Book::prepare`]. May
-    /// return for no reason.
-    pub fn sleep<R: Wait>(&self, rt: &R, pass: &Pass) {
-        if let Some(line) = self.lines.get(pass.number as usize + 64) {
+    /// Sleeps until a let is shown to the pass, or the caller is interrupted. Returns at once if it was woken or
+    /// interrupted since [`Book::prepare`]. May return for no reason.
+    pub fn sleep<R: Wait>(&self, rt: &R, pass: &Pass, looked: LookedAgain) {
+        looked.end();
+        if let Some(line) = self.lines.get(pass.number as usize + 128) {
             line.parking.sleep(rt);
         }
     }
 
     /// [`Book::sleep`], for at most `time`.
-    pub fn sleep_for<R: Wait>(&self, rt: &R, pass: &Pass, time: Duration) {
-        if let Some(line) = self.lines.get(pass.number as usize + 64) {
+    pub fn sleep_for<R: Wait>(&self, rt: &R, pass: &Pass, looked: LookedAgain, time: Duration) {
+        looked.end();
+        if let Some(line) = self.lines.get(pass.number as usize + 128) {
             line.parking.sleep_for(rt, time);
         }
     }

@@ -21,9 +21,18 @@ pub enum Event {
     },
 }
 
-/// An entry of the log: an event of the table history, or that a let was shown to the pass that waits. No code
-/// makes a value of this type: it exists in the proofs alone.
+/// A take of stored steps: the pass that took them, their shard, and how many they were.
+#[derive(Drop)]
+pub struct Take {
+    pub pass: u32,
+    pub shard: usize,
+    pub many: u64,
+}
+
+/// An entry of the log: an event of the table history, that a let was shown to the pass that waits, or that stored
+/// steps were taken out. No code makes a value of this type: it exists in the proofs alone.
 pub enum Logged {
     Happened(Event),
     Shown(Through),
+    Took(Take),
 }

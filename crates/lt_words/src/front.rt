@@ -11,15 +11,17 @@ ghost use Rattle.lt_words.specs.declared.event.Event.{Event};
 ghost use Rattle.lt_words.specs.declared.event.Event.TheVariants.{Opened, Draw, Step};
 ghost use Rattle.lt_words.specs.History.{part, draws_of, shard_of, IsLegalHistory, LetIn, MayFollow, IsStatus};
 ghost use Rattle.lt_words.specs.Shown.{word_of, IsShown, AreLet};
+ghost use Rattle.lt_words.specs.Takes.{taken_of, AppendsTake};
+ghost use Rattle.lt_words.specs.declared.event.Take.{Take};
 ghost use Rattle.lt_words.specs.Rules.{IsOpenLog, history_of};
 ghost use Rattle.lt_words.specs.Row.{Appends, AppendsIf, FrontGrows, HasSteps, IsNextDraw, front_state};
 
 use crate::book::Book;
 use crate::entry_parts::EntryParts;
-use crate::event::Logged;
+use crate::event::{Logged, Take};
 use crate::law::{
     Asks, BookRule, CommitRule, DrawRule, Drawing, DrawnRule, ExactRule, Nothing, ReadRule,
-    SignalRule, Stepping,
+    SignalRule, Stepping, TakeRule, TakenRule,
 };
 use logbook::{Offer, Seen};
 use lt_ids::{Through, Ticket};
@@ -27,8 +29,8 @@ use std::marker::Model;
 use std::snapshot::Snapshot;
 use std::sync::Wait;
 
-/// A prefix of a book's log that was seen. Contracts see the book, the table history in it, and the lets that were
-/// shown.
+/// A prefix of a book's log that was seen. Contracts see the book, the table history in it, the lets that were shown,
+/// and the steps that were taken out.
 #[derive(Drop)]
 pub struct Front {
     seen: Seen<Logged, u64, BookRule>,
@@ -80,6 +82,8 @@ impl Front {
         ensures that { IsPrefix other.now.seen self.new.seen }
         ensures shown_this { IsPrefix self.old.shown self.new.shown }
         ensures shown_that { IsPrefix other.now.shown self.new.shown }
+        ensures takes_this { IsPrefix self.old.takes self.new.takes }
+        ensures takes_that { IsPrefix other.now.takes self.new.takes }
     {
         self.seen.learn(&other.seen);
     }
@@ -182,6 +186,53 @@ impl Front {
         found == count
     }
 
+    /// Tries once to note a take in the log, and says whether it did. Before it, `from` steps of its shard had been
+    /// taken out.
+    pub(crate) fn try_take(&mut self, book: &Book, from: u64, take: &Take) -> bool
+        requires of { book.now ≡ self.old.of }
+        requires shard { take.now.shard < 64 }
+        requires room { from + take.now.many < 2 ^ 64 }
+        ensures more { FrontGrows self.old self.new }
+        ensures took { MatchBool result (AppendsTake self.old.takes from take.now self.new.takes) (Unit {0}) }
+        ensures exact { MatchBool result (taken_of take.now.shard self.new.takes ≡ from + take.now.many) (Unit {0}) }
+    {
+        let mut offer: Offer<Logged, u64, BookRule, Nothing> = self
+            .seen
+            .plain::<Nothing, Take, Asks>(take);
+        let mut pen = self.seen.no_pen();
+        let word = &book.lines[take.shard + 65].word;
+        let found = word.compare_exchange::<TakeRule, Nothing>(
+            from,
+            from + take.many,
+            &mut self.seen,
+            &mut offer,
+            &mut pen,
+        );
+        found == from
+    }
+
+    /// Tries once to see a log in which exactly `count` steps of the shard were taken out, and says whether it did.
+    pub(crate) fn try_taken(&mut self, book: &Book, shard: usize, count: u64) -> bool
+        requires of { book.now ≡ self.old.of }
+        requires shard { shard < 64 }
+        ensures more { FrontGrows self.old self.new }
+        ensures exact { MatchBool result (taken_of shard self.new.takes ≡ count) (Unit {0}) }
+    {
+        let mut offer: Offer<Logged, u64, BookRule, Nothing> = self
+            .seen
+            .plain::<Nothing, Drawing, Asks>(&Drawing { pass: 0, number: 0 });
+        let mut pen = self.seen.no_pen();
+        let word = &book.lines[shard + 65].word;
+        let found = word.compare_exchange::<TakenRule, Nothing>(
+            count,
+            count,
+            &mut self.seen,
+            &mut offer,
+            &mut pen,
+        );
+        found == count
+    }
+
     /// The status word of a pass.
     pub(crate) fn read(&mut self, book: &Book, pass: u32) -> u64
         requires of { book.now ≡ self.old.of }
@@ -194,7 +245,7 @@ impl Front {
         let mut offer: Offer<Logged, u64, BookRule, Nothing> = self
             .seen
             .plain::<Nothing, Drawing, Asks>(&Drawing { pass: 0, number: 0 });
-        let word = &book.lines[pass as usize + 64].word;
+        let word = &book.lines[pass as usize + 128].word;
         word.load::<ReadRule, Nothing>(&mut self.seen, &mut offer)
     }
 
@@ -213,7 +264,7 @@ impl Front {
             .seen
             .plain::<Nothing, Through, Asks>(&Through { pass, ticket });
         let mut pen = self.seen.no_pen();
-        let word = &book.lines[pass as usize + 64].word;
+        let word = &book.lines[pass as usize + 128].word;
         // Tells the prover the ranges of the ticket's parts.
         let _ = (ticket.number(), ticket.wait());
         let found = word.compare_exchange::<SignalRule, Nothing>(
@@ -283,6 +334,39 @@ impl Front {
     {
         for _ in rt.forever() {
             if self.try_exact(book, shard, count) {
+                break;
+            }
+        }
+    }
+
+    /// Notes a take in the log. Before it, `from` steps of its shard had been taken out. Retries until its exchange
+    /// succeeds.
+    #[tactic(auto, using(crate::proofs::Passes::grows_on, crate::proofs::Passes::grows_self))]
+    pub(crate) fn take<R: Wait>(&mut self, rt: &R, book: &Book, from: u64, take: &Take)
+        requires of { book.now ≡ self.old.of }
+        requires shard { take.now.shard < 64 }
+        requires room { from + take.now.many < 2 ^ 64 }
+        ensures more { FrontGrows self.old self.new }
+        ensures took { AppendsTake self.old.takes from take.now self.new.takes }
+        ensures exact { taken_of take.now.shard self.new.takes ≡ from + take.now.many }
+    {
+        for _ in rt.forever() {
+            if self.try_take(book, from, take) {
+                break;
+            }
+        }
+    }
+
+    /// Sees a log in which exactly `count` steps of the shard were taken out. Retries until its exchange succeeds.
+    #[tactic(auto, using(crate::proofs::Passes::grows_on, crate::proofs::Passes::grows_self))]
+    pub(crate) fn taken<R: Wait>(&mut self, rt: &R, book: &Book, shard: usize, count: u64)
+        requires of { book.now ≡ self.old.of }
+        requires shard { shard < 64 }
+        ensures more { FrontGrows self.old self.new }
+        ensures exact { taken_of shard self.new.takes ≡ count }
+    {
+        for _ in rt.forever() {
+            if self.try_taken(book, shard, count) {
                 break;
             }
         }

@@ -4,7 +4,7 @@
 //! name their definitions in `specs/Rules.antt`. Read next that file, and then `src/front.rt`, which makes the
 //! accesses.
 use crate::entry_parts::EntryParts;
-use crate::event::Logged;
+use crate::event::{Logged, Take};
 use crate::keeping::Keeping;
 use logbook::{Gain, Opening, Plain, Play, Rule};
 use lt_ids::Through;
@@ -113,6 +113,24 @@ impl Play<Logged, u64> for SignalRule {
     ghost then = { SignalGives };
 }
 
+/// An exchange of a take word, for a take of stored steps.
+pub struct TakeRule;
+
+impl Play<Logged, u64> for TakeRule {
+    ghost use Rattle.lt_words.specs.Rules.{TakeGives};
+
+    ghost then = { TakeGives };
+}
+
+/// An exchange of a take word from n to n, which changes nothing.
+pub struct TakenRule;
+
+impl Play<Logged, u64> for TakenRule {
+    ghost use Rattle.lt_words.specs.Rules.{TakenGives};
+
+    ghost then = { TakenGives };
+}
+
 /// A draw: its pass and its number.
 #[derive(Drop)]
 pub struct Drawing {
@@ -155,6 +173,15 @@ impl Plain<Through, Logged, u64> for Asks {
     ghost use Rattle.lt_words.specs.declared.event.Logged.TheVariants.{Shown};
 
     ghost ask = { λ t. Shown t };
+
+    ghost state = { λ t. None };
+}
+
+impl Plain<Take, Logged, u64> for Asks {
+    ghost use Rattle.std.specs.Prelude.{None};
+    ghost use Rattle.lt_words.specs.declared.event.Logged.TheVariants.{Took};
+
+    ghost ask = { λ t. Took t };
 
     ghost state = { λ t. None };
 }

@@ -5,10 +5,10 @@
 //! these acts is one atomic exchange of one word of a [`Book`]:
 //!
 //! - the number word counts the draws;
-//! - a shard's step word counts the steps of that shard;
+//! - a shard's step word counts the steps of that shard, and its take word counts those that were taken out;
 //! - a pass's status word has the highest ticket that was shown to the pass (`specs/Shown.antt`).
 //!
-//! The log lists all draws, all steps and all lets that were shown, in the order in which their exchanges happened.
+//! The log lists all draws, all steps, all lets that were shown and all takes, in the order in which their exchanges happened.
 //! The rule (`WordsMatchLog` in `specs/Rules.antt`) holds between any two exchanges. It says that the words agree
 //! with the log, that the draws and steps are a legal table history (`specs/History.antt`), and that each let that
 //! was shown had been let through.
@@ -34,14 +34,16 @@ mod name;
 mod parking;
 mod pass;
 mod sharding;
+mod sleepers;
 mod waker;
 
 pub use book::Book;
 pub use entry_parts::EntryParts;
-pub use event::Event;
+pub use event::{Event, Take};
 pub use front::Front;
 pub use keeping::Keeping;
 pub use name::Name;
+pub use parking::{Announced, LookedAgain};
 pub use pass::{Pass, abandon_all};
 pub use sharding::shard_of;
 pub use waker::Waker;

@@ -1,5 +1,5 @@
-//! What does a caller hold? A pass: its number, its seen prefix, how many steps it made at each shard, and the lets
-//! of its latest step whose callers it has still to wake.
+//! What does a caller hold? A pass: its number, its seen prefix, how many steps it made at each shard, how many stored
+//! steps it took out of each, and the lets of its latest step whose callers it has still to wake.
 //!
 //! Read next `src/book.rt`, the calls that a pass makes, and `PassState` in `specs/Row.antt`, what contracts see of
 //! a pass.
@@ -7,16 +7,18 @@ ghost use Rattle.std.specs.Prelude.{◌≡◌, ◌+◌, ◌<◌, ◌≤◌, [], 
 ghost use mathlib.Core.List.{IsPrefix};
 ghost use Rattle.lt_words.specs.History.{part, IsLegalHistory};
 ghost use Rattle.lt_words.specs.Shown.{AreLet};
+ghost use Rattle.lt_words.specs.Takes.{taken_of};
 ghost use Rattle.lt_words.specs.Row.{SeesMore, fresh};
 
 use crate::front::Front;
+use crate::sleepers::Sleepers;
 use lt_ids::{Access, Key, Through};
 use std::alloc::{AllocError, Global};
 use std::marker::Model;
 use std::mem;
 
-/// A caller's token: its number (from 1), what it has seen of its book's table history, and how many steps it made
-/// at each shard. Only `Book` hands out passes, and one pass serves one caller at a time.
+/// A caller's token: its number (from 1), what it has seen of its book's table history, how many steps it made at each
+/// shard, and how many stored steps it took out of each. Only `Book` hands out passes, and one pass serves one caller at a time.
 ///
 /// A pass is not `Drop`: its owner passes it on, or gives it up by name ([`Pass::abandon`]).
 pub struct Pass {
@@ -31,25 +33,26 @@ pub struct Pass {
 pub(crate) struct PassRest {
     /// How many steps the pass made at each shard.
     pub counts: Vec<u64>,
-    /// The lets of the pass's latest step that `Book::wake` announces once no lock is held.
+    /// How many stored steps the pass took out of each shard.
+    pub taken: Vec<u64>,
+    /// The passes whose callers `Book::wake` wakes once no lock is held.
+    pub sleepers: Sleepers,
+    /// The lets of the pass's latest step, if a waker is to be called for each of them.
     pub noted: Vec<Through>,
-    /// Whether the pass notes every let, or only those of sleeping callers.
+    /// Whether a waker is to be called for each let.
     pub notes_each: bool,
     /// The key list of the latest request, emptied: room for that of the next one.
     pub list: Vec<(Key, Access)>,
 }
-
-/// How many lets of sleeping callers a pass has room for. The callers of any further lets are woken at once.
-const MOST_SLEEPERS: usize = 16;
 
 impl Model for Pass {
     ghost use Rattle.lt_words.specs.Row.{PassState, IsPass, pass_state};
 
     ghost Value = { PassState };
 
-    ghost view = { λ p. pass_state p.number p.seen p.rest.value.counts.items };
+    ghost view = { λ p. pass_state p.number p.seen p.rest.value.counts.items p.rest.value.taken.items };
 
-    ghost invariant = { λ p. IsPass (pass_state p.number p.seen p.rest.value.counts.items) };
+    ghost invariant = { λ p. IsPass (pass_state p.number p.seen p.rest.value.counts.items p.rest.value.taken.items) };
 }
 
 impl Pass {
@@ -62,6 +65,7 @@ impl Pass {
     ) -> Result<Pass, AllocError>
         requires start { start.now.seen ≡ [] }
         requires shown { start.now.shown ≡ [] }
+        requires takes { start.now.takes ≡ [] }
         requires shards { shards ≡ start.now.of.shards }
         requires index { index < start.now.of.passes }
         requires few { start.now.of.passes ≤ 1024 }
@@ -69,7 +73,9 @@ impl Pass {
     {
         let rest = PassRest {
             counts: vec![in alloc; 0; shards]?,
-            noted: Vec::with_capacity(alloc, MOST_SLEEPERS)?,
+            taken: vec![in alloc; 0; shards]?,
+            sleepers: Sleepers::none(),
+            noted: Vec::new(alloc),
             notes_each: false,
             list: Vec::new(alloc),
         };
@@ -89,8 +95,9 @@ impl Pass {
         ensures low { 0 < result }
         ensures high { result ≤ self.now.of.passes }
         ensures few { result ≤ 1024 }
-        // The pass has a count for each shard.
+        // The pass has its counts for each shard.
         ensures counts { length self.now.counts ≡ self.now.of.shards }
+        ensures taken { length self.now.taken ≡ self.now.of.shards }
     {
         self.number
     }
@@ -104,11 +111,21 @@ impl Pass {
         self.rest.counts[shard]
     }
 
+    /// How many stored steps the pass took out of a shard. It has seen at least as many of that shard taken out.
+    pub fn taken(&self, shard: usize) -> u64
+        requires { shard < self.now.of.shards }
+        ensures taken { result ≡ slice_index self.now.taken shard }
+        ensures within { result ≤ taken_of shard self.now.takes }
+    {
+        self.rest.taken[shard]
+    }
+
     /// What the pass has seen.
     pub fn seen(&self) -> Front
         ensures of { result.of ≡ self.now.of }
         ensures seen { result.seen ≡ self.now.seen }
         ensures shown { result.shown ≡ self.now.shown }
+        ensures takes { result.takes ≡ self.now.takes }
     {
         self.seen.again()
     }
@@ -119,6 +136,7 @@ impl Pass {
         ensures more { SeesMore self.old self.new }
         ensures that { IsPrefix front.now.seen self.new.seen }
         ensures shown { IsPrefix front.now.shown self.new.shown }
+        ensures takes { IsPrefix front.now.takes self.new.takes }
     {
         self.seen.learn(front);
     }
@@ -153,16 +171,21 @@ impl Pass {
         self.rest.list = list;
     }
 
-    /// Notes a let. False if there is no room for it.
-    pub(crate) fn note(&mut self, through: Through) -> bool
+    /// Notes that the caller of the pass with this number sleeps, and has to be woken.
+    pub(crate) fn note_sleeper(&mut self, pass: u32)
         ensures { self.new ≡ self.old }
     {
-        let noted = &mut self.rest.noted;
-        if noted.len() == noted.capacity() {
-            return false;
+        self.rest.sleepers.add(pass);
+    }
+
+    /// Notes a let for the waker, if one is to be called for each let. There is room for it, by `note_each_let`.
+    pub(crate) fn note(&mut self, through: Through)
+        ensures { self.new ≡ self.old }
+    {
+        let rest = &mut self.rest;
+        if rest.notes_each && rest.noted.len() < rest.noted.capacity() {
+            rest.noted.push_reserved(through);
         }
-        noted.push_reserved(through);
-        true
     }
 
     /// Ghost call: tells the prover that what the pass has seen is legal, and that each let that was shown had been

@@ -95,6 +95,7 @@ impl Cases {
             Found::WaitFirst { held: true, .. } => Case::FirstLookForAHolder,
             Found::WaitFirst { held: false, .. } => Case::FirstLookForAReservation,
             Found::WaitOwn { .. } => Case::LookForTheOwnTransaction,
+            _ => panic!("{found}"),
         });
     }
 

@@ -3,10 +3,11 @@
 //! has begun to wait. Read next `tests`, which says how many turns they take.
 ghost use Rattle.std.specs.Prelude.{◌≡◌, IfSome};
 
-use crate::waiting::queue::{Caller, TIME, enter, hold, leave};
-use lt_ids::{Key, TxnId};
+use crate::waiting::queue::Caller;
+use lt_ids::{Access, Key, TxnId};
 use lt_rules::KeyTable;
 use lt_table::{Config, Guard, Keeping, Poll, Ready, Scan, Table, open, prepare_with};
+use lt_test_kit::request::{TIME, enter, hold, leave};
 use lt_test_kit::run::seated;
 use lt_test_kit::seat::Seat;
 use lt_words::Name;
@@ -73,7 +74,7 @@ fn come<N: Name, T: KeyTable, R: Wait>(
     number: u64,
 ) -> Option<Caller<N>> {
     let Caller { seat, txn } = caller;
-    let mut guard = enter(rt, alloc, table, seat, &post.key, txn)?;
+    let mut guard = enter(rt, alloc, table, seat, (&post.key, Access::Write), txn)?;
     let is_through = wait_at(rt, table, &mut guard, post, number);
     let is_taken = table
         .acquire_in(rt, &mut guard, &post.key, txn, TIME)

@@ -6,10 +6,11 @@ ghost use Rattle.std.specs.Prelude.{◌≡◌, IfSome};
 ghost use Rattle.std.specs.Option.{ForSome};
 ghost use Rattle.std.specs.List.{All};
 
-use crate::waiting::queue::{TIME, leave, proceed};
+use crate::waiting::queue::proceed;
 use lt_ids::{Access, Key, TxnId};
 use lt_rules::{KeyTable, Reply};
 use lt_table::{Answer, Config, EnterRefused, Guard, Ready, StepError, Table, open, prepare};
+use lt_test_kit::request::{TIME, leave};
 use lt_test_kit::run::close_all;
 use lt_words::{Name, Pass, abandon_all};
 use std::alloc::Global;

@@ -1,13 +1,12 @@
 //! Do threads that wait at one key sleep, and then take their turns in order?
 //! [`take_turns`] has threads wait at a key that is held, and then frees its lock. It reports the order in which
 //! the requests took the lock, and how much processor time the process used while they waited. Read next `tests`.
-ghost use Rattle.std.specs.Prelude.{◌≡◌, ◌<◌, IfSome};
+ghost use Rattle.std.specs.Prelude.{◌≡◌, ◌<◌};
 
-use lt_ids::{Access, Key, Timestamp, TxnId};
+use lt_ids::{Access, Key, TxnId};
 use lt_rules::KeyTable;
-use lt_table::{
-    Config, EnterRefused, Guard, LeaveStopped, Left, Poll, Ready, Scan, Table, Waker, open, prepare,
-};
+use lt_table::{Config, Guard, Poll, Ready, Scan, Table, open, prepare};
+use lt_test_kit::request::{TIME, enter, hold, leave};
 use lt_test_kit::run::{close_all, seated};
 use lt_test_kit::seat::Seat;
 use lt_words::{Name, Pass};
@@ -16,11 +15,6 @@ use std::marker::Brand;
 use std::sync::{Mutex, Wait};
 use std::thread::{Threads, join, map_vec, sleep};
 use std::time::{Clock, CpuClock, Duration};
-
-pub const TIME: Timestamp = Timestamp {
-    wall: 1,
-    logical: 0,
-};
 
 /// How many milliseconds the holder keeps the lock after all requests have begun to wait.
 const HELD: u64 = 200;
@@ -41,29 +35,6 @@ pub struct Turns {
 pub struct Caller<N: Name> {
     pub seat: Seat<N>,
     pub txn: TxnId,
-}
-
-/// A request enters to write the key.
-pub fn enter<N: Name, T: KeyTable, W: Waker, R: Wait>(
-    rt: &R,
-    alloc: Global,
-    table: &Table<N, T, W>,
-    seat: Seat<N>,
-    key: &Key,
-    txn: TxnId,
-) -> Option<Guard>
-    ensures { IfSome result (λ guard. guard.pass.of ≡ N.of) }
-{
-    let mut accesses = Vec::new(alloc);
-    accesses.push((key.copy().ok()?, Access::Write)).ok()?;
-    let pass = seat.into_pass()?;
-    match table.enter(rt, alloc, pass, Some(txn), TIME, &accesses, 0) {
-        Ok(guard) => Some(guard),
-        Err(EnterRefused { pass, error: _ }) => {
-            pass.abandon();
-            None
-        }
-    }
 }
 
 /// Scans until the request proceeds, and sleeps whenever it must wait. False if a call has any other answer, or
@@ -108,24 +79,6 @@ fn take<N: Name, T: KeyTable, R: Wait>(
     table.acquire_in(rt, guard, key, txn, TIME).is_ok() && is_noted
 }
 
-/// The request leaves.
-pub fn leave<N: Name, T: KeyTable, W: Waker, R: Wait>(
-    rt: &R,
-    table: &Table<N, T, W>,
-    guard: Guard,
-) -> Option<Pass>
-    requires { guard.pass.of ≡ N.of }
-    ensures { IfSome result (λ pass. pass.of ≡ N.of) }
-{
-    match table.leave(rt, guard) {
-        Ok(Left { pass, answers: _ }) => Some(pass),
-        Err(LeaveStopped { guard, error: _ }) => {
-            guard.abandon();
-            None
-        }
-    }
-}
-
 /// A thread's turn: its request enters, waits, takes the lock and leaves, and then the lock is freed.
 fn turn<N: Name, T: KeyTable, R: Wait>(
     rt: &R,
@@ -136,7 +89,7 @@ fn turn<N: Name, T: KeyTable, R: Wait>(
     numbers: &Mutex<Vec<u64>>,
 ) -> Option<Seat<N>> {
     let Caller { seat, txn } = caller;
-    let mut guard = enter(rt, alloc, table, seat, key, txn)?;
+    let mut guard = enter(rt, alloc, table, seat, (key, Access::Write), txn)?;
     let is_well = proceed(rt, table, &mut guard) && take(rt, table, &mut guard, key, txn, numbers);
     let mut pass = leave(rt, table, guard)?;
     let is_freed = table.finish(rt, &mut pass, key, txn).is_ok();
@@ -196,20 +149,6 @@ fn free_when<N: Name, T: KeyTable, R: Wait + Clock + CpuClock>(
     } else {
         None
     }
-}
-
-/// The transaction takes the lock of the key.
-pub fn hold<N: Name, T: KeyTable, W: Waker, R: Wait>(
-    rt: &R,
-    table: &Table<N, T, W>,
-    seat: Seat<N>,
-    key: &Key,
-    txn: TxnId,
-) -> Option<Seat<N>> {
-    let mut pass = seat.into_pass()?;
-    let is_held = table.acquire(rt, &mut pass, key, txn, TIME).is_ok();
-    let seat = Seat::free(pass);
-    if is_held { Some(seat) } else { None }
 }
 
 fn callers_of<N: Name>(alloc: Global, seats: Vec<Seat<N>>) -> Option<Vec<Caller<N>>> {

@@ -2,10 +2,10 @@
 //! A request waits at a held key until a deadline, and then until the lock comes free. Read next `tests`.
 ghost use Rattle.std.specs.Prelude.{◌≡◌};
 
-use crate::waiting::queue::{enter, hold, leave};
-use lt_ids::{Key, TxnId};
+use lt_ids::{Access, Key, TxnId};
 use lt_rules::KeyTable;
 use lt_table::{Config, Guard, Keeping, Poll, Ready, Scan, Table, open, prepare_with};
+use lt_test_kit::request::{enter, hold, leave};
 use lt_test_kit::run::seated;
 use lt_test_kit::seat::Seat;
 use lt_words::{Name, Pass};
@@ -75,7 +75,7 @@ fn timed_on<N: Name, T: KeyTable, R: Wait + Clock>(
     let txn = TxnId::new(1)?;
     let other = TxnId::new(2)?;
     let holder = hold(rt, table, seats.pop()?, &key, txn)?;
-    let mut guard = enter(rt, alloc, table, seats.pop()?, &key, other)?;
+    let mut guard = enter(rt, alloc, table, seats.pop()?, (&key, Access::Write), other)?;
     let Some(mut pass) = holder.into_pass() else {
         guard.abandon();
         return None;

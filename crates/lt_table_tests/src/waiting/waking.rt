@@ -3,10 +3,10 @@
 //! step lets all of them through. Read next `tests`.
 ghost use Rattle.std.specs.Prelude.{◌≡◌};
 
-use crate::waiting::queue::{TIME, hold};
 use lt_ids::{Access, Key, Ticket, TxnId};
 use lt_rules::KeyTable;
 use lt_table::{Config, EnterRefused, Poll, Ready, Scan, Table, Waker, open_waking, prepare};
+use lt_test_kit::request::{TIME, hold};
 use lt_test_kit::run::seated;
 use lt_test_kit::seat::Seat;
 use lt_words::Name;

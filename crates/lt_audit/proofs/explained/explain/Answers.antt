@@ -1,4 +1,4 @@
-use Rattle.std.proofs.Common.{◌≡◌, ◌+◌, ℕ, List, ap, subst, arith}
+use Rattle.std.proofs.Common.{◌≡◌, ◌+◌, ℕ, Bool, List, ap, subst, arith}
 use Rattle.std.proofs.lemmas.Result.{IfOk-weaker}
 use Rattle.lt_checker.specs.declared.checker.Report.{Report}
 use Rattle.lt_audit.specs.Audit.{IsSplit}
@@ -27,9 +27,10 @@ returns-clause-ok g c =
     let mid = g.R.Read.remaining c.loop.reader in
     let now = g.R.Read.remaining c.read_line-2.new.reader in
     let pending = c.read_line-2.new.pending.items in
-    let split : IsSplit pending c.without_end.result.now =
-    subst (λ (t : List ℕ). IsSplit t c.without_end.result.now) c.deref.ensures.value c.without_end.ensures in
+    let ended : Bool = c.without_end-split.result.1 in
+    let split : IsSplit pending c.without_end-split.result.0.now ended =
+    subst (λ (t : List ℕ). IsSplit t c.without_end-split.result.0.now ended) c.deref.ensures.value c.without_end-split.ensures in
     let numbered : c.loop.checker.report.steps + 2 ≡ c.args.number = omega (arith, c.if-report-number.false, c.if-number-lt2.false, ap (λ (r : Report). r.steps) c.report.ensures.report) in
     IfOk-weaker c.explain_line.result _ _ (λ x said.
-    explained source mid now c.loop.checker c.loop.pending.items pending c.in_ok-read_line-2.field-0 c.args.number _ x
+    explained source mid now c.loop.checker c.loop.pending.items pending c.in_ok-read_line-2.field-0 c.args.number _ ended x
     c.loop.invariant c.in_ok-read_line-2.ensures.ok c.in_ok-read_line-2.ensures.stops split numbered said) c.explain_line.ensures.ok

@@ -11,7 +11,6 @@ loop-from-preserved c =
     let end = c.run_end-end.result in
     let p = get_or phases from Out in
     let r : RunsTo phases from end p = record {
-      out = c.requires;
       at = slice_get-get_or phases from Out c.loop-from-test.true;
       before = c.loop-from.invariant.before;
       some = c.run_end-end.ensures.after;

@@ -4,6 +4,6 @@ use Rattle.lt_picture.proofs.lanes.bars_of.Given as goal
 
 abbrev pub invariant-loop-lane : goal.invariant-loop-lane
 invariant-loop-lane l = record {
-  bars : All (IsBarOf l.lanes l.steps) l.bars.items;
-  all : ShowLanesBelow l.lanes l.steps l.bars.items l.lane;
+  bars : All (IsBarOf l.lanes l.before l.steps) l.bars.items;
+  all : ShowLanesBelow l.lanes l.before l.steps l.bars.items l.lane;
 }

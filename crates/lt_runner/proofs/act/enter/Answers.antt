@@ -23,6 +23,7 @@ returns-in-Ok-clause-does g c =
         },
       );
       tells = subst (λ (n : ℕ). OutcomeTells c.args.pass c.in-Ok.guard.pass [] (n ∷ []) []) (sym c.number-number.ensures.number) (tells_entered c.args.pass c.args.accesses.now c.args.txn c.args.ts c.args.longest c.args.host.now.table.now.max_requests c.in-Ok.guard e);
+      heard = tt;
     }
 
 pub returns-after-error-clause-numbers_out : goal.returns-after-error-clause-numbers_out

@@ -10,6 +10,7 @@ returns-in-Ok g c =
       steps = l.steps;
       done = (record { answered = c.in-Ok.left.answers.items; left = l.left }, refl);
       tells = tells_steps c.args.guard.pass l.steps c.in-Ok.left.pass l.reported;
+      heard = tt;
     }
 
 pub returns-in-HistoryFull : goal.returns-in-HistoryFull
@@ -20,4 +21,5 @@ returns-in-HistoryFull g c =
       steps = l.steps;
       done = record { state = c.in-Err.stopped.guard.walk; refused = l.stopped; goes_on = refl };
       tells = tells_steps c.args.guard.pass l.steps c.in-Err.stopped.guard.pass l.reported;
+      heard = tt;
     }

@@ -4,6 +4,9 @@ use Rattle.lt_runner.specs.Execution.{Polls}
 use Rattle.lt_runner.proofs.Scans.{one_poll, polls_then}
 use Rattle.lt_runner.proofs.act.poll_on.Goals as goal
 
+pub loop-polled-init : goal.loop-polled-init
+loop-polled-init g c = one_poll c.args.guard.now c.poll-found.new.guard c.poll-found.result c.poll-found.ensures.poll c.poll-found.ensures.through
+
 pub loop-polled-preserved : goal.loop-polled-preserved
 loop-polled-preserved g c =
     let waits : c.loop-polled.found ≡ polls.Waiting = search rules in

@@ -4,7 +4,7 @@ use Rattle.lt_table_core.specs.Machine.{Asked}
 use Rattle.lt_table_core.specs.Reported.{IsScan, GuardState}
 use Rattle.lt_runner.specs.Machine.{IsScanAnswer, let_gone_on}
 use Rattle.lt_runner.specs.Outcomes.{OutcomeTells}
-use Rattle.lt_runner.proofs.Scans.{tells_scan, scans_draw_none}
+use Rattle.lt_runner.proofs.Scans.{tells_scan, hears_scan, scans_draw_none}
 use Rattle.lt_runner.proofs.act.scan_of.Goals as goal
 
 pub returns-in-Ok : goal.returns-in-Ok
@@ -25,6 +25,7 @@ returns-in-Ok g c =
       };
       tells = subst (λ (ns : List ℕ). OutcomeTells old.pass new.pass s.steps ns (let_gone_on (Some old.walk) s.word)) (sym (scans_draw_none old.walk.asked.keys c.scan-ended.result c.in-Ok.answer told))
           (tells_scan c.args.table.now.max_waits old new c.scan-ended.result s c.scan-ended.ensures.stays.pass.number c.scan-ended.ensures.went_on);
+      heard = hears_scan c.args.table.now.max_waits old new c.scan-ended.result s;
     }
 
 pub scan_answer-answered-requires-clause-waiting : goal.scan_answer-answered-requires-clause-waiting

@@ -19,5 +19,6 @@ returns g c =
       goes_on = c.in_ok-after.ensures;
       of = c.seen.ensures.of;
       seen_is = c.seen.ensures.seen;
+      shown_is = c.seen.ensures.shown;
       others = subst (λ (k : ℕ). set (set c.args.slots.now (n - 1) c.replace.new.dest) (n - 1) (Some c.in_ok-after.after) ≡ set c.args.slots.now (k - 1) (Some c.in_ok-after.after)) is (set_twice c.args.slots.now (n - 1) c.replace.new.dest (Some c.in_ok-after.after));
     }

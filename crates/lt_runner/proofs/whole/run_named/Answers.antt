@@ -1,4 +1,4 @@
-use Rattle.std.proofs.Common.{◌≡◌, ◌≤◌, ℕ, Bool, length, sym, subst}
+use Rattle.std.proofs.Common.{◌≡◌, ◌≤◌, ℕ, length, sym, subst}
 use Rattle.std.specs.List.{All, AllByRecursion}
 use Rattle.std.proofs.lemmas.List.Elements.{All-from_recursion, recursion_from_All}
 use Rattle.lt_words.specs.Row.{Opening, PassState}
@@ -8,6 +8,7 @@ use Rattle.lt_runner.specs.declared.outcome.Ran.{Ran}
 use Rattle.lt_runner.specs.declared.outcome.Work.{Work}
 use Rattle.lt_runner.specs.Sessions.{session_pass}
 use Rattle.lt_runner.specs.Machine.{Rules, rules_of}
+use Rattle.lt_runner.specs.Gates.{GateAnswers}
 use Rattle.lt_runner.specs.Turns.{HaveRun, IsAmong}
 use Rattle.lt_runner.specs.Ran.{IsRan}
 use Rattle.lt_runner.proofs.Closings.{is_ran, new_some, new_numbered, new_among, new_none, works_of}
@@ -29,20 +30,20 @@ pub hand_over-requires : goal.hand_over-requires
 hand_over-requires g c =
     let rules : Rules = rules_of c.in-Ok.table c.args.plan.now.turns in
     All-from_recursion (λ (w : Work). (session_pass w.session).of ≡ g.N.Name.of) c.in_ok-works.works.items
-    (works_of rules (g.G.Gate.always c.args.plan.now.gate.now) c.args.plan.now.commands.now g.N.Name.of c.in-Ok.passes.items c.in_ok-works.works.items c.in_ok-works.ensures
+    (works_of rules (g.G.Gate.may_answer c.args.plan.now.gate.now) c.args.plan.now.commands.now g.N.Name.of c.in-Ok.passes.items c.in_ok-works.works.items c.in_ok-works.ensures
     (recursion_from_All (λ (p : PassState). p.of ≡ g.N.Name.of) c.in-Ok.passes.items c.in-Ok.ensures.of))
 
 pub returns-in-Ok-close : goal.returns-in-Ok-close
 returns-in-Ok-close g c =
     let of : Opening = g.N.Name.of in
-    let always : Bool = g.G.Gate.always c.args.plan.now.gate.now in
+    let gate : GateAnswers = g.G.Gate.may_answer c.args.plan.now.gate.now in
     let rules : Rules = rules_of c.args.ready.config c.args.plan.now.turns in
     let same : c.in-Ok.table ≡ c.args.ready.config = c.in-Ok.ensures.config in
-    let run : HaveRun rules always of.shards c.args.plan.now.commands.now c.in-Ok.passes.items c.in_ok-works.works.items = subst (λ (k : Config). HaveRun (rules_of k c.args.plan.now.turns) always of.shards c.args.plan.now.commands.now c.in-Ok.passes.items c.in_ok-works.works.items) same c.in_ok-works.ensures in
+    let run : HaveRun rules gate of.shards c.args.plan.now.commands.now c.in-Ok.passes.items c.in_ok-works.works.items = subst (λ (k : Config). HaveRun (rules_of k c.args.plan.now.turns) gate of.shards c.args.plan.now.commands.now c.in-Ok.passes.items c.in_ok-works.works.items) same c.in_ok-works.ensures in
     let limit : All (λ es. length es.items ≤ rules.max_steps) c.in-Ok-close.histories.shards.items = subst (λ (k : Config). All (λ es. length es.items ≤ k.max_steps) c.in-Ok-close.histories.shards.items) same c.in-Ok-close.ensures.limit in
     let ran : Ran = record { answers = c.in_ok-passes.field-0.answers; finish = c.in_ok-passes.field-0.finish; histories = c.in-Ok-close.histories.shards; draws = c.in-Ok-close.histories.draws } in
-    subst (λ (n : ℕ). IsRan rules always n c.args.plan.now.commands.now ran) (sym c.requires.shards)
-    (is_ran rules always of c.args.plan.now.commands.now c.in-Ok.passes.items (passes_of c.in_ok-passes.field-0.passes.items c.in_ok-passes.field-0.guards.items) c.in_ok-works.works.items ran
+    subst (λ (n : ℕ). IsRan rules gate n c.args.plan.now.commands.now ran) (sym c.requires.shards)
+    (is_ran rules gate of c.args.plan.now.commands.now c.in-Ok.passes.items (passes_of c.in_ok-passes.field-0.passes.items c.in_ok-passes.field-0.guards.items) c.in_ok-works.works.items ran
     c.requires.some
     (new_among of of.passes c.in-Ok.passes.items c.args.plan.now.commands.now c.in-Ok.ensures.passes (subst (λ (n : ℕ). AllByRecursion (IsAmong n) c.args.plan.now.commands.now) c.requires.passes c.requires.among))
     (recursion_from_All (λ (p : PassState). p.of ≡ of) c.in-Ok.passes.items c.in-Ok.ensures.of)

@@ -52,7 +52,7 @@ returns-clause-closed g c =
     let of : three.of ≡ g.N.Name.of = c.drawn-draws.ensures.more.of ∙ (c.end_shards-rests.ensures.more.of ∙ (c.learn_all.ensures.more.of ∙ of_last (λ p. p.of ≡ g.N.Name.of) c.args.passes.items c.pop.new.self.items c.in-Some.last joined c.requires.passes)) in
     let legal : IsLegalHistory g.N.Name.of.shards three.seen = subst (λ n. IsLegalHistory n three.seen) (ap (λ o. o.shards) of) c.legal.ensures.legal in
     ends g.N.Name.of c.args.wanted c.args.passes.items c.args.shards.items c.end_shards-rests.result.items one two three c.drawn-draws.result seen shown c.end_shards-rests.ensures.more.shown c.drawn-draws.ensures.more.shown c.legal.ensures.let_through c.end_shards-rests.ensures.ended c.end_shards-rests.ensures.more.seen c.drawn-draws.ensures.more.seen legal c.drawn-draws.ensures.draws
-    c.requires.many c.requires.counted (new_shard g.N.Name.of 0 0)
+    c.requires.many c.requires.counted c.requires.keeping (new_shard g.N.Name.of 0 0)
 
 pub returns-clause-whole : goal.returns-clause-whole
 returns-clause-whole g c = λ yes. ends_whole g.N.Name.of c.args.wanted c.args.passes.items c.args.shards.items c.end_shards-rests.result.items c.learn_all.new.last c.end_shards-rests.new.last c.end_shards-rests.ensures.ended c.requires.many c.requires.counted (new_shard g.N.Name.of 0 0) yes

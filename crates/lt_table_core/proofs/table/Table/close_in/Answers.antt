@@ -29,4 +29,4 @@ unclosed Memory w ps vs handed config wrong back shards = absurd wrong
 pub refusal-requires : goal.refusal-requires
 refusal-requires g c =
     let shards : length c.deref.result.now ≡ c.self.inside.config.shards = search rules in
-    unclosed c.in-Some.error (record { whole = c.args.only_whole; max_steps = c.self.inside.config.max_steps }) (passes_of c.deref-2.result.now c.deref-3.result.now) c.deref.result.now (length c.args.passes.items + length c.args.guards.items) c.self.inside.config c.in-Some.ensures.some (search rules) shards
+    unclosed c.in-Some.error (record { whole = c.args.only_whole; max_steps = c.self.inside.config.max_steps; keeping = c.keeping.result }) (passes_of c.deref-2.result.now c.deref-3.result.now) c.deref.result.now (length c.args.passes.items + length c.args.guards.items) c.self.inside.config c.in-Some.ensures.some (search rules) shards

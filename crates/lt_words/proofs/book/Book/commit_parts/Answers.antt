@@ -30,9 +30,9 @@ invariant_of-pass g c =
     let low : c.args.shard < c.pass.inside.seen.of.shards = omega (arith, c.requires.home, ap (λ o. o.shards) of, ap (λ o. o.shards) c.self.view_is, c.self.invariant.0.sizes.some_shards) in
     let old : c.index_mut.result.now ≡ get_or c.pass.inside.rest.value.counts.items c.args.shard 0 = get_or_read c.pass.inside.rest.value.counts.items c.args.shard c.index_mut.result.now (omega (arith, low, c.pass.invariant.many)) (subst (λ (r : PassRest). c.index_mut.result.now ≡ get_or r.counts.items c.args.shard c.index_mut.result.now) c.deref_mut.ensures.value c.index_mut.ensures.value) 0 in
     let mid : (h : List Event) × IsPrefix c.learn.new.self.seen h × (length (part c.args.shard h) ≡ c.args.count) × (c.commit.new.self.seen ≡ h ++ Step c.args.shard c.args.entry.now ∷ []) = c.commit.ensures.step in
-    let grew : FrontGrows c.pass.inside.seen c.commit.new.self = grows_on c.pass.inside.seen c.learn.new.self c.commit.new.self (record { of = c.learn.ensures.of; seen = c.learn.ensures.this; shown = c.learn.ensures.shown_this }) c.commit.ensures.more in
-    subst (λ (r : PassRest). IsPass (pass_state c.pass.inside.number c.commit.new.self (set r.counts.items c.args.shard (c.index_mut.result.now + 1)))) (sym c.deref_mut.ensures.value)
-    (sight_steps c.pass.inside.number c.pass.inside.seen c.commit.new.self c.pass.inside.rest.value.counts.items c.args.shard c.index_mut.result.now c.args.entry.now (λ h. length (part c.args.shard h) ≡ c.args.count) c.pass.invariant grew low old
+    let grew : FrontGrows c.pass.inside.seen c.commit.new.self = grows_on c.pass.inside.seen c.learn.new.self c.commit.new.self (record { of = c.learn.ensures.of; seen = c.learn.ensures.this; shown = c.learn.ensures.shown_this; takes = c.learn.ensures.takes_this }) c.commit.ensures.more in
+    subst (λ (r : PassRest). IsPass (pass_state c.pass.inside.number c.commit.new.self (set r.counts.items c.args.shard (c.index_mut.result.now + 1)) r.taken.items)) (sym c.deref_mut.ensures.value)
+    (sight_steps c.pass.inside.number c.pass.inside.seen c.commit.new.self c.pass.inside.rest.value.counts.items c.pass.inside.rest.value.taken.items c.args.shard c.index_mut.result.now c.args.entry.now (λ h. length (part c.args.shard h) ≡ c.args.count) c.pass.invariant grew low old
     (mid.0, prefix_trans c.pass.inside.seen.seen c.learn.new.self.seen mid.0 c.learn.ensures.this mid.1, mid.2, mid.3))
 
 pub returns-clause-step : goal.returns-clause-step
@@ -51,3 +51,11 @@ returns-clause-pass_shown g c =
 pub returns-clause-front_shown : goal.returns-clause-front_shown
 returns-clause-front_shown g c =
     rw c.again.ensures (prefix_trans c.args.front.now.shown c.learn.new.self.shown c.commit.new.self.shown c.learn.ensures.shown_that c.commit.ensures.more.shown)
+
+pub returns-clause-pass_takes : goal.returns-clause-pass_takes
+returns-clause-pass_takes g c =
+    rw (← c.pass.view_is) (prefix_trans c.pass.inside.seen.takes c.learn.new.self.takes c.commit.new.self.takes c.learn.ensures.takes_this c.commit.ensures.more.takes)
+
+pub returns-clause-front_takes : goal.returns-clause-front_takes
+returns-clause-front_takes g c =
+    rw c.again.ensures (prefix_trans c.args.front.now.takes c.learn.new.self.takes c.commit.new.self.takes c.learn.ensures.takes_that c.commit.ensures.more.takes)

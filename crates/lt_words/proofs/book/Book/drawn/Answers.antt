@@ -2,4 +2,4 @@ use Rattle.lt_words.proofs.Passes.{sight_on}
 use Rattle.lt_words.proofs.book.Book.drawn.Goals as goal
 
 pub invariant_of-pass : goal.invariant_of-pass
-invariant_of-pass c = sight_on c.pass.inside.number c.pass.inside.seen c.drawn.new.self c.pass.inside.rest.value.counts.items c.pass.invariant c.drawn.ensures.more
+invariant_of-pass c = sight_on c.pass.inside.number c.pass.inside.seen c.drawn.new.self c.pass.inside.rest.value.counts.items c.pass.inside.rest.value.taken.items c.pass.invariant c.drawn.ensures.more

@@ -5,16 +5,16 @@ use Rattle.lt_words.proofs.book.Book.exact.Goals as goal
 
 pub invariant_of-pass : goal.invariant_of-pass
 invariant_of-pass g c =
-    let grew : FrontGrows c.pass.inside.seen c.exact.new.self = grows_on c.pass.inside.seen c.learn.new.self c.exact.new.self (record { of = c.learn.ensures.of; seen = c.learn.ensures.this; shown = c.learn.ensures.shown_this }) c.exact.ensures.more in
-    sight_on c.pass.inside.number c.pass.inside.seen c.exact.new.self c.pass.inside.rest.value.counts.items c.pass.invariant grew
+    let grew : FrontGrows c.pass.inside.seen c.exact.new.self = grows_on c.pass.inside.seen c.learn.new.self c.exact.new.self (record { of = c.learn.ensures.of; seen = c.learn.ensures.this; shown = c.learn.ensures.shown_this; takes = c.learn.ensures.takes_this }) c.exact.ensures.more in
+    sight_on c.pass.inside.number c.pass.inside.seen c.exact.new.self c.pass.inside.rest.value.counts.items c.pass.inside.rest.value.taken.items c.pass.invariant grew
 
 pub exact-requires-clause-shard : goal.exact-requires-clause-shard
 exact-requires-clause-shard g c = omega (arith, c.requires.shard, ap (λ o. o.shards) c.self.view_is, c.self.invariant.0.sizes.few_shards)
 
 pub returns-clause-more : goal.returns-clause-more
 returns-clause-more g c =
-    let grew : FrontGrows c.pass.inside.seen c.exact.new.self = grows_on c.pass.inside.seen c.learn.new.self c.exact.new.self (record { of = c.learn.ensures.of; seen = c.learn.ensures.this; shown = c.learn.ensures.shown_this }) c.exact.ensures.more in
-    rw (← c.pass.view_is) (sees_on c.pass.inside.number c.pass.inside.seen c.exact.new.self c.pass.inside.rest.value.counts.items grew)
+    let grew : FrontGrows c.pass.inside.seen c.exact.new.self = grows_on c.pass.inside.seen c.learn.new.self c.exact.new.self (record { of = c.learn.ensures.of; seen = c.learn.ensures.this; shown = c.learn.ensures.shown_this; takes = c.learn.ensures.takes_this }) c.exact.ensures.more in
+    rw (← c.pass.view_is) (sees_on c.pass.inside.number c.pass.inside.seen c.exact.new.self c.pass.inside.rest.value.counts.items c.pass.inside.rest.value.taken.items grew)
 
 pub returns-clause-exact : goal.returns-clause-exact
 returns-clause-exact c = search rules

@@ -13,7 +13,7 @@ load-requires c =
     let same : c.book.inside.start.of ≡ opening_of c.self.inside.seen.book log = c.book.view_is ∙ (c.requires.of ∙ ap (λ s. s.of) (sym c.self.view_is)) in
     let high : c.args.pass ≤ passes_in log = rw (ap (λ s. s.of.passes) c.self.view_is) c.requires.high in
     let many : c.book.inside.start.of.passes ≡ passes_in log = ap (λ o. o.passes) same in
-    let h : c.index.result.now.word ≡ word_at c.self.inside.seen.book (c.args.pass + 64) = word_of c.book.inside.start.of c.book.inside.lines.items c.self.inside.seen.book (c.args.pass + 64) c.index.result.now row (ap (λ o. o.book) same) (omega (arith, row.many, high, many)) c.index.ensures in
+    let h : c.index.result.now.word ≡ word_at c.self.inside.seen.book (c.args.pass + 128) = word_of c.book.inside.start.of c.book.inside.lines.items c.self.inside.seen.book (c.args.pass + 128) c.index.result.now row (ap (λ o. o.book) same) (omega (arith, row.many, high, many)) c.index.ensures in
     let offer = c.plain-offer.ensures in (
       ap (λ w. w.tracked) h,
       sym (ap (λ w. w.book) h),

@@ -1,0 +1,3 @@
+module locktable
+
+go 1.19

@@ -1,0 +1,2 @@
+/* The allocator that the archive calls, compiled into the package. */
+#include "../c/heap.c"

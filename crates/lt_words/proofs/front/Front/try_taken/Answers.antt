@@ -1,0 +1,14 @@
+use Rattle.std.proofs.Common.{◌≡◌, ◌+◌, ◌<◌, sym, ◌∙◌, ap, arith}
+use Rattle.lt_words.specs.Rules.{word_at}
+use Rattle.lt_words.specs.Row.{opening_of}
+use Rattle.lt_words.proofs.Lines.{word_of}
+use Rattle.lt_words.proofs.Moving.{taken_moves}
+use Rattle.lt_words.proofs.Logs.{sight_grows}
+use Rattle.lt_words.proofs.front.Front.try_taken.Goals as goal
+
+pub returns-clause-more : goal.returns-clause-more
+returns-clause-more c =
+    let seen = c.self.inside.seen in
+    let after = c.compare_exchange-found.new.seen in
+    let told = c.compare_exchange-found.ensures in
+    rw (← c.self.view_is) (sight_grows seen.book after.book seen.log after.log told.0 c.self.invariant told.6)
