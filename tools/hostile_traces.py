@@ -7,12 +7,12 @@ hostile.py runs it too. The programs `lockrun` and `locktrace` must have been bu
 last line is `N passed, M failed`.
 
 - Each command runs once for each allocation, read and write that fails, and for each write that takes one byte. It must end as
-  docs/FORMATS.md says: status 4 or 5 with its message, and nothing written; after a failed write a prefix, and of `show` a prefix
+  docs/LOCKTRACE.md says: status 4 or 5 with its message, and nothing written; after a failed write a prefix, and of `show` a prefix
   after any failure; or exactly what it writes otherwise.
 - Each command writes to a full device. `sort` has a temporary folder that is full, in which files may not grow, or that does not
   exist: it ends with status 5, writes nothing, and leaves no file behind.
 - Texts and traces of examples/ and docs/traces/ are cut at every byte. `check` must answer as `lockrun check` does; `check`, `explain`,
-  `show` and `sort` as docs/FORMATS.md says.
+  `show` and `sort` as docs/LOCKTRACE.md says.
 - tools/same_verdicts.py compares `lockrun check`, `locktrace check` and `locktrace explain` on N texts that were changed at random.
 """
 
@@ -102,7 +102,7 @@ TEMPORARY = b'cannot use a temporary file in '
 
 
 def is_as_documented(trial, kind, is_last, ran, whole):
-    """Whether a run ended as docs/FORMATS.md says if something of this kind was refused, the last of its kind or not. `whole` is how it
+    """Whether a run ended as docs/LOCKTRACE.md says if something of this kind was refused, the last of its kind or not. `whole` is how it
     ends otherwise. A short write changes nothing, of refused memory a smaller piece may be enough, and a check of a file reads a piece
     once more."""
     if ran == whole and (kind in ('refuse_memory', 'short_write') or (kind, trial.words) == ('refuse_read', CHECK_OF_FILE)):

@@ -1,5 +1,5 @@
 #!/usr/bin/env python3
-"""Makes traces of texts of histories, in the two forms of docs/FORMATS.md, "Sorting a trace".
+"""Makes traces of texts of histories, in the two forms of docs/LOCKTRACE.md, "Sorting a trace".
 
     tools/trace_texts.py FILE words|json
 

@@ -42,10 +42,9 @@
  * answered by a code.
  *
  * THREADS. A table belongs to no thread: each call may come from another one, if the calls are ordered, for example by
- * a mutex that the caller holds during each call. Calls on different tables need no order. No contract says this. It
- * rests on three facts: the library has no variable outside the tables, neither for all threads nor for one; all that a
- * table owns is memory of the three functions below, which work on every thread; and no two calls use one table at the
- * same time. The Rust type LockTable is Send for these reasons.
+ * a mutex that the caller holds during each call. Calls on different tables need no order. It is proved that a table may go
+ * to another thread (its type is `Send`), since all that it owns is memory of the three functions below, which must work on
+ * every thread. That its calls are ordered is the caller's part.
  *
  * WAITING. The table says who waits and who is let through. How a caller waits and is woken is up to the program, and a
  * caller that gives up leaves. The head of bindings/rust/src/sync/mod.rs has six rules for this. They hold in C too.
@@ -91,8 +90,6 @@ enum lt_code {
     LT_BAD_NUMBER = 9,      /* the number of the request is not 1 to 2^40 - 1 */
     LT_BAD_WAIT = 10,       /* the wait number is not 1 to 2^24 - 1 */
     LT_BAD_PASS = 11,       /* the pass is not 1 to 1024 */
-    LT_NO_SUCH = 12,        /* there is no writer, reader or key with this index */
-    LT_BUFFER_SHORT = 13,   /* the key does not fit into the buffer; 64 bytes are enough for every key */
 
     /* faults of a text of histories, in the order in which lt_check tests each line */
     LT_FAULT_HEADER = 16,   /* the first line is not that of a version */
@@ -165,6 +162,12 @@ struct lt_queued {
     uint32_t wait;
     uint32_t pass;
     bool active;      /* true for a reader and for an active writer, false for an inactive writer and a reservation */
+};
+
+/* A key: its first `len` bytes, which are 1 to 64, and zeros after them. */
+struct lt_key_name {
+    size_t len;
+    uint8_t bytes[64];
 };
 
 /* The record of a key, without its queues. */
@@ -299,35 +302,31 @@ uint32_t lt_table_look(struct lt_table *table, const uint8_t *key, size_t key_le
 uint32_t lt_table_key(struct lt_table *table, const uint8_t *key, size_t key_len, struct lt_key *out);
 
 /*
- * The writer of the key with this index, from 0. Writers are in the order of their numbers. The call takes time in
- * proportion to the key's queues, whatever the index.
+ * The writers of the key, in the order of their numbers: as many of the first as fit into the `room` places of the array.
+ * Sets `count` to how many writers there are, which may be more. The rest of the array stays as it was. The call takes time
+ * in proportion to the key's queues.
  *
- * Answers LT_DONE, or refuses, in this order: LT_CLOSED, LT_BAD_KEY_EMPTY, LT_BAD_KEY_LONG, LT_BAD_KEY_BYTE, LT_MEMORY,
- * LT_NO_SUCH.
+ * Answers LT_DONE, or refuses as lt_table_look; then the array and the count are as they were.
  */
-uint32_t lt_table_writer(struct lt_table *table, const uint8_t *key, size_t key_len, size_t index,
-                         struct lt_queued *out);
+uint32_t lt_table_writers(struct lt_table *table, const uint8_t *key, size_t key_len, struct lt_queued *array,
+                          size_t room, size_t *count);
 
-/* The reader of the key with this index, from 0. The latest is first. Otherwise as lt_table_writer. */
-uint32_t lt_table_reader(struct lt_table *table, const uint8_t *key, size_t key_len, size_t index,
-                         struct lt_queued *out);
-
-/*
- * How many keys have a record: they are held, reserved or waited for. The call takes time in proportion to their
- * number, because it copies them.
- *
- * Answers LT_DONE, or refuses, in this order: LT_CLOSED, LT_MEMORY.
- */
-uint32_t lt_table_keys(struct lt_table *table, size_t *count);
+/* The readers of the key. The latest is first. Otherwise as lt_table_writers. */
+uint32_t lt_table_readers(struct lt_table *table, const uint8_t *key, size_t key_len, struct lt_queued *array,
+                          size_t room, size_t *count);
 
 /*
- * The key with this index, from 0, among those that have a record, in byte order. Writes its bytes to the front of
- * `buffer`, and their number to `len`. The rest of the buffer stays as it was. The call takes time in proportion to the
- * number of keys, whatever the index.
+ * The keys that have a record: they are held, reserved or waited for. Lists them in byte order, from the first one that
+ * comes after the key `after`, or from the very first if `after_len` is 0: as many as fit into the `room` places of the
+ * array. Sets `count` to how many were written. If these are fewer than `room`, no key comes after them. `after` need not
+ * have a record, so a caller lists all keys by giving the last key of a call to the next one. The call copies no more than
+ * `room` keys and one, and looks at all keys once.
  *
- * Answers LT_DONE, or refuses, in this order: LT_CLOSED, LT_MEMORY, LT_NO_SUCH, LT_BUFFER_SHORT.
+ * Answers LT_DONE, or refuses, in this order: LT_CLOSED, LT_BAD_KEY_LONG, LT_BAD_KEY_BYTE, LT_MEMORY; then the array and
+ * the count are as they were.
  */
-uint32_t lt_table_key_at(struct lt_table *table, size_t index, uint8_t *buffer, size_t room, size_t *len);
+uint32_t lt_table_keys(struct lt_table *table, const uint8_t *after, size_t after_len, struct lt_key_name *array,
+                       size_t room, size_t *count);
 
 /*
  * Which shard has the key, if a store spreads its keys over several tables: the sum of the key's bytes modulo `shards`.

@@ -113,23 +113,21 @@ static void print_queued(FILE *out, const struct lt_queued *queued) {
 static void print_key(FILE *out, struct lt_table *table, const char *name, size_t name_len) {
     const uint8_t *key = (const uint8_t *)name;
     struct lt_key state;
-    struct lt_queued queued;
+    size_t count = 99;
     WANT(lt_table_key(table, key, name_len, &state) == LT_DONE);
+    const size_t most = state.writers + state.readers + 1;
+    struct lt_queued *queued = malloc(most * sizeof *queued);
+    WANT(queued);
     fprintf(out, "%.*s %" PRIu64 " %" PRIu64 ".%u %" PRIu64 " reservation", (int)name_len, name, state.holder,
             state.wall, state.logical, state.distinguished);
     print_queued(out, &state.reservation);
     fprintf(out, " writers");
-    for (size_t i = 0; i < state.writers; i++) {
-        WANT(lt_table_writer(table, key, name_len, i, &queued) == LT_DONE);
-        print_queued(out, &queued);
-    }
-    WANT(lt_table_writer(table, key, name_len, state.writers, &queued) == LT_NO_SUCH);
+    WANT(lt_table_writers(table, key, name_len, queued, most, &count) == LT_DONE && count == state.writers);
+    for (size_t i = 0; i < count; i++) print_queued(out, &queued[i]);
     fprintf(out, " readers");
-    for (size_t i = 0; i < state.readers; i++) {
-        WANT(lt_table_reader(table, key, name_len, i, &queued) == LT_DONE);
-        print_queued(out, &queued);
-    }
-    WANT(lt_table_reader(table, key, name_len, state.readers, &queued) == LT_NO_SUCH);
+    WANT(lt_table_readers(table, key, name_len, queued, most, &count) == LT_DONE && count == state.readers);
+    for (size_t i = 0; i < count; i++) print_queued(out, &queued[i]);
+    free(queued);
     fprintf(out, "\n");
 }
 
@@ -152,18 +150,19 @@ static void print_model_key(FILE *out, const struct record *record, const char *
     fprintf(out, "\n");
 }
 
-/* All keys that have a record, in order. The caller frees the text. */
+/* All keys that have a record, in order, three with each call. The caller frees the text. */
 static char *state_of(struct lt_table *table) {
     char *text;
-    size_t size, keys, len, refusing = refuse_in;
+    size_t size, count, refusing = refuse_in;
+    struct lt_key_name names[3], after = {0};
     refuse_in = 0;
     FILE *out = open_memstream(&text, &size);
-    WANT(out && lt_table_keys(table, &keys) == LT_DONE);
-    for (size_t i = 0; i < keys; i++) {
-        uint8_t name[64];
-        WANT(lt_table_key_at(table, i, name, 64, &len) == LT_DONE);
-        print_key(out, table, (const char *)name, len);
-    }
+    WANT(out);
+    do {
+        WANT(lt_table_keys(table, after.bytes, after.len, names, 3, &count) == LT_DONE && count <= 3);
+        for (size_t i = 0; i < count; i++) print_key(out, table, (const char *)names[i].bytes, names[i].len);
+        if (count > 0) after = names[count - 1];
+    } while (count == 3);
     fclose(out);
     refuse_in = refusing;
     return text;
@@ -406,14 +405,13 @@ static void refusals(void) {
     ANSWERS(&look, LT_CLOSED);
     struct lt_key state = {.holder = 99};
     struct lt_queued queued = {.number = 99};
-    uint8_t buffer[64] = {99};
-    size_t len = 99;
+    struct lt_key_name names[2] = {{.len = 99}, {.len = 99}};
     WANT(note(lt_table_lets(&table, lets, 4, &count)) == LT_CLOSED);
     WANT(note(lt_table_key(&table, (const uint8_t *)"", 0, &state)) == LT_CLOSED);
-    WANT(note(lt_table_writer(&table, (const uint8_t *)"", 0, 0, &queued)) == LT_CLOSED);
-    WANT(note(lt_table_reader(&table, (const uint8_t *)"", 0, 0, &queued)) == LT_CLOSED);
-    WANT(note(lt_table_keys(&table, &count)) == LT_CLOSED);
-    WANT(note(lt_table_key_at(&table, 0, buffer, 0, &len)) == LT_CLOSED);
+    WANT(note(lt_table_writers(&table, (const uint8_t *)"", 0, &queued, 1, &count)) == LT_CLOSED);
+    WANT(note(lt_table_readers(&table, (const uint8_t *)"", 0, &queued, 1, &count)) == LT_CLOSED);
+    WANT(note(lt_table_keys(&table, (const uint8_t *)" ", 1, names, 2, &count)) == LT_CLOSED);
+    WANT(queued.number == 99 && names[0].len == 99);
     WANT(note(lt_table_close(&table)) == LT_CLOSED);
     WANT(!table.is_open && table.at == NULL);
 
@@ -465,13 +463,16 @@ static void refusals(void) {
         }
         const uint8_t *key = (const uint8_t *)keys[i].key;
         WANT(lt_table_key(&table, key, keys[i].len, &state) == keys[i].code && state.holder == 99);
-        WANT(lt_table_writer(&table, key, keys[i].len, 0, &queued) == keys[i].code && queued.number == 99);
-        WANT(lt_table_reader(&table, key, keys[i].len, 0, &queued) == keys[i].code && queued.number == 99);
+        WANT(lt_table_writers(&table, key, keys[i].len, &queued, 1, &count) == keys[i].code && queued.number == 99);
+        WANT(lt_table_readers(&table, key, keys[i].len, &queued, 1, &count) == keys[i].code && queued.number == 99);
+        if (keys[i].len > 0) WANT(lt_table_keys(&table, key, keys[i].len, names, 2, &count) == keys[i].code);
+        WANT(count == 99 && names[0].len == 99);
     }
-    WANT(lt_table_keys(&table, &count) == LT_DONE && count == 0);
+    WANT(lt_table_keys(&table, (const uint8_t *)"", 0, names, 2, &count) == LT_DONE && count == 0);
     visit.key = "!~", visit.key_len = 2;
     ANSWERS(&visit, LT_PASSED); /* a free key keeps no record */
-    WANT(lt_table_keys(&table, &count) == LT_DONE && count == 0);
+    WANT(lt_table_keys(&table, (const uint8_t *)"", 0, names, 2, &count) == LT_DONE && count == 0);
+    WANT(names[0].len == 99);
 
     /* Queries of a key of 64 bytes, in which each allocation fails in turn. */
     taken.key = long_key, taken.key_len = 64;
@@ -491,21 +492,22 @@ static void refusals(void) {
     REFUSED_IN_TURN(lt_table_key(&table, key, 64, &state), state.holder == 99);
     WANT(state.holder == 9 && state.wall == 10 && state.writers == 1 && state.readers == 1);
     WANT(state.distinguished == ((uint64_t)1 << 40) - 1);
-    REFUSED_IN_TURN(lt_table_writer(&table, key, 64, 0, &queued), queued.number == 99);
-    WANT(queued.number == ((uint64_t)1 << 40) - 1 && queued.wait == (1 << 24) - 1 && queued.pass == 1024);
-    WANT(queued.active);
-    queued.number = 99;
-    REFUSED_IN_TURN(lt_table_writer(&table, key, 64, 1, &queued), queued.number == 99);
-    WANT(queued.number == 99 && lt_table_writer(&table, key, 64, SIZE_MAX, &queued) == LT_NO_SUCH);
-    REFUSED_IN_TURN(lt_table_reader(&table, key, 64, 0, &queued), queued.number == 99);
-    WANT(queued.number == 7 && queued.active);
-    REFUSED_IN_TURN(lt_table_keys(&table, &count), count == 99);
-    WANT(count == 1);
-    REFUSED_IN_TURN(lt_table_key_at(&table, 0, buffer, 64, &len), buffer[0] == 99 && len == 99);
-    WANT(len == 64 && memcmp(buffer, long_key, 64) == 0);
-    len = 99;
-    WANT(note(lt_table_key_at(&table, 0, buffer, 63, &len)) == LT_BUFFER_SHORT && len == 99);
-    WANT(note(lt_table_key_at(&table, 1, buffer, 0, &len)) == LT_NO_SUCH && len == 99);
+    REFUSED_IN_TURN(lt_table_writers(&table, key, 64, &queued, 1, &count), queued.number == 99 && count == 99);
+    WANT(count == 1 && queued.number == ((uint64_t)1 << 40) - 1 && queued.wait == (1 << 24) - 1);
+    WANT(queued.pass == 1024 && queued.active);
+    queued.number = 99, count = 99;
+    WANT(lt_table_writers(&table, key, 64, &queued, 0, &count) == LT_DONE && count == 1 && queued.number == 99);
+    count = 99;
+    REFUSED_IN_TURN(lt_table_readers(&table, key, 64, &queued, 1, &count), queued.number == 99 && count == 99);
+    WANT(count == 1 && queued.number == 7 && queued.active);
+    count = 99;
+    REFUSED_IN_TURN(lt_table_keys(&table, key, 0, names, 2, &count), names[0].len == 99 && count == 99);
+    WANT(count == 1 && names[0].len == 64 && memcmp(names[0].bytes, long_key, 64) == 0 && names[1].len == 99);
+    count = 99;
+    REFUSED_IN_TURN(lt_table_keys(&table, key, 64, names, 2, &count), count == 99);
+    WANT(count == 0);
+    WANT(lt_table_keys(&table, key, 63, names, 2, &count) == LT_DONE && count == 1 && names[0].len == 64);
+    WANT(lt_table_keys(&table, key, 0, names, 0, &count) == LT_DONE && count == 0);
     WANT(lt_table_close(&table) == LT_DONE && !table.is_open && table.at == NULL);
 
     WANT(lt_shard_of((const uint8_t *)"ab", 2, 10) == (97 + 98) % 10);
@@ -746,7 +748,7 @@ int main(int words, char **word) {
     random_calls(CALLS);
     for (uint32_t code = LT_DONE; code <= LT_WAIT_OWN; code++) {
         bool is_fault = code >= LT_FAULT_HEADER && code <= LT_FAULT_LETS;
-        bool is_code = code <= LT_BUFFER_SHORT || is_fault || code >= LT_FIRST_REPLY;
+        bool is_code = code <= LT_BAD_PASS || is_fault || code >= LT_FIRST_REPLY;
         if (met[code] != is_code) {
             fprintf(stderr, "code %u: %s\n", code, is_code ? "no test met it" : "it is no code of the interface");
             return 1;

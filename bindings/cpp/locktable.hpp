@@ -32,8 +32,8 @@
  *
  * WHAT STANDS BEHIND IT. A key has one shard, chosen by a hash with a random start. A shard is a table of locktable.h
  * behind a mutex. That table is proved: who waits, who is let through, and in which order. This header is not: it wakes
- * those who were let through. It is tested, and a run can be judged by the proved check: give the lines of a StepSink to
- * `locktrace sort`, or to lt_check.
+ * those who were let through. It is tested, and a run can be judged by the proved check: give the histories of a Trace to
+ * lt_check, or the lines of a StepSink to `locktrace sort`.
  *
  * THE PROTOCOL is that of the Rust module locktable::sync, whose head tells its six rules. Here: a visit and its acquire are
  * one critical section (Txn::visit_and_acquire); whoever is let through visits again (Txn::drive); whoever gives up
@@ -41,6 +41,9 @@
  * (Shard::visit); waking comes after (Locks::at); wait numbers rise (Txn::request).
  *
  * THREADS. Any thread may call a Locks, and many may at once. A Txn serves one thread at a time.
+ *
+ * DEADLOCKS are up to the program. Options::at_wait is called when a transaction begins to wait, Locks::deadlock_of tells
+ * whether that closed a cycle, and Locks::doom ends the wait of one of its transactions, which then restarts.
  *
  * ERRORS. A lock that is not given is a Status. std::bad_alloc comes if memory runs out: the transaction then waits
  * nowhere, and holds what it held before. std::length_error comes after 2^40 - 1 transactions, or 2^24 - 1 waits of one.
@@ -60,6 +63,7 @@
 #include <condition_variable>
 #include <cstdint>
 #include <functional>
+#include <map>
 #include <memory>
 #include <mutex>
 #include <new>
@@ -156,6 +160,70 @@ private:
 /// same time. It must be quick, and must not call the table. If it throws, its shard tells it nothing more.
 using StepSink = std::function<void(const Step &)>;
 
+/// Keeps the steps of a table in memory, for tests and short runs. It must outlive the table that it is the sink of.
+///
+///     locktable::Trace trace;
+///     locktable::Locks locks({}, trace.sink());
+class Trace {
+public:
+    Trace() = default;
+    Trace(const Trace &) = delete;
+    Trace &operator=(const Trace &) = delete;
+
+    StepSink sink() {
+        return [this](const Step &step) { add(step); };
+    }
+
+    /// The steps so far as a text of histories, which lt_check and `locktrace check` read.
+    std::string histories() const {
+        std::map<std::string_view, const std::string *> keys;
+        std::vector<std::unique_lock<std::mutex>> holds;
+        for (const Part &part : parts_) {
+            holds.emplace_back(part.mutex);
+            for (const auto &[key, history] : part.histories) keys.emplace(key, &history.lines);
+        }
+        std::string text = "locks 2\n";
+        for (const auto &[key, lines] : keys) text += *lines;
+        return text;
+    }
+
+    std::size_t steps() const {
+        std::size_t many = 0;
+        for (const Part &part : parts_) {
+            const std::lock_guard<std::mutex> hold(part.mutex);
+            for (const auto &[key, history] : part.histories) many += history.steps;
+        }
+        return many;
+    }
+
+private:
+    struct History {
+        std::size_t steps = 0;
+        std::string lines;
+    };
+
+    struct Part {
+        mutable std::mutex mutex;
+        std::map<std::string, History, std::less<>> histories;
+    };
+
+    /// A step is kept whole or not at all.
+    void add(const Step &step) {
+        Part &part = parts_[step.shard % parts_.size()];
+        const std::lock_guard<std::mutex> hold(part.mutex);
+        const std::string line = step.line();
+        auto found = part.histories.find(step.key);
+        if (found == part.histories.end()) found = part.histories.emplace(step.key, History{}).first;
+        History &history = found->second;
+        history.lines += line.substr(0, step.key.size()) + " " + std::to_string(history.steps + 1) +
+                         line.substr(step.key.size()) + "\n";
+        history.steps++;
+    }
+
+    /// Of shards with one index modulo their number. Steps of the other shards do not wait for each other here.
+    std::array<Part, 64> parts_;
+};
+
 /// A transaction that waits, and for whom.
 struct Edge {
     std::uint64_t waiter;
@@ -166,11 +234,20 @@ struct Edge {
     bool is_distinguished;    ///< Whether the waiter is the one of the key's waiters that has to push.
 };
 
+class Locks;
+
+/// Is told that a transaction begins to wait, by the thread that will wait, before it sleeps. No mutex is held: it may call
+/// the table, but not the transaction, and the wait may be over already. If it throws, the transaction waits no longer, and
+/// its call throws the same.
+using WaitSink = std::function<void(const Locks &, std::uint64_t txn)>;
+
 struct Options {
     /// Each has a mutex and a table of its own, so take a few for each processor. 0 is taken as 1.
     std::size_t shards = 64;
     /// The bound on the writers that wait for a key, or 0 for none.
     std::uint32_t longest = 0;
+    /// Is told each wait, except one whose deadline is over.
+    WaitSink at_wait = {};
 };
 
 namespace detail {
@@ -242,6 +319,9 @@ struct Start {
 
 constexpr std::size_t longest_key = 64;
 
+/// How many keys the first call for keys lists at most.
+constexpr std::size_t keys_at_first = 64;
+
 inline bool is_plain(char byte) { return byte >= 0x21 && byte <= 0x7E && byte != '%'; }
 
 inline std::string hex(std::uint64_t number, int digits, const char *alphabet) {
@@ -255,6 +335,7 @@ inline std::string hex(std::uint64_t number, int digits, const char *alphabet) {
 /// then `%#` and 32 hex digits of a hash of all bytes.
 inline std::string table_key(std::string_view key, const Start &start) {
     if (key.empty()) return "%";
+    if (key.size() <= longest_key && std::all_of(key.begin(), key.end(), is_plain)) return std::string(key);
     const auto encode = [key](std::size_t room) {
         std::string made;
         for (char byte : key) {
@@ -277,6 +358,14 @@ enum class End { through, doomed, timed_out };
 /// Where one transaction waits.
 class Waiter {
 public:
+    static constexpr std::size_t nowhere = static_cast<std::size_t>(-1);
+
+    /// The shard in which it last registered a wait, which may be over. It is set under the mutex of that shard.
+    ///
+    /// Two transactions that begin to wait at one time each set theirs before they read the other's. Both are sequentially
+    /// consistent, so at least one of them reads what the other has set.
+    std::atomic<std::size_t> shard{nowhere};
+
     void let_through(std::uint32_t wait) {
         tell([wait](Waiter &it) { it.through_ = std::max(it.through_, wait); });
     }
@@ -349,6 +438,7 @@ public:
     std::uint32_t visit(const std::string &key, const lt_request &request, const std::shared_ptr<Waiter> &waiter) {
         // It is registered before the step, because nothing may fail once the table has made the step.
         waiting_.insert_or_assign(request.number, Waiting{request.wait, key, waiter});
+        waiter->shard = index_;
         std::uint32_t code = LT_MEMORY;
         try {
             code = step(key, request.pass, [&](auto... out) {
@@ -396,16 +486,15 @@ public:
         return txn;
     }
 
+    /// For whom the request with this number waits here, if it does.
+    std::optional<Edge> edge_of(std::uint64_t number) {
+        const auto found = waiting_.find(number);
+        return found == waiting_.end() ? std::nullopt : edge_of(number, found->second);
+    }
+
     void put_edges(std::vector<Edge> &edges) {
         for (const auto &[number, waiting] : waiting_) {
-            std::uint64_t txn = 0;
-            const std::uint32_t code = lt_table_look(&table_, bytes(waiting.key), waiting.key.size(), number, &txn);
-            if (code == LT_MEMORY) throw std::bad_alloc();
-            const bool first = code == LT_WAIT_FIRST_HELD || code == LT_WAIT_FIRST_RESERVED;
-            if (first || code == LT_WAIT_FOR_HELD || code == LT_WAIT_FOR_RESERVED) {
-                const bool held = code == LT_WAIT_FIRST_HELD || code == LT_WAIT_FOR_HELD;
-                edges.push_back(Edge{number, waiting.wait, waiting.key, txn, held, first});
-            }
+            if (std::optional<Edge> edge = edge_of(number, waiting)) edges.push_back(*std::move(edge));
         }
     }
 
@@ -416,13 +505,20 @@ public:
     }
 
     void put_keys(std::vector<std::string> &keys) {
-        std::size_t count = 0;
-        if (lt_table_keys(&table_, &count) != LT_DONE) throw std::bad_alloc();
-        for (std::size_t at = 0; at < count; at++) {
-            std::array<std::uint8_t, longest_key> buffer{};
-            std::size_t len = 0;
-            if (lt_table_key_at(&table_, at, buffer.data(), buffer.size(), &len) != LT_DONE) throw std::bad_alloc();
-            keys.emplace_back(buffer.begin(), buffer.begin() + static_cast<std::ptrdiff_t>(len));
+        // Each call looks at all keys, so each one lists twice as many as the one before.
+        std::vector<lt_key_name> array(keys_at_first);
+        lt_key_name after = {};
+        for (;;) {
+            std::size_t count = 0;
+            if (lt_table_keys(&table_, after.bytes, after.len, array.data(), array.size(), &count) != LT_DONE) {
+                throw std::bad_alloc();
+            }
+            for (std::size_t at = 0; at < count; at++) {
+                keys.emplace_back(array[at].bytes, array[at].bytes + array[at].len);
+            }
+            if (count < array.size()) return;
+            after = array.back();
+            array.resize(2 * array.size());
         }
     }
 
@@ -435,6 +531,16 @@ private:
         std::string key;
         std::shared_ptr<Waiter> waiter;
     };
+
+    std::optional<Edge> edge_of(std::uint64_t number, const Waiting &waiting) {
+        std::uint64_t txn = 0;
+        const std::uint32_t code = lt_table_look(&table_, bytes(waiting.key), waiting.key.size(), number, &txn);
+        if (code == LT_MEMORY) throw std::bad_alloc();
+        const bool held = code == LT_WAIT_FIRST_HELD || code == LT_WAIT_FOR_HELD;
+        const bool first = code == LT_WAIT_FIRST_HELD || code == LT_WAIT_FIRST_RESERVED;
+        if (!held && !first && code != LT_WAIT_FOR_RESERVED) return std::nullopt;
+        return Edge{number, waiting.wait, waiting.key, txn, held, first};
+    }
 
     static const std::uint8_t *bytes(const std::string &key) { return reinterpret_cast<const std::uint8_t *>(key.data()); }
 
@@ -491,7 +597,8 @@ struct Inner {
         std::unordered_map<std::uint64_t, std::shared_ptr<Waiter>> waiters;
     };
 
-    Inner(const Options &options, const StepSink &sink) : longest(options.longest), live(std::max<std::size_t>(options.shards, 1)) {
+    Inner(const Options &options, const StepSink &sink)
+        : longest(options.longest), at_wait(options.at_wait), live(std::max<std::size_t>(options.shards, 1)) {
         for (std::size_t i = 0; i < live.size(); i++) shards.push_back(std::make_unique<Shard>(i, sink));
     }
 
@@ -516,7 +623,16 @@ struct Inner {
 
     Live &live_of(std::uint64_t txn) { return live[txn % live.size()]; }
 
+    /// Where the transaction waits; null if it has ended, or never began.
+    std::shared_ptr<Waiter> waiter_of(std::uint64_t txn) {
+        Live &part = live_of(txn);
+        const std::lock_guard<std::mutex> hold(part.mutex);
+        const auto found = part.waiters.find(txn);
+        return found == part.waiters.end() ? nullptr : found->second;
+    }
+
     std::uint32_t longest;
+    WaitSink at_wait;
     Start start;
     std::vector<std::unique_ptr<Shard>> shards;
     /// The waiters of the transactions that have not ended.
@@ -620,6 +736,9 @@ public:
             insist(key, [this](detail::Shard &shard, const std::string &name) { return shard.update(name, pass(), by()); });
         }
     }
+
+    /// How many waits it has begun, in all its calls.
+    std::uint32_t waits() const { return waits_; }
 
     /// For whom its latest wait waited when it timed out; 0 if the wait ended in that instant.
     std::uint64_t waited_for() const { return waited_for_; }
@@ -738,6 +857,7 @@ private:
                 case Progress::queue_full: return given_up(Status::queue_full);
                 case Progress::must_wait: break;
                 }
+                if (inner_->at_wait && !(deadline && Clock::now() >= *deadline)) tell_wait();
                 switch (waiter_->sleep(waits_, deadline)) {
                 case detail::End::through: break;
                 case detail::End::doomed: return given_up(Status::doomed);
@@ -751,6 +871,8 @@ private:
             throw;
         }
     }
+
+    void tell_wait() const;
 
     Status given_up(Status status) {
         leave();
@@ -839,16 +961,9 @@ public:
     /// until Txn::restart. It keeps its locks until then, or until it is destroyed. Answers whether there is such a
     /// transaction.
     bool doom(std::uint64_t txn) const {
-        auto &live = inner_->live_of(txn);
-        std::shared_ptr<detail::Waiter> waiter;
-        {
-            const std::lock_guard<std::mutex> hold(live.mutex);
-            const auto found = live.waiters.find(txn);
-            if (found == live.waiters.end()) return false;
-            waiter = found->second;
-        }
-        waiter->doom();
-        return true;
+        const std::shared_ptr<detail::Waiter> waiter = inner_->waiter_of(txn);
+        if (waiter) waiter->doom();
+        return waiter != nullptr;
     }
 
     /// Who waits for whom. The shards are asked one after the other, so a cycle of edges may never have been there at one time.
@@ -862,14 +977,49 @@ public:
         return all;
     }
 
+    /// For whom the transaction waits, if it does. The call looks at one shard.
+    std::optional<Edge> edge_of(std::uint64_t txn) const {
+        const std::shared_ptr<detail::Waiter> waiter = inner_->waiter_of(txn);
+        const std::size_t at = waiter ? waiter->shard.load() : detail::Waiter::nowhere;
+        if (at == detail::Waiter::nowhere) return std::nullopt;
+        detail::Shard &shard = *inner_->shards[at];
+        const std::lock_guard<std::mutex> hold(shard.mutex);
+        return shard.edge_of(txn);
+    }
+
+    /// The deadlock that the transaction is in, or nothing: an edge for each of its transactions, from this one on. All of
+    /// them waited at one time.
+    ///
+    /// If all transactions lock key by key, a deadlock begins when one of them begins to wait. So it is found if
+    /// Options::at_wait asks for each wait. With Txn::lock_all it may also begin when a key comes free: ask from time to time.
+    std::vector<Edge> deadlock_of(std::uint64_t txn) const {
+        std::vector<Edge> cycle;
+        const auto is_in_cycle = [&](std::uint64_t other) {
+            return std::any_of(cycle.begin(), cycle.end(), [other](const Edge &it) { return it.waiter == other; });
+        };
+        for (std::uint64_t next = txn; !is_in_cycle(next); next = cycle.back().waits_for) {
+            std::optional<Edge> edge = edge_of(next);
+            if (!edge) return {};
+            cycle.push_back(*std::move(edge));
+        }
+        if (cycle.back().waits_for != txn) return {};
+
+        // They were asked one after the other. Those that are in the same wait now were in it when the last one was asked.
+        for (const Edge &it : cycle) {
+            const std::optional<Edge> again = edge_of(it.waiter);
+            if (!again || again->wait != it.wait || again->waits_for != it.waits_for) return {};
+        }
+        return cycle;
+    }
+
     /// The record of a key, as lt_table_key tells it: who holds its lock, for whom it is reserved, and how many wait.
     lt_key inspect(std::string_view key) const {
         const std::string name = table_key(key);
         return inner_->at(name, [&](detail::Shard &shard) { return shard.key_state(name); });
     }
 
-    /// The keys that are held, reserved or waited for. It takes time in proportion to the square of a shard's keys, under the
-    /// mutex of that shard.
+    /// The keys that are held, reserved or waited for, in the order of their bytes in each shard. It sorts the keys of a shard
+    /// under the mutex of that shard.
     std::vector<std::string> keys() const {
         std::vector<std::string> all;
         for (const auto &shard : inner_->shards) {
@@ -885,8 +1035,14 @@ public:
     std::string table_key(std::string_view key) const { return detail::table_key(key, inner_->start); }
 
 private:
+    friend class Txn;
+
+    explicit Locks(std::shared_ptr<detail::Inner> inner) : inner_(std::move(inner)) {}
+
     std::shared_ptr<detail::Inner> inner_;
 };
+
+inline void Txn::tell_wait() const { inner_->at_wait(Locks(inner_), id_); }
 
 } // namespace locktable
 

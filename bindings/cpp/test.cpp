@@ -6,7 +6,6 @@
 
 #include <cstdio>
 #include <cstdlib>
-#include <map>
 
 using namespace locktable;
 using std::chrono::microseconds;
@@ -66,38 +65,7 @@ rattle_block rattle_realloc(void *at, std::size_t, std::size_t size, std::size_t
 void rattle_dealloc(void *at) { std::free(at); }
 }
 
-/* ---- the steps of a run, for the check */
-
-class Trace {
-public:
-    StepSink sink() {
-        return [this](const Step &step) {
-            const std::lock_guard<std::mutex> hold(mutex_);
-            auto &lines = keys_[std::string(step.key)];
-            const std::string line = step.line();
-            const std::size_t space = line.find(' ');
-            lines.push_back(line.substr(0, space) + " " + std::to_string(lines.size() + 1) + line.substr(space));
-        };
-    }
-
-    std::string histories() const {
-        std::string text = "locks 2\n";
-        for (const auto &[key, lines] : keys_) {
-            for (const std::string &line : lines) text += line + "\n";
-        }
-        return text;
-    }
-
-    std::size_t steps() const {
-        std::size_t many = 0;
-        for (const auto &[key, lines] : keys_) many += lines.size();
-        return many;
-    }
-
-private:
-    std::mutex mutex_;
-    std::map<std::string, std::vector<std::string>> keys_;
-};
+/* ---- what is left at the end */
 
 static void expect_nothing_left(const Locks &locks, const Trace &trace, const char *where) {
     expect(locks.keys().empty(), "a key is left", where);
@@ -169,6 +137,12 @@ static void rows() {
         expect(txn.locked() == std::vector<std::string>{one}, "what is locked", "keys");
     }
     expect(locks.table_key("100% of \xFF") == "100%25%20of%20%FF" && locks.table_key(any[2]).size() == 64, "encoding", "keys");
+    Locks one_shard(Options{1, 0});
+    Txn many = one_shard.begin();
+    std::vector<std::string> all;
+    for (int at = 0; at < 200; at++) all.push_back("k" + std::to_string(1000 + at));
+    for (const std::string &key : all) expect(many.lock(key) == Status::locked, "many keys", "keys");
+    expect(one_shard.keys() == all, "all keys are listed, in order", "keys");
     Txn first = locks.begin();
     expect(first.lock_all({{"b", Access::write}, {"c", Access::read}, {"a", Access::write}, {"b", Access::read}}) == Status::locked,
            "lock_all", "several keys");
@@ -176,6 +150,112 @@ static void rows() {
     Txn second = locks.begin();
     expect(second.lock_all({{"0", Access::write}, {"a", Access::write}}, Clock::now()) == Status::timed_out, "lock_all", "several keys");
     expect(second.locked().empty() && locks.begin().try_lock("0"), "nothing is kept", "several keys");
+}
+
+/* ---- deadlocks */
+
+/* The policy of these tests: the youngest gives way. */
+static void doom_youngest(const Locks &locks, std::uint64_t txn) {
+    std::uint64_t youngest = 0;
+    for (const Edge &it : locks.deadlock_of(txn)) youngest = std::max(youngest, it.waiter);
+    if (youngest != 0) locks.doom(youngest);
+}
+
+static void await_wait(const Locks &locks, std::uint64_t txn) {
+    for (const auto until = Clock::now() + std::chrono::seconds(20); !locks.edge_of(txn);) {
+        expect(Clock::now() < until, "a transaction does not wait", "deadlocks");
+        std::this_thread::yield();
+    }
+}
+
+/* Each of so many transactions holds a key and waits for the next one. They begin to wait in the order of their numbers, or
+ * against it. So a transaction of any age closes the cycle, and the youngest gives way. Then a request that waits beside the
+ * cycle is no part of it. */
+static void cycle(std::size_t many, bool upwards) {
+    const char *const name = "deadlocks";
+    const auto key = [many](std::size_t i) { return "key/" + std::to_string(i % many); };
+    Trace trace;
+    std::atomic<int> waits{0};
+    std::atomic<bool> is_policy_on{false};
+    Options options;
+    options.at_wait = [&](const Locks &locks, std::uint64_t txn) {
+        waits++;
+        if (is_policy_on) doom_youngest(locks, txn);
+    };
+    const Locks locks(options, trace.sink());
+    std::vector<Txn> txns;
+    for (std::size_t i = 0; i < many; i++) {
+        txns.push_back(locks.begin());
+        expect(txns[i].lock(key(i)) == Status::locked, "a key of its own", name);
+        expect(!locks.edge_of(txns[i].id()) && locks.deadlock_of(txns[i].id()).empty(), "it does not wait yet", name);
+    }
+    expect(!locks.edge_of(99) && locks.deadlock_of(99).empty(), "there is no such transaction", name);
+    std::vector<Status> ends(many, Status::timed_out);
+    std::vector<std::thread> all;
+    const auto wait = [&](std::size_t i) {
+        all.emplace_back([&, i] {
+            ends[i] = txns[i].lock(key(i + 1));
+            txns[i].release();
+        });
+    };
+    for (std::size_t i = 0; i + 1 < many; i++) {
+        const std::size_t at = upwards ? i : many - 1 - i;
+        wait(at);
+        await_wait(locks, txns[at].id());
+        expect(locks.deadlock_of(txns[at].id()).empty(), "the cycle is not closed yet", name);
+    }
+    Txn beside = locks.begin();
+    Status end_beside = Status::timed_out;
+    std::thread waits_beside([&] { end_beside = beside.lock(key(0)); beside.release(); });
+    await_wait(locks, beside.id());
+    const std::size_t last = upwards ? many - 1 : 0;
+    std::vector<std::uint64_t> expected;
+    for (std::size_t i = 0; i < many; i++) expected.push_back(txns[(last + i) % many].id());
+    wait(last);
+    await_wait(locks, txns[last].id());
+    std::vector<std::uint64_t> found;
+    for (const Edge &it : locks.deadlock_of(txns[last].id())) found.push_back(it.waiter);
+    expect(found == expected, "the cycle, from the transaction on", name);
+    expect(locks.deadlock_of(beside.id()).empty(), "it waits beside the cycle", name);
+    is_policy_on = true;
+    doom_youngest(locks, txns[last].id());
+    for (std::thread &it : all) it.join();
+    waits_beside.join();
+    for (std::size_t i = 0; i < many; i++) {
+        expect(ends[i] == (i + 1 == many ? Status::doomed : Status::locked), "the youngest gives way, and no other", name);
+    }
+    expect(end_beside == Status::locked && waits >= static_cast<int>(many) + 1, "each wait was told", name);
+    expect_nothing_left(locks, trace, name);
+}
+
+static void deadlocks() {
+    for (const bool upwards : {false, true}) {
+        for (const std::size_t many : {2, 3, 5}) cycle(many, upwards);
+    }
+
+    /* What is told throws, and the call throws it and waits no longer. A deadline that is over is not told. */
+    Trace trace;
+    Options options;
+    int told = 0;
+    options.at_wait = [&](const Locks &, std::uint64_t) {
+        told++;
+        throw std::runtime_error("told");
+    };
+    const Locks locks(options, trace.sink());
+    {
+        Txn first = locks.begin(), second = locks.begin();
+        expect(first.lock("a") == Status::locked && first.waits() == 0, "it is free", "what is told throws");
+        expect(!second.try_lock("a") && told == 0 && second.waits() == 1, "a deadline that is over", "what is told throws");
+        try {
+            (void)second.lock("a");
+            expect(false, "it does not throw", "what is told throws");
+        } catch (const std::runtime_error &) {
+        }
+        expect(told == 1 && second.waits() == 2 && !locks.edge_of(second.id()), "it waits no longer", "what is told throws");
+        first.release();
+        expect(second.lock("a") == Status::locked, "the key came free", "what is told throws");
+    }
+    expect_nothing_left(locks, trace, "what is told throws");
 }
 
 /* ---- memory that runs out */
@@ -192,7 +272,10 @@ static void memory() {
     for (bool all_failed = true; all_failed; after++) {
         for (long many : {1L, 3L}) {
             Trace trace;
-            Locks locks(Options{1, 0}, {});
+            Options options;
+            options.shards = 1;
+            options.at_wait = [](const Locks &table, std::uint64_t txn) { (void)table.deadlock_of(txn); };
+            Locks locks(options, trace.sink());
             left = after;
             failing = many;
             try_it([&] {
@@ -200,6 +283,8 @@ static void memory() {
                 Txn second = locks.begin();
                 try_it([&] { return first.lock(keys[0]); });
                 try_it([&] { return second.lock_until(keys[0], Clock::now()); });
+                try_it([&] { return second.lock_for(keys[0], microseconds(50)); });
+                try_it([&] { return locks.edges(); });
                 try_it([&] { return second.lock_all({{keys[0]}, {keys[1]}}, Clock::now()); });
                 try_it([&] { return second.read(keys[0], Clock::now()); });
                 try_it([&] { return first.lock_all({{keys[1]}, {keys[0]}}, Clock::now()); });
@@ -207,6 +292,7 @@ static void memory() {
                 first.restart();
                 return 0;
             });
+            try_it([&] { return trace.histories(); });
             all_failed = failing < many;
             left = -1;
             failing = 0;
@@ -223,7 +309,7 @@ constexpr int threads = 8;
 
 struct Mode {
     const char *name;
-    bool in_order, at_once, dooms;
+    bool in_order, at_once, dooms, searches;
     int patience; /* microseconds; 0 is for ever */
 };
 
@@ -271,7 +357,7 @@ static void worker(const Mode &mode, const Locks &locks, std::array<long, accoun
 
 static void stress(const Mode &mode, milliseconds time) {
     Trace trace;
-    Locks locks(Options{2, 0}, trace.sink());
+    Locks locks(Options{2, 0, mode.searches ? WaitSink(doom_youngest) : WaitSink()}, trace.sink());
     std::array<long, accounts> money{};
     std::atomic<bool> is_over{false};
     std::atomic<long> ended{0};
@@ -316,13 +402,15 @@ static void stress(const Mode &mode, milliseconds time) {
 int main(int argc, char **argv) {
     const milliseconds time(argc > 1 ? std::atol(argv[1]) : 500);
     rows();
+    deadlocks();
     memory();
     const Mode modes[] = {
-        {"in order, for ever", true, false, false, 0},
-        {"in any order, with deadlines", false, false, false, 300},
-        {"both keys at once", false, true, false, 0},
-        {"both keys at once, with short deadlines", false, true, false, 30},
-        {"in any order, for ever, with dooms", false, false, true, 0},
+        {"in order, for ever", true, false, false, false, 0},
+        {"in any order, with deadlines", false, false, false, false, 300},
+        {"both keys at once", false, true, false, false, 0},
+        {"both keys at once, with short deadlines", false, true, false, false, 30},
+        {"in any order, for ever, with dooms", false, false, true, false, 0},
+        {"in any order, for ever, with a search at each wait", false, false, false, true, 0},
     };
     for (const Mode &mode : modes) stress(mode, time);
     std::puts("all passed");

@@ -220,8 +220,8 @@ func (l *Locks) Edges() ([]Edge, error) {
 	return all, err
 }
 
-// Keys are those of the table that are held, reserved or waited for. The call takes time in proportion to the square of a
-// shard's keys, under the mutex of that shard.
+// Keys are those of the table that are held, reserved or waited for, in the order of their bytes in each shard. The call
+// sorts the keys of a shard under the mutex of that shard.
 func (l *Locks) Keys() ([]string, error) {
 	var all []string
 	err := l.each(func(s *shard) (err error) {

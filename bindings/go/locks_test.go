@@ -246,6 +246,23 @@ func TestKeysAreStringsOfAnyBytes(t *testing.T) {
 	}
 }
 
+func TestAllKeysAreListedInOrder(t *testing.T) {
+	for _, many := range []int{0, 1, keysAtFirst - 1, keysAtFirst, keysAtFirst + 1, 200} {
+		locks := open(t, Options{Shards: 1})
+		txn := begin(t, locks, 1)
+		var all []string
+		for at := 0; at < many; at++ {
+			all = append(all, fmt.Sprint(1000+at))
+			if got, err := txn.TryLock(all[at]); !got || err != nil {
+				t.Fatal(got, err)
+			}
+		}
+		if keys, err := locks.Keys(); err != nil || strings.Join(keys, " ") != strings.Join(all, " ") {
+			t.Errorf("%d keys: %v %v", many, keys, err)
+		}
+	}
+}
+
 func TestACloseEndsEachWaitAndCall(t *testing.T) {
 	locks, err := Open(Options{Sink: func(Step) { panic("a sink that panics is told nothing more") }})
 	if err != nil {

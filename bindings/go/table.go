@@ -2,10 +2,13 @@ package locktable
 
 // What crosses to C? The calls of locktable.h, and nothing else of this package. C keeps no Go pointer: the struct of a
 // table is memory of C, and keys, requests and texts are read during the call alone.
+//
+// In a release the header and the archive are in this folder. In the repository the header is in ../c, and the environment
+// names the folder of the archive (bindings/README.md).
 
 /*
-#cgo CFLAGS: -I${SRCDIR}/../c
-#cgo LDFLAGS: -llt_c
+#cgo CFLAGS: -I${SRCDIR} -I${SRCDIR}/../c
+#cgo LDFLAGS: -L${SRCDIR} -llt_c
 #include <stdlib.h>
 #include "locktable.h"
 */
@@ -15,6 +18,9 @@ import (
 	"fmt"
 	"unsafe"
 )
+
+// keysAtFirst is how many keys the first call for keys lists at most.
+const keysAtFirst = 64
 
 // A code is what a call answers: a refusal, or from firstReply on a reply of the rules.
 type code uint32
@@ -136,14 +142,23 @@ func (t *table) keys(all []string) ([]string, error) {
 	if t.at == nil {
 		return nil, ErrClosed
 	}
-	var count, size C.size_t
-	answer := code(C.lt_table_keys(t.at, &count))
-	for i := C.size_t(0); answer == done && i < count; i++ {
-		var buffer [longestKey]byte
-		answer = code(C.lt_table_key_at(t.at, i, (*C.uint8_t)(&buffer[0]), longestKey, &size))
-		all = append(all, string(buffer[:size]))
+	var after C.struct_lt_key_name
+	// Each call looks at all keys, so each one lists twice as many as the one before.
+	for room := keysAtFirst; ; room *= 2 {
+		var count C.size_t
+		array := make([]C.struct_lt_key_name, room)
+		answer := code(C.lt_table_keys(t.at, &after.bytes[0], after.len, &array[0], C.size_t(room), &count))
+		if answer != done {
+			return nil, answer.err()
+		}
+		for i := range array[:count] {
+			all = append(all, C.GoStringN((*C.char)(unsafe.Pointer(&array[i].bytes[0])), C.int(array[i].len)))
+		}
+		if int(count) < room {
+			return all, nil
+		}
+		after = array[room-1]
 	}
-	return all, answer.err()
 }
 
 // A Report is what Check tells of a legal text.

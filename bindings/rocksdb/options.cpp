@@ -11,12 +11,12 @@ const char *const USAGE =
     "  --locks ours|rocksdb   our lock table over a plain DB (default), or RocksDB's TransactionDB\n"
     "  --threads N            1 to 1024 (4)\n"
     "  --seconds N            how long it runs (3)\n"
+    "  --transactions N       it ends after so many, if the seconds are not over before; 0 for no bound (0)\n"
     "  --accounts N           from 2 (100000)\n"
     "  --hot N                use only the first N accounts; 0 for all (0)\n"
     "  --reads N              of 100 transactions, how many only read two accounts (0)\n"
     "  --trace FILE           ours: write the lock histories, and check them\n"
-    "  --trace-bytes N        at most so many bytes for each of 64 shards (262000)\n"
-    "  --db FOLDER            where the database is (a temporary folder)\n";
+    "  --db FOLDER            where the database is, which is kept (a temporary folder, which goes)\n";
 
 static uint64_t number_of(const std::string &word, uint64_t least, uint64_t most) {
     if (word.empty() || word.size() > 18 || word.find_first_not_of("0123456789") != std::string::npos) {
@@ -51,11 +51,11 @@ Options read_options(int count, char **words) {
         {"--locks", [&](const std::string &word) { options.ours = is_ours(word); }},
         {"--threads", [&](const std::string &word) { options.threads = number_of(word, 1, 1024); }},
         {"--seconds", [&](const std::string &word) { options.seconds = number_of(word, 1, 1000000); }},
+        {"--transactions", [&](const std::string &word) { options.transactions = number_of(word, 0, 1000000000); }},
         {"--accounts", [&](const std::string &word) { options.accounts = number_of(word, 2, 1000000000); }},
         {"--hot", [&](const std::string &word) { options.hot = number_of(word, 0, 1000000000); }},
         {"--reads", [&](const std::string &word) { options.reads = number_of(word, 0, 100); }},
         {"--trace", [&](const std::string &word) { options.trace = word; }},
-        {"--trace-bytes", [&](const std::string &word) { options.trace_bytes = number_of(word, 1, SIZE_MAX); }},
         {"--db", [&](const std::string &word) { options.folder = word; }},
     };
     for (int i = 1; i < count; i += 2) {

@@ -2,7 +2,6 @@
 #ifndef TRANSFERS_OPTIONS_H
 #define TRANSFERS_OPTIONS_H
 
-#include <cstddef>
 #include <cstdint>
 #include <string>
 
@@ -12,12 +11,12 @@ struct Options {
     bool ours = true;
     uint32_t threads = 4;
     uint32_t seconds = 3;
+    uint64_t transactions = 0; /* it ends after so many, if the seconds are not over before; 0 for no bound */
     uint64_t accounts = 100000;
     uint64_t hot = 0;   /* transactions use only the first so many accounts; 0 for all */
     uint32_t reads = 0; /* of 100 transactions, how many only read */
     std::string trace;  /* the file for the trace, or empty */
-    size_t trace_bytes = 262000; /* of each of the 64 shards: together below the 16 MiB that `lockrun check` reads */
-    std::string folder; /* for the database; empty for a temporary one */
+    std::string folder; /* for the database, which is kept; empty for a temporary one */
 };
 
 /* Throws std::invalid_argument if the command line is wrong. */

@@ -5,14 +5,28 @@
 #ifndef TRANSFERS_STORE_H
 #define TRANSFERS_STORE_H
 
+#include <chrono>
+#include <cstdint>
 #include <memory>
 #include <string>
 
 #include <rocksdb/db.h>
 
-#include "lock_table.h"
+namespace locktable {
+class Trace;
+}
 
 namespace transfers {
+
+using Clock = std::chrono::steady_clock;
+
+/* What a thread met at the locks. */
+struct WaitFigures {
+    uint64_t waits = 0;
+    uint64_t deadlocks = 0; /* in which this thread gave way */
+    uint64_t time_outs = 0;
+    Clock::duration longest = {}; /* from the call that waited to its answer */
+};
 
 /* What a transaction wants of a key that it locks. */
 enum class Access { Read, Write };
@@ -45,15 +59,16 @@ class Store {
 public:
     virtual ~Store() = default;
 
-    virtual std::unique_ptr<Client> client(uint32_t index) = 0;
+    virtual std::unique_ptr<Client> client() = 0;
 
     virtual rocksdb::DB &db() = 0;
 
-    /* The text of the lock histories, if the store keeps one. */
-    virtual std::string trace() const { return ""; }
+    /* Whether no key is locked and nobody waits, as far as the store can tell. */
+    virtual bool is_quiet() const { return true; }
 };
 
-std::unique_ptr<Store> open_locked_db(const std::string &folder, uint32_t clients, size_t trace_bytes);
+/* The steps of the locks go into the trace, if there is one. */
+std::unique_ptr<Store> open_locked_db(const std::string &folder, locktable::Trace *trace);
 
 std::unique_ptr<Store> open_transaction_db(const std::string &folder);
 

@@ -83,7 +83,7 @@ public:
         db_.reset(db);
     }
 
-    std::unique_ptr<Client> client(uint32_t) override { return std::make_unique<TransactionDbClient>(*db_); }
+    std::unique_ptr<Client> client() override { return std::make_unique<TransactionDbClient>(*db_); }
 
     rocksdb::DB &db() override { return *db_; }
 

@@ -3,8 +3,11 @@
  *
  * Threads transfer money between accounts, or read two accounts, under the locks that `--locks` names. Each transaction
  * locks its accounts in random order, so deadlocks occur. The sum of all accounts must not change.
+ *
+ * A database that `--db` names is kept. A later start goes on with its balances, also after the program was killed.
  */
 #include <algorithm>
+#include <atomic>
 #include <cstdlib>
 #include <filesystem>
 #include <fstream>
@@ -18,12 +21,19 @@
 #include <rocksdb/write_batch.h>
 #include <sys/resource.h>
 
+#include "locktable.hpp"
 #include "options.h"
 #include "store.h"
 
 namespace transfers {
 
 static constexpr int64_t OPENING_BALANCE = 1000;
+
+/* The keys of the accounts are this and a number. */
+static const std::string ACCOUNT = "account/";
+
+/* The key under which a database has the number of its accounts. */
+static const std::string ACCOUNTS = "accounts";
 
 void check(const rocksdb::Status &status) {
     if (!status.ok()) {
@@ -75,8 +85,8 @@ public:
         while (to == from) {
             to = account_(random_);
         }
-        job.from = "account" + std::to_string(from);
-        job.to = "account" + std::to_string(to);
+        job.from = ACCOUNT + std::to_string(from);
+        job.to = ACCOUNT + std::to_string(to);
         job.amount = std::uniform_int_distribution<int64_t>(1, 10)(random_);
         job.access = std::uniform_int_distribution<uint32_t>(0, 99)(random_) < reads_ ? Access::Read : Access::Write;
     }
@@ -90,6 +100,7 @@ private:
 /* What one thread did, or all of them. */
 struct Tally {
     uint64_t transactions = 0;
+    Clock::duration time = {};
     Clock::duration slowest = {};              /* transaction, from its first attempt to its commit */
     std::chrono::microseconds processor = {};  /* time of all threads, RocksDB's own too */
     WaitFigures waits;
@@ -121,12 +132,12 @@ bool attempt(Client &client, const Job &job) {
     return true;
 }
 
-Tally work(Store &store, const Options &options, uint32_t index, Clock::time_point end) {
-    const std::unique_ptr<Client> client = store.client(index);
+Tally work(Store &store, const Options &options, uint32_t index, Clock::time_point end, std::atomic<int64_t> &left) {
+    const std::unique_ptr<Client> client = store.client();
     Jobs jobs(options, index + 1);
     Job job;
     Tally tally;
-    for (Clock::time_point start = Clock::now(); start < end;) {
+    for (Clock::time_point start = Clock::now(); start < end && left.fetch_sub(1) > 0;) {
         jobs.draw(job);
         client->begin();
         while (!attempt(*client, job)) {
@@ -151,39 +162,76 @@ std::chrono::microseconds processor_time() {
 
 Tally work_on_threads(Store &store, const Options &options) {
     const std::chrono::microseconds before = processor_time();
-    const Clock::time_point end = Clock::now() + std::chrono::seconds(options.seconds);
+    const Clock::time_point start = Clock::now();
+    const Clock::time_point end = start + std::chrono::seconds(options.seconds);
+    std::atomic<int64_t> left{options.transactions > 0 ? static_cast<int64_t>(options.transactions) : INT64_MAX};
     std::vector<std::future<Tally>> threads;
     for (uint32_t i = 0; i < options.threads; ++i) {
-        threads.push_back(std::async(std::launch::async, work, std::ref(store), std::cref(options), i, end));
+        threads.push_back(std::async(std::launch::async, work, std::ref(store), std::cref(options), i, end,
+                                     std::ref(left)));
     }
     Tally tally;
     for (std::future<Tally> &thread : threads) {
         tally.add(thread.get());
     }
+    tally.time = Clock::now() - start;
     tally.processor = processor_time() - before;
     return tally;
 }
 
-void open_accounts(rocksdb::DB &db, uint64_t accounts) {
+/* Opens the accounts, unless the database has them from an earlier start. Answers whether it is new. One batch has all
+ * opening balances and the number of the accounts, so a database has all of them or none, also if the program is killed. */
+bool open_accounts(rocksdb::DB &db, uint64_t accounts) {
+    std::string before;
+    const rocksdb::Status found = db.Get(rocksdb::ReadOptions(), ACCOUNTS, &before);
+    if (!found.IsNotFound()) {
+        check(found);
+        if (before != std::to_string(accounts)) {
+            throw std::invalid_argument("the database has --accounts " + before);
+        }
+        return false;
+    }
     rocksdb::WriteBatch batch;
     for (uint64_t i = 0; i < accounts; ++i) {
-        check(batch.Put("account" + std::to_string(i), std::to_string(OPENING_BALANCE)));
+        check(batch.Put(ACCOUNT + std::to_string(i), std::to_string(OPENING_BALANCE)));
     }
+    check(batch.Put(ACCOUNTS, std::to_string(accounts)));
     check(db.Write(rocksdb::WriteOptions(), &batch));
+    return true;
 }
 
-int64_t total_of(rocksdb::DB &db) {
+/* What all accounts have together. */
+struct Ledger {
+    uint64_t accounts = 0;
+    uint64_t changed = 0; /* balances that are not the opening one */
     int64_t total = 0;
+};
+
+Ledger ledger_of(rocksdb::DB &db) {
+    Ledger ledger;
     const std::unique_ptr<rocksdb::Iterator> entry(db.NewIterator(rocksdb::ReadOptions()));
-    for (entry->SeekToFirst(); entry->Valid(); entry->Next()) {
-        total += std::stoll(entry->value().ToString());
+    for (entry->Seek(ACCOUNT); entry->Valid() && entry->key().starts_with(ACCOUNT); entry->Next()) {
+        const int64_t balance = std::stoll(entry->value().ToString());
+        ledger.accounts += 1;
+        ledger.changed += balance != OPENING_BALANCE;
+        ledger.total += balance;
     }
     check(entry->status());
-    return total;
+    return ledger;
+}
+
+bool is_whole(const Ledger &ledger, const Options &options) {
+    return ledger.accounts == options.accounts &&
+           ledger.total == static_cast<int64_t>(options.accounts) * OPENING_BALANCE;
 }
 
 double milliseconds(Clock::duration time) {
     return std::chrono::duration<double, std::milli>(time).count();
+}
+
+/* Transactions a second. */
+double rate_of(const Tally &tally) {
+    return static_cast<double>(tally.transactions) / std::chrono::duration<double>(tally.time).count();
 }
 
 /* How many microseconds of processor time a transaction took. */
@@ -192,19 +240,20 @@ double processor_of_each(const Tally &tally) {
     return static_cast<double>(tally.processor.count()) / static_cast<double>(transactions);
 }
 
-void print(const Options &options, const Tally &tally, int64_t before, int64_t after) {
+void print(const Options &options, const Tally &tally, const Ledger &after) {
     const WaitFigures &waits = tally.waits;
     std::cout << std::fixed << std::setprecision(0) << (options.ours ? "ours: " : "rocksdb: ")
-              << static_cast<double>(tally.transactions) / options.seconds << " transactions/s, " << waits.waits
+              << rate_of(tally) << " transactions/s, " << waits.waits
               << " waits, " << waits.deadlocks << " deadlocks, " << waits.time_outs << " time-outs, longest wait "
               << std::setprecision(1) << milliseconds(waits.longest) << " ms, slowest transaction "
               << milliseconds(tally.slowest) << " ms, " << processor_of_each(tally)
-              << " us of processor each, total " << after
-              << (after == before ? " unchanged" : " CHANGED") << std::endl;
+              << " us of processor each, total " << after.total
+              << (is_whole(after, options) ? " unchanged" : " CHANGED") << std::endl;
 }
 
 /* Writes the trace and checks it. Answers whether it is legal. */
-bool write_trace(const std::string &text, const std::string &file) {
+bool write_trace(const locktable::Trace &trace, const std::string &file) {
+    const std::string text = trace.histories();
     std::ofstream out(file, std::ios::binary);
     out << text;
     out.close();
@@ -213,7 +262,7 @@ bool write_trace(const std::string &text, const std::string &file) {
     }
     lt_report report = {};
     const uint32_t code = lt_check(reinterpret_cast<const uint8_t *>(text.data()), text.size(), &report);
-    if (code != LT_DONE) {
+    if (code != LT_DONE || report.steps != trace.steps()) {
         std::cerr << "transfers: the trace is refused at line " << report.line << " with code " << code << "\n";
         return false;
     }
@@ -223,17 +272,29 @@ bool write_trace(const std::string &text, const std::string &file) {
 
 int run(const Options &options) {
     const TemporaryFolder folder;
+    locktable::Trace trace;
     const std::string path = options.folder.empty() ? folder.path() + "/db" : options.folder;
-    const size_t trace_bytes = options.trace.empty() ? 0 : options.trace_bytes;
     const std::unique_ptr<Store> store =
-        options.ours ? open_locked_db(path, options.threads, trace_bytes) : open_transaction_db(path);
-    open_accounts(store->db(), options.accounts);
-    const int64_t before = total_of(store->db());
+        options.ours ? open_locked_db(path, options.trace.empty() ? nullptr : &trace) : open_transaction_db(path);
+    const bool is_new = open_accounts(store->db(), options.accounts);
+    const Ledger before = ledger_of(store->db());
+    if (!options.folder.empty()) {
+        std::cerr << "database: " << (is_new ? "new, " : "kept, ") << before.changed << " of " << before.accounts
+                  << " balances are not the opening ones, total " << before.total << std::endl;
+    }
+    if (!is_whole(before, options)) {
+        std::cerr << "transfers: the total is not that of the opening balances\n";
+        return 1;
+    }
     const Tally tally = work_on_threads(*store, options);
-    const int64_t after = total_of(store->db());
-    print(options, tally, before, after);
-    const bool legal = options.trace.empty() || write_trace(store->trace(), options.trace);
-    return before == after && legal ? 0 : 1;
+    const Ledger after = ledger_of(store->db());
+    print(options, tally, after);
+    if (!store->is_quiet()) {
+        std::cerr << "transfers: a key is still locked, or somebody waits\n";
+        return 1;
+    }
+    const bool legal = options.trace.empty() || write_trace(trace, options.trace);
+    return is_whole(after, options) && legal ? 0 : 1;
 }
 
 }

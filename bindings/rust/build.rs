@@ -1,6 +1,7 @@
-//! Where is the archive? In the folder that `LOCKTABLE_LIB` names, or else `rt lib` builds it from `crates/lt_c`. That
-//! proves `lt_c` and every crate below it, which takes long. `crates.txt` says which crates these are, and after a change
-//! in any of them the archive is built again.
+//! Where is the archive? In the folder that `LOCKTABLE_LIB` names, or else in `lib` beside this file, where a release has
+//! it. In the repository, where neither is there, `rt lib` builds it from `crates/lt_c`. That proves `lt_c` and every crate
+//! below it, which takes long. `crates.txt` says which crates these are, and after a change in any of them the archive is
+//! built again.
 
 use std::collections::BTreeSet;
 use std::fmt::Display;
@@ -47,9 +48,15 @@ fn built() -> PathBuf {
     }
 }
 
+/// The folder that has the archive of a release.
+fn released() -> Option<PathBuf> {
+    let folder = Path::new(env!("CARGO_MANIFEST_DIR")).join("lib");
+    folder.join("liblt_c.a").is_file().then_some(folder)
+}
+
 fn main() {
     println!("cargo:rerun-if-env-changed=LOCKTABLE_LIB");
-    let given = std::env::var_os("LOCKTABLE_LIB").map(PathBuf::from);
+    let given = std::env::var_os("LOCKTABLE_LIB").map(PathBuf::from).or_else(released);
     if let Some(folder) = &given {
         println!("cargo:rerun-if-changed={}", folder.join("liblt_c.a").display());
     }

@@ -63,6 +63,14 @@ pub(crate) struct RawReport {
     pub line: usize,
 }
 
+/// `struct lt_key_name`.
+#[repr(C)]
+#[derive(Clone, Copy)]
+pub(crate) struct RawKeyName {
+    pub len: usize,
+    pub bytes: [u8; 64],
+}
+
 /// `struct lt_table`: all zero at first, and then touched by the archive alone.
 #[repr(C)]
 struct RawTable {
@@ -77,8 +85,8 @@ type StepOfNumber = unsafe extern "C" fn(*mut RawTable, *const u8, usize, u64, *
 type StepOfTxn =
     unsafe extern "C" fn(*mut RawTable, *const u8, usize, *const RawTxn, *mut Through, usize, *mut usize) -> u32;
 
-/// A query of the archive for one entry of a queue.
-type EntryOf = unsafe extern "C" fn(*mut RawTable, *const u8, usize, usize, *mut RawQueued) -> u32;
+/// A query of the archive for a queue of a key.
+type QueueOf = unsafe extern "C" fn(*mut RawTable, *const u8, usize, *mut RawQueued, usize, *mut usize) -> u32;
 
 extern "C" {
     fn lt_table_open(table: *mut RawTable, start: u64) -> u32;
@@ -131,10 +139,30 @@ extern "C" {
     fn lt_table_lets(table: *mut RawTable, lets: *mut Through, room: usize, count: *mut usize) -> u32;
     fn lt_table_look(table: *mut RawTable, key: *const u8, key_len: usize, number: u64, txn: *mut u64) -> u32;
     fn lt_table_key(table: *mut RawTable, key: *const u8, key_len: usize, out: *mut RawKey) -> u32;
-    fn lt_table_writer(table: *mut RawTable, key: *const u8, key_len: usize, index: usize, out: *mut RawQueued) -> u32;
-    fn lt_table_reader(table: *mut RawTable, key: *const u8, key_len: usize, index: usize, out: *mut RawQueued) -> u32;
-    fn lt_table_keys(table: *mut RawTable, count: *mut usize) -> u32;
-    fn lt_table_key_at(table: *mut RawTable, index: usize, buffer: *mut u8, room: usize, len: *mut usize) -> u32;
+    fn lt_table_writers(
+        table: *mut RawTable,
+        key: *const u8,
+        key_len: usize,
+        array: *mut RawQueued,
+        room: usize,
+        count: *mut usize,
+    ) -> u32;
+    fn lt_table_readers(
+        table: *mut RawTable,
+        key: *const u8,
+        key_len: usize,
+        array: *mut RawQueued,
+        room: usize,
+        count: *mut usize,
+    ) -> u32;
+    fn lt_table_keys(
+        table: *mut RawTable,
+        after: *const u8,
+        after_len: usize,
+        array: *mut RawKeyName,
+        room: usize,
+        count: *mut usize,
+    ) -> u32;
     fn lt_shard_of(key: *const u8, key_len: usize, shards: usize) -> usize;
     fn lt_check(text: *const u8, len: usize, report: *mut RawReport) -> u32;
 
@@ -149,8 +177,8 @@ pub(crate) struct Handle {
     table: RawTable,
 }
 
-// SAFETY: a table belongs to no thread. `bindings/c/locktable.h`, THREADS, says on what that rests. Its facts hold here: the
-// three functions below work on every thread, and every call takes the handle by `&mut`, so two calls never meet.
+// SAFETY: the archive's type is proved to be `Send` (`bindings/c/locktable.h`, THREADS). What it asks holds here: the three
+// functions of memory work on every thread, and every call takes the handle by `&mut`, so two calls never meet.
 unsafe impl Send for Handle {}
 
 impl Handle {
@@ -240,27 +268,22 @@ impl Handle {
         unsafe { lt_table_key(&mut self.table, key.as_ptr(), key.len(), out) }
     }
 
-    pub fn writer(&mut self, key: &[u8], index: usize, out: &mut RawQueued) -> u32 {
-        self.entry(lt_table_writer, key, index, out)
+    pub fn writers(&mut self, key: &[u8], array: &mut [RawQueued], count: &mut usize) -> u32 {
+        self.queue(lt_table_writers, key, array, count)
     }
 
-    pub fn reader(&mut self, key: &[u8], index: usize, out: &mut RawQueued) -> u32 {
-        self.entry(lt_table_reader, key, index, out)
+    pub fn readers(&mut self, key: &[u8], array: &mut [RawQueued], count: &mut usize) -> u32 {
+        self.queue(lt_table_readers, key, array, count)
     }
 
-    fn entry(&mut self, entry: EntryOf, key: &[u8], index: usize, out: &mut RawQueued) -> u32 {
-        // SAFETY: as in `visit`; `entry` is one of the archive's two functions of this type.
-        unsafe { entry(&mut self.table, key.as_ptr(), key.len(), index, out) }
+    fn queue(&mut self, queue: QueueOf, key: &[u8], array: &mut [RawQueued], count: &mut usize) -> u32 {
+        // SAFETY: as in `visit`; `queue` is one of the archive's two functions of this type.
+        unsafe { queue(&mut self.table, key.as_ptr(), key.len(), array.as_mut_ptr(), array.len(), count) }
     }
 
-    pub fn keys(&mut self, count: &mut usize) -> u32 {
+    pub fn keys(&mut self, after: &[u8], array: &mut [RawKeyName], count: &mut usize) -> u32 {
         // SAFETY: as in `visit`.
-        unsafe { lt_table_keys(&mut self.table, count) }
-    }
-
-    pub fn key_at(&mut self, index: usize, buffer: &mut [u8], len: &mut usize) -> u32 {
-        // SAFETY: as in `visit`.
-        unsafe { lt_table_key_at(&mut self.table, index, buffer.as_mut_ptr(), buffer.len(), len) }
+        unsafe { lt_table_keys(&mut self.table, after.as_ptr(), after.len(), array.as_mut_ptr(), array.len(), count) }
     }
 }
 

@@ -64,7 +64,7 @@ fn visit(f: &mut fmt::Formatter<'_>, request: &Request) -> fmt::Result {
 /// A step of a table: the call at a key, its reply, and whom it let through.
 ///
 /// Its [`Display`](fmt::Display) is a line of a trace, without the line feed, as `locktrace sort` reads it
-/// (`docs/FORMATS.md`, "Sorting a trace"). Lines of one key must be written in the order of its steps.
+/// (`docs/LOCKTRACE.md`, "Sorting a trace"). Lines of one key must be written in the order of its steps.
 ///
 /// ```
 /// use locktable::{Call, Reply, Step, Through, TxnId};

@@ -1,7 +1,7 @@
 //! How does a store keep its locks? [`LockTable`] is the lock table of one thread.
 
 use crate::codes;
-use crate::ffi::{self, Handle, RawKey, RawQueued, RawRequest, RawTxn};
+use crate::ffi::{self, Handle, RawKey, RawKeyName, RawQueued, RawRequest, RawTxn};
 use crate::names::{
     Access, Found, Holder, KeyState, Queued, Refused, Reply, Request, Through, Timestamp, TxnId, Writer,
 };
@@ -11,6 +11,12 @@ use std::hash::{BuildHasher, Hasher};
 
 /// How many lets cross at once. A step with more of them takes further calls.
 const ROOM: usize = 16;
+
+/// How many keys the first call for keys lists at most.
+const KEYS_AT_FIRST: usize = 64;
+
+/// What stands in the room before the first key.
+const NO_KEY: RawKeyName = RawKeyName { len: 0, bytes: [0; 64] };
 
 /// What stands in the room before the first let.
 const NO_LET: Through = Through { number: 0, wait: 0, pass: 0 };
@@ -187,7 +193,7 @@ impl LockTable {
     }
 
     /// The record of the key, with its queues. A key without a record has the default one. The call takes time in
-    /// proportion to the square of the queues, so it is for inspection and not for each request.
+    /// proportion to the queues.
     ///
     /// # Errors
     ///
@@ -217,20 +223,17 @@ impl LockTable {
             readers: Vec::with_capacity(raw.readers),
             distinguished: (raw.distinguished != 0).then_some(raw.distinguished),
         };
-        let mut entry = RawQueued::default();
-        for index in 0..raw.writers {
-            done(self.handle.writer(key, index, &mut entry))?;
-            state.writers.push(Writer { request: queued(&entry), active: entry.active });
-        }
-        for index in 0..raw.readers {
-            done(self.handle.reader(key, index, &mut entry))?;
-            state.readers.push(queued(&entry));
-        }
+        let (mut array, mut count) = (vec![RawQueued::default(); raw.writers.max(raw.readers)], 0);
+        done(self.handle.writers(key, &mut array, &mut count))?;
+        let writer = |entry: &RawQueued| Writer { request: queued(entry), active: entry.active };
+        state.writers.extend(array[..count].iter().map(writer));
+        done(self.handle.readers(key, &mut array, &mut count))?;
+        state.readers.extend(array[..count].iter().map(queued));
         Ok(state)
     }
 
-    /// The keys that have a record, in byte order: they are held, reserved or waited for. The call takes time in
-    /// proportion to the square of their number, so it is for inspection.
+    /// The keys that have a record, in byte order: they are held, reserved or waited for. The call takes time in proportion
+    /// to their number and its logarithm.
     ///
     /// # Errors
     ///
@@ -249,15 +252,18 @@ impl LockTable {
     /// # }
     /// ```
     pub fn keys(&mut self) -> Result<Vec<Vec<u8>>, Refused> {
-        let mut count = 0;
-        done(self.handle.keys(&mut count))?;
-        let mut keys = Vec::with_capacity(count);
-        for index in 0..count {
-            let (mut buffer, mut len) = ([0; 64], 0);
-            done(self.handle.key_at(index, &mut buffer, &mut len))?;
-            keys.push(buffer[..len].to_vec());
+        let mut keys: Vec<Vec<u8>> = Vec::new();
+        // Each call looks at all keys, so each one lists twice as many as the one before.
+        let mut array = vec![NO_KEY; KEYS_AT_FIRST];
+        loop {
+            let (after, mut count) = (keys.last().map_or(&[][..], Vec::as_slice), 0);
+            done(self.handle.keys(after, &mut array, &mut count))?;
+            keys.extend(array[..count].iter().map(|name| name.bytes[..name.len].to_vec()));
+            if count < array.len() {
+                return Ok(keys);
+            }
+            array.resize(2 * array.len(), NO_KEY);
         }
-        Ok(keys)
     }
 
     /// Makes a step and collects all of its lets.
@@ -408,6 +414,19 @@ mod tests {
         ];
         for (code, of_rules) in rows {
             assert_eq!(reply(code), Ok(of_rules), "code {code}");
+        }
+    }
+
+    #[test]
+    fn all_keys_are_listed_in_order_by_however_many_calls() {
+        let (txn, mut lets) = (TxnId::new(1).unwrap(), Vec::new());
+        for many in [0, 1, KEYS_AT_FIRST - 1, KEYS_AT_FIRST, KEYS_AT_FIRST + 1, 3 * KEYS_AT_FIRST, 1000] {
+            let mut table = LockTable::open().unwrap();
+            let all: Vec<Vec<u8>> = (0..many).map(|at| format!("{at:04}").into_bytes()).collect();
+            for key in all.iter().rev() {
+                assert_eq!(table.acquire(key, txn, Timestamp::default(), &mut lets), Ok(Reply::Taken));
+            }
+            assert_eq!(table.keys(), Ok(all), "{many} keys");
         }
     }
 }

@@ -96,16 +96,15 @@ impl<N: Name> Store<N> {
     ) -> Result<Reading, StoreError>
         ensures { IfOk result (λ r. ShowsInstall N.of slot.now.key r.installed) }
     {
-        let mut guard = self.enter(rt, session, &slot.key, access)?;
+        let mut guard = self.enter(session, &slot.key, access)?;
         let reached = self.reach(rt, &mut guard, slot, name, access);
         session.slot.put(self.leave_at_last(rt, guard)?);
         reached
     }
 
     /// Enters a request for the key. If it is refused, the pass goes back into its slot.
-    fn enter<R: Wait>(
+    fn enter(
         &self,
-        rt: &R,
         session: &mut StoreSession<N>,
         key: &Key,
         access: Access,
@@ -120,7 +119,7 @@ impl<N: Name> Store<N> {
         let txn = Some(name.id);
         match self
             .table
-            .enter(rt, self.alloc, pass, txn, name.ts, &accesses, 0)
+            .enter(self.alloc, pass, txn, name.ts, &accesses, 0)
         {
             Ok(guard) => Ok(guard),
             Err(EnterRefused { pass, error }) => {
@@ -146,7 +145,7 @@ impl<N: Name> Store<N> {
         for _ in rt.forever() {
             match self.scan_latched(rt, guard, slot, name, access)? {
                 Some(reading) => return Ok(reading),
-                None => self.wait(rt, guard, &slot.key, name.id)?,
+                None => self.wait(rt, guard)?,
             }
         }
         unreachable!()

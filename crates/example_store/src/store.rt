@@ -54,7 +54,7 @@ pub struct Store<N: Name> {
     pub slots: Vec<KeySlot<N>>,
     /// The number of the latest transaction, which is also the latest timestamp.
     clock: AtomicU64,
-    /// The transaction that has to give way, if not 0 (`src/deadlock.rt`).
+    /// The number of the request that has to give way, if not 0 (`src/deadlock.rt`).
     pub(crate) doomed: AtomicU64,
     /// How many waits began.
     pub(crate) waits: AtomicU64,

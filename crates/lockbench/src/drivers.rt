@@ -271,8 +271,7 @@ fn scan_on<N: Name, T: KeyTable, R: Wait>(
 }
 
 /// Makes a request enter by the free pass in the seat. None if that fails.
-fn enter<N: Name, T: KeyTable, R: Wait>(
-    rt: &R,
+fn enter<N: Name, T: KeyTable>(
     alloc: Global,
     table: &Table<N, T>,
     keys: &[Key],
@@ -282,7 +281,7 @@ fn enter<N: Name, T: KeyTable, R: Wait>(
     let accesses = next_accesses(keys, course)?;
     let pass = seat.take()?.into_pass()?;
     let txn = Some(plan.txn);
-    match table.enter(rt, alloc, pass, txn, at(course.round), &accesses, 0) {
+    match table.enter(alloc, pass, txn, at(course.round), &accesses, 0) {
         Ok(guard) => {
             *seat = Some(Seat::open(guard));
             Some(())
@@ -415,7 +414,7 @@ fn turn<N: Name, T: KeyTable, R: Wait>(
 ) -> Option<()> {
     match driver.course.stage {
         Stage::Enter => {
-            enter(rt, alloc, table, keys, driver)?;
+            enter(alloc, table, keys, driver)?;
             let Driver { seat, plan, course } = driver;
             if scan(rt, table, plan, course, seat.as_mut()?)? {
                 course.stage = Stage::Acquire;
@@ -565,7 +564,7 @@ fn round<N: Name, T: KeyTable, R: Wait>(
         return None;
     };
     let txn = Some(plan.txn);
-    let mut guard = match table.enter(rt, alloc, pass, txn, at(course.round), &accesses, 0) {
+    let mut guard = match table.enter(alloc, pass, txn, at(course.round), &accesses, 0) {
         Ok(guard) => guard,
         Err(EnterRefused { pass, error: _ }) => {
             pass.abandon();

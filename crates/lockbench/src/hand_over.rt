@@ -148,7 +148,7 @@ fn queue_up<N: Name, T: KeyTable, R: Wait>(
 ) -> Option<()> {
     let Contender { seat, txn } = contender;
     let pass = seat.take()?.into_pass()?;
-    match table.enter(rt, alloc, pass, Some(*txn), TS, accesses, 0) {
+    match table.enter(alloc, pass, Some(*txn), TS, accesses, 0) {
         Ok(mut guard) => {
             let scanned = table.scan(rt, &mut guard);
             *seat = Some(Seat::open(guard));

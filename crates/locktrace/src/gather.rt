@@ -1,5 +1,5 @@
 //! How are the steps of a legal text summarized? [`Gatherer`] gives each step to the statistics, and
-//! [`Gatherer::text`] is the summary. docs/FORMATS.md, "The summary of a legal text", describes its lines.
+//! [`Gatherer::text`] is the summary. docs/LOCKTRACE.md, "The summary of a legal text", describes its lines.
 use crate::failure::TraceFailure;
 use crate::follow::StepTaker;
 use lt_checker::Report;

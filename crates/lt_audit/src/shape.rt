@@ -1,13 +1,10 @@
 //! Which word of a line is the first that cannot stand in its place? [`bad_word`] reads a line from left to right, as
 //! docs/FORMATS.md describes lines, and says what has to stand there.
-use lt_ids::MAX_PASS;
+use lt_ids::{MAX_KEY_BYTES, MAX_PASS};
 use lt_text::call::request_number;
 use lt_text::field::{access, bound, is_bound, owner, ticket, timestamp, txn};
 use lt_text::number::number;
 use lt_text::words::Words;
-
-/// The most bytes of a key.
-const MOST_KEY_BYTES: usize = 64;
 
 /// The first word of a line that cannot stand in its place.
 #[derive(Clone, Copy, Debug, PartialEq, Eq)]
@@ -93,9 +90,7 @@ fn is_up_to(word: &[u8], most: u64) -> bool {
 
 /// Whether the word is a key.
 fn is_key(word: &[u8]) -> bool {
-    !word.is_empty()
-        && word.len() <= MOST_KEY_BYTES
-        && word.iter().all(|b| 0x21 <= *b && *b <= 0x7E)
+    !word.is_empty() && word.len() <= MAX_KEY_BYTES && word.iter().all(|b| 0x21 <= *b && *b <= 0x7E)
 }
 
 /// Whether the word is one of these.

@@ -5,6 +5,7 @@ pub mod Codes
 pub mod Shapes
 pub mod Calls
 pub mod Steps
+pub mod Lists
 pub mod Looks
 pub mod Shard
 pub mod Checks

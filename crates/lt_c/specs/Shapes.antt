@@ -1,14 +1,16 @@
 -- What C sees of the values of the rules.
-use Rattle.std.specs.Prelude.{Bool, false, Option, Some, None, length, unwrap_or}
+use Rattle.std.specs.Prelude.{ℕ, Bool, true, false, List, ◌++◌, Option, Some, None, length, drop, replicate, unwrap_or}
 use Rattle.lt_ids.specs.declared.ticket.Through.{Through}
 use Rattle.lt_ids.specs.declared.timestamp.Timestamp.{Timestamp}
 use Rattle.lt_rules.specs.declared.queued.Holder.{Holder}
 use Rattle.lt_rules.specs.declared.queued.QueuedRequest.{QueuedRequest}
+use Rattle.lt_rules.specs.declared.queued.QueuedWriter.{QueuedWriter}
 use Rattle.lt_rules.specs.Rules.{Record}
 use Rattle.lt_c.specs.declared.shapes.LtThrough.{LtThrough}
 use Rattle.lt_c.specs.declared.shapes.LtTxn.{LtTxn}
 use Rattle.lt_c.specs.declared.shapes.LtQueued.{LtQueued}
 use Rattle.lt_c.specs.declared.shapes.LtKey.{LtKey}
+use Rattle.lt_c.specs.declared.shapes.LtKeyName.{LtKeyName}
 use Rattle.lt_c.specs.Codes.{txn_number}
 
 abbrev pub raw_let : Through → LtThrough
@@ -24,6 +26,17 @@ raw_queued q active = record {
   pass = q.pass;
   active = active;
 }
+
+abbrev pub raw_writer : QueuedWriter → LtQueued
+raw_writer w = raw_queued w.request w.active
+
+-- a reader waits as long as it is queued
+abbrev pub raw_reader : QueuedRequest → LtQueued
+raw_reader q = raw_queued q true
+
+-- the key's bytes, and zeros after them
+abbrev pub raw_key_name : List ℕ → LtKeyName
+raw_key_name key = record { len = length key; bytes = key ++ drop (length key) (replicate 64 0) }
 
 abbrev pub no_queued : LtQueued
 no_queued = record { number = 0; txn = 0; wall = 0; logical = 0; wait = 0; pass = 0; active = false }

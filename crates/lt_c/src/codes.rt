@@ -43,12 +43,6 @@ pub const BAD_WAIT: u32 = 10;
 /// The pass is not 1 to 1024.
 pub const BAD_PASS: u32 = 11;
 
-/// There is no writer, reader or key of this index.
-pub const NO_SUCH: u32 = 12;
-
-/// The key does not fit into the buffer. A buffer of 64 bytes takes every key.
-pub const BUFFER_SHORT: u32 = 13;
-
 /// The first line of a text of histories is neither `locks 1` nor `locks 2` with its line end.
 pub const FAULT_HEADER: u32 = 16;
 

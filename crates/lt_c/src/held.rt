@@ -1,10 +1,10 @@
 //! What does an open handle hold? [`HeldTable`] has a lock table, and the lets of its last step until C has taken
 //! them all. Its methods make a step and give its lets, or look at a key, and answer a code.
 ghost use Rattle.std.specs.Prelude.{◌≡◌, ◌≢◌, ◌≤◌, ◌<◌, ◌++◌, [], IfOk, OnErr, IsOk, length, map, drop};
-ghost use Rattle.std.specs.FinMap as finmap;
+ghost use Rattle.std.specs.Option.{option_copied};
 ghost use Rattle.lt_rules.specs.Rules.{TakesNoMemory};
 ghost use Rattle.lt_rules.specs.Step.{look};
-ghost use Rattle.lt_rules.specs.Table.{record_at};
+ghost use Rattle.lt_rules.specs.Table.{record_at, keys_after};
 ghost use Rattle.lt_c.specs.Held.{new_table};
 ghost use Rattle.lt_c.specs.Shapes.{raw_let};
 ghost use Rattle.lt_c.specs.Steps.{StepsHeld, GivesLets, KeepsOut, MakesStep, AllocatesNothing, GivesUp, held_refusal};
@@ -143,10 +143,16 @@ impl HeldTable {
         self.table.state(alloc, key)
     }
 
-    /// The keys that have a record, in byte order. It fails only when an allocation fails.
-    pub fn keys(&self, alloc: Global) -> Result<Vec<Key>, AllocError>
-        ensures { IfOk result (λ all. all.items ≡ finmap.keys self.now.records) }
+    /// The first keys that have a record and come after the key `after`, or after none: at most `at_most`, in byte order.
+    /// It fails only when an allocation fails.
+    pub fn keys_after(
+        &self,
+        alloc: Global,
+        after: Option<&Key>,
+        at_most: usize,
+    ) -> Result<Vec<Key>, AllocError>
+        ensures { IfOk result (λ all. all.items ≡ keys_after self.now.records (option_copied after.entry) at_most) }
     {
-        self.table.keys(alloc)
+        self.table.keys_after(alloc, after, at_most)
     }
 }

@@ -19,9 +19,10 @@
 //! is 0. `alloc` takes no bytes, so C does not pass it. The library takes memory by the three functions that begin
 //! with `rattle_`.
 //!
-//! Read next: `steps.rt`, `looks.rt`, `check.rt` and `shard.rt` have the exports, and `codes.rt` has what they answer.
+//! Read next: `steps.rt`, `looks.rt`, `lists.rt`, `check.rt` and `shard.rt` have the exports, and `codes.rt` has what they
+//! answer.
 //! `handle.rt` and `slot.rt` have the handle, `held.rt` what an open one holds, and `calls.rt` the visit that C
-//! asks for. In `specs/`, `Steps` and `Looks` define what the contracts of the exports say.
+//! asks for. In `specs/`, `Steps`, `Looks` and `Lists` define what the contracts of the exports say.
 #![tactic(auto)]
 
 mod calls;
@@ -29,6 +30,7 @@ mod check;
 mod codes;
 mod handle;
 mod held;
+mod lists;
 mod looks;
 mod pass_call;
 mod shapes;

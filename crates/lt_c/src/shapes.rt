@@ -1,11 +1,11 @@
 //! What crosses to C? These structs have the fields that C declares, in the same order. 0 stands for no transaction
 //! and for no request.
 ghost use Rattle.std.specs.Prelude.{◌≡◌};
-ghost use Rattle.lt_c.specs.Shapes.{raw_let, raw_queued, raw_reservation, raw_holder, raw_key, txn_time};
+ghost use Rattle.lt_c.specs.Shapes.{raw_let, raw_queued, raw_writer, raw_reader, raw_reservation, raw_holder, raw_key, raw_key_name, txn_time};
 
 use crate::codes::txn_number;
-use lt_ids::{Through, Timestamp};
-use lt_rules::{Holder, KeyState, QueuedRequest};
+use lt_ids::{Key, MAX_KEY_BYTES, Through, Timestamp};
+use lt_rules::{Holder, KeyState, QueuedRequest, QueuedWriter};
 
 /// A transaction at a timestamp.
 #[repr(C)]
@@ -66,6 +66,14 @@ pub struct LtKey {
     pub readers: usize,
 }
 
+/// A key: its first `len` bytes, which are 1 to 64, and zeros after them.
+#[repr(C)]
+#[derive(Clone, Copy)]
+pub struct LtKeyName {
+    pub len: usize,
+    pub bytes: [u8; MAX_KEY_BYTES],
+}
+
 /// What `lt_check` says of a text: of a legal one the version and the numbers of keys and steps, of another one the
 /// first faulty line, counted from 1.
 #[repr(C)]
@@ -99,6 +107,29 @@ pub(crate) fn raw_queued(request: &QueuedRequest, active: bool) -> LtQueued
         pass: request.pass,
         active,
     }
+}
+
+pub(crate) fn raw_writer(writer: &QueuedWriter) -> LtQueued
+    ensures { result ≡ raw_writer writer.now }
+{
+    raw_queued(&writer.request, writer.active)
+}
+
+/// A reader is active: it waits as long as it is queued.
+pub(crate) fn raw_reader(reader: &QueuedRequest) -> LtQueued
+    ensures { result ≡ raw_reader reader.now }
+{
+    raw_queued(reader, true)
+}
+
+pub(crate) fn raw_key_name(key: &Key) -> LtKeyName
+    ensures { result ≡ raw_key_name key.now }
+{
+    let key = key.as_bytes();
+    let len = key.len();
+    let mut bytes = [0; MAX_KEY_BYTES];
+    bytes[..len].copy_from_slice(key);
+    LtKeyName { len, bytes }
 }
 
 fn raw_reservation(reservation: &Option<QueuedRequest>) -> LtQueued

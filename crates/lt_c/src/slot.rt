@@ -25,6 +25,9 @@ impl Model for TableSlot {
     ghost also_owns = { λ s. slot_owns s.alloc s.at s.held };
 }
 
+/// A table may go from thread to thread. The proof is `proofs/slot/TableSlot/TheSendSync/Send.antt`.
+unsafe impl Send for TableSlot {}
+
 impl TableSlot {
     pub fn empty(alloc: Global) -> TableSlot
         ensures { result.held ≡ None }

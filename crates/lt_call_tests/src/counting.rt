@@ -108,8 +108,7 @@ fn tell<R: Runtime>(rt: &R, calls: &str) {
 }
 
 /// The request with this index enters. None if it is refused.
-fn enter<N: Name, T: KeyTable, R: Wait>(
-    rt: &R,
+fn enter<N: Name, T: KeyTable>(
     alloc: Global,
     table: &Table<N, T>,
     seat: Seat<N>,
@@ -120,7 +119,7 @@ fn enter<N: Name, T: KeyTable, R: Wait>(
     let (access, ts) = asked(index);
     let accesses = [(key, access)];
     let pass = seat.into_pass()?;
-    match table.enter(rt, alloc, pass, txn, ts, &accesses, 0) {
+    match table.enter(alloc, pass, txn, ts, &accesses, 0) {
         Ok(guard) => Some(Seat::open(guard)),
         Err(EnterRefused { pass, error: _ }) => {
             pass.abandon();
@@ -130,8 +129,7 @@ fn enter<N: Name, T: KeyTable, R: Wait>(
 }
 
 /// All requests enter. None if one is refused, or an allocation fails.
-fn enter_all<N: Name, T: KeyTable, R: Wait>(
-    rt: &R,
+fn enter_all<N: Name, T: KeyTable>(
     alloc: Global,
     table: &Table<N, T>,
     seats: Vec<Seat<N>>,
@@ -141,9 +139,7 @@ fn enter_all<N: Name, T: KeyTable, R: Wait>(
     for seat in seats {
         let key = key_of(alloc, byte)?;
         let index = inside.len();
-        inside
-            .push(enter(rt, alloc, table, seat, key, index)?)
-            .ok()?;
+        inside.push(enter(alloc, table, seat, key, index)?).ok()?;
     }
     Some(inside)
 }
@@ -347,7 +343,7 @@ fn run_named<N: Name, R: Wait + Runtime>(
     tell(rt, "acquires that keep a lock that stands alone");
     let also_kept = update_again(rt, &table, &mut holder, key, &Reply::Kept, 0);
     tell(rt, "updates that keep a lock that stands alone");
-    let mut seats = enter_all(rt, alloc, &table, seats, byte)?;
+    let mut seats = enter_all(alloc, &table, seats, byte)?;
     tell(rt, "enters");
     let mut counted = make_all(rt, &table, &mut holder, &mut seats, key, txn);
     counted.kept = kept.saturating_add(also_kept);

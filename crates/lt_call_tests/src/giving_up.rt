@@ -132,7 +132,7 @@ fn come<N: Name, T: KeyTable, R: Wait>(
     keys: &[(Key, Access)],
 ) -> Option<Seat<N>> {
     let pass = seat.into_pass()?;
-    match table.enter(rt, alloc, pass, None, TS, keys, 0) {
+    match table.enter(alloc, pass, None, TS, keys, 0) {
         Ok(mut guard) => {
             let _seen = table.scan(rt, &mut guard);
             Some(Seat::open(guard))

@@ -50,7 +50,7 @@ fn enter<N: Name, T: KeyTable, R: Wait>(
 {
     match host
         .table
-        .enter(host.rt, host.alloc, pass, txn, ts, accesses, longest)
+        .enter(host.alloc, pass, txn, ts, accesses, longest)
     {
         Ok(guard) => {
             let number = guard.number();

@@ -236,7 +236,7 @@ fn scanned<N: Name, T: KeyTable, W: Waker, R: Wait>(
     let mut accesses = Vec::new(alloc);
     accesses.push((key, Access::Write)).ok()?;
     let pass = seat.into_pass()?;
-    let mut guard = match table.enter(rt, alloc, pass, Some(txn), TIME, &accesses, 0) {
+    let mut guard = match table.enter(alloc, pass, Some(txn), TIME, &accesses, 0) {
         Ok(guard) => guard,
         Err(EnterRefused { pass, error: _ }) => {
             pass.abandon();

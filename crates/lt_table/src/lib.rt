@@ -61,7 +61,7 @@
 //!     unreachable!()
 //! }
 //!
-//! let mut guard = match table.enter(rt, alloc, pass, Some(txn), ts, &accesses, longest) {
+//! let mut guard = match table.enter(alloc, pass, Some(txn), ts, &accesses, longest) {
 //!     Ok(guard) => guard,                                                  // it has drawn a number: the smaller goes first
 //!     Err(EnterRefused { pass, error: _ }) => { seat.put(pass); return None; }
 //! };

@@ -2,7 +2,7 @@
 ghost use Rattle.std.specs.Prelude.{◌≡◌, IfOk, length};
 ghost use Rattle.std.specs.List.{All};
 ghost use Rattle.std.specs.FinMap as finmap;
-ghost use Rattle.lt_words.specs.Row.{fresh_passes};
+ghost use Rattle.lt_words.specs.Row.{AreFresh, AreNoting, fresh_passes};
 
 use lt_lock::LinkedTable;
 use lt_table_core::{Ready, Table, empty_tables, open_waking_with, open_with};
@@ -59,7 +59,9 @@ pub fn open_waking<N: Name, W: Waker + Drop>(
 ) -> Result<(Table<N, LinkedTable, W>, Vec<Pass>), AllocError>
     requires { ready.of ≡ N.of }
     ensures config { IfOk result (λ r. r.0 ≡ ready.config) }
-    ensures passes { IfOk result (λ r. r.1.items ≡ fresh_passes N.of N.of.passes) }
+    ensures passes { IfOk result (λ r. AreFresh N.of N.of.passes r.1.items) }
+    // Each pass notes every let of a step.
+    ensures noting { IfOk result (λ r. AreNoting N.of.passes r.1.items) }
     ensures of { IfOk result (λ r. All (λ p. p.of ≡ N.of) r.1.items) }
 {
     let Ok(tables) = linked_tables(alloc, ready.config().shards, start) else {

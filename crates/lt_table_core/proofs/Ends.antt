@@ -29,8 +29,6 @@ use Rattle.lt_table_core.specs.declared.config.Config.{Config}
 use Rattle.lt_table_core.specs.declared.closing.Wanted.{Wanted}
 use Rattle.lt_table_core.specs.declared.closing.PassCount.{PassCount}
 use Rattle.lt_table_core.specs.declared.closing.PassCount.TheVariants.{Made}
-use Rattle.lt_words.specs.declared.keeping.Keeping.{Keeping}
-use Rattle.lt_words.specs.declared.keeping.Keeping.TheVariants.{Streamed}
 use Rattle.lt_table_core.specs.declared.closing.CloseError.{CloseError}
 use Rattle.lt_table_core.specs.declared.closing.CloseError.TheVariants.{PassesOut, Memory, Counts}
 use Rattle.lt_table_core.specs.Closed.{tally, tallied_at, counts_at, IsCounted, IsMiscount, IsUnclosed, IsMet, IsEnded, AreEnded, IsFinal, IsClosed, IsRest, IsClosedRest, AreWhole}
@@ -253,7 +251,7 @@ all_mapped P f (x ∷ xs) h zero d lt = h 0 x (omega arith)
 all_mapped P f (x ∷ xs) h (suc k) d lt = all_mapped P f xs (λ j e inside. h (suc j) e (omega (arith, inside))) k d (omega (arith, lt))
 
 pub sees_on : (old mid new : PassState) → SeesMore old mid → SeesMore mid new → SeesMore old new
-sees_on old mid new a b = record { of = b.of ∙ a.of; number = b.number ∙ a.number; counts = b.counts ∙ a.counts; taken = b.taken ∙ a.taken; seen = prefix_trans old.seen mid.seen new.seen a.seen b.seen; shown = prefix_trans old.shown mid.shown new.shown a.shown b.shown; takes = prefix_trans old.takes mid.takes new.takes a.takes b.takes }
+sees_on old mid new a b = record { of = b.of ∙ a.of; number = b.number ∙ a.number; counts = b.counts ∙ a.counts; taken = b.taken ∙ a.taken; wakes = b.wakes ∙ a.wakes; seen = prefix_trans old.seen mid.seen new.seen a.seen b.seen; shown = prefix_trans old.shown mid.shown new.shown a.shown b.shown; takes = prefix_trans old.takes mid.takes new.takes a.takes b.takes }
 
 -- a fact of each item holds of the last item
 pub of_last : {A : Type 0} (P : A → Type 0) (xs ys : List A) (y : A) → xs ≡ ys ++ y ∷ [] → ((k : ℕ) (d : A) → k < length xs → P (get_or xs k d)) → P y

@@ -5,7 +5,7 @@ use mathlib.Core.List.{IsPrefix}
 use Rattle.lt_words.specs.declared.event.Event.{Event}
 use Rattle.lt_words.specs.History.{part, shard_of, LetIn, OneHolderAtEachKey, ReadsPassAtEachKey}
 use Rattle.lt_words.specs.Laws.{LetsStay, PartsAreLegal}
-use Rattle.lt_words.specs.Row.{Opening, PassState, MakesNoStep, fresh, fresh_passes}
+use Rattle.lt_words.specs.Row.{Opening, PassState, MakesNoStep, fresh, fresh_passes, quiet}
 use Rattle.lt_rules.proofs.Cases.{all_append}
 use Rattle.lt_words.proofs.Prefixes.{prefix_trans, prefix_get}
 use Rattle.lt_words.proofs.Histories.{part_prefix}
@@ -237,9 +237,31 @@ all_differ of (suc n) =
     (all_weaker (λ p. p.number ≤ n) (λ p. p.number ≢ suc n) (λ p le same. omega (arith, le, same)) (fresh_passes of n) (all_below of n))
     (all_differ of n)
 
-heard_nothing : (of : Opening) (ps : List PassState) → AllByRecursion (λ p. p ≡ fresh of p.number) ps → Differ ps → AreHeard of (map (λ p. []) ps) ps
+-- what holds of the passes, whomever they have to wake
+all_quiet : (P Q : PassState → Type 0) → ((p : PassState) → P p → Q (quiet p)) → (ps : List PassState) → AllByRecursion P ps → AllByRecursion Q (map quiet ps)
+all_quiet P Q f [] all = tt
+all_quiet P Q f (p ∷ ps) all = (f p all.0, all_quiet P Q f ps all.1)
+
+of_quiet : (P : PassState → Type 0) (ps : List PassState) → AllByRecursion P (map quiet ps) → AllByRecursion (λ p. P (quiet p)) ps
+of_quiet P [] all = tt
+of_quiet P (p ∷ ps) all = (all.0, of_quiet P ps all.1)
+
+quiet_differ : (ps : List PassState) → Differ ps → Differ (map quiet ps)
+quiet_differ [] d = tt
+quiet_differ (p ∷ ps) d = (all_quiet (λ q. p.number ≢ q.number) (λ q. p.number ≢ q.number) (λ q ne. ne) ps d.0, quiet_differ ps d.1)
+
+differ_quiet : (ps : List PassState) → Differ (map quiet ps) → Differ ps
+differ_quiet [] d = tt
+differ_quiet (p ∷ ps) d = (of_quiet (λ q. p.number ≢ q.number) ps d.0, differ_quiet ps d.1)
+
+made_none : (p : PassState) → MakesNoStep (quiet p) p
+made_none p = let m = sees_same p in record { of = m.of; number = m.number; counts = m.counts; seen = m.seen; shown = m.shown; takes = m.takes }
+
+heard_nothing : (of : Opening) (ps : List PassState) → AllByRecursion (λ p. quiet p ≡ fresh of p.number) ps → Differ ps → AreHeard of (map (λ p. []) ps) ps
 heard_nothing of [] are differ = tt
-heard_nothing of (p ∷ ps) are differ = (subst (λ x. MakesNoStep x p) are.0 (sees_same p), differ.0, heard_nothing of ps are.1 differ.1)
+heard_nothing of (p ∷ ps) are differ = (subst (λ x. MakesNoStep x p) are.0 (made_none p), differ.0, heard_nothing of ps are.1 differ.1)
 
 pub fresh_have_heard_nothing : FreshHaveHeardNothing
-fresh_have_heard_nothing of n = heard_nothing of (fresh_passes of n) (all_fresh of n) (all_differ of n)
+fresh_have_heard_nothing of n ps are =
+    let all : AllByRecursion (λ p. p ≡ fresh of p.number) (map quiet (fresh_passes of n)) = all_quiet (λ p. p ≡ fresh of p.number) (λ p. p ≡ fresh of p.number) (λ p e. ap quiet e) (fresh_passes of n) (all_fresh of n) in
+    heard_nothing of ps (of_quiet (λ p. p ≡ fresh of p.number) ps (subst (AllByRecursion (λ p. p ≡ fresh of p.number)) (sym are) all)) (differ_quiet ps (subst Differ (sym are) (quiet_differ (fresh_passes of n) (all_differ of n))))

@@ -6,7 +6,7 @@ use Rattle.lt_ids.specs.Ids.{Wait}
 use Rattle.lt_entry.specs.declared.entry.Entry.{Entry}
 use Rattle.lt_words.specs.History.{shard_of, IsStatus, LetIn}
 use Rattle.lt_words.specs.Shown.{word_of}
-use Rattle.lt_words.specs.Row.{PassState, SeesMore, Reports}
+use Rattle.lt_words.specs.Row.{PassState, SeesMore, Reports, OwesNoWakeUp}
 use Rattle.lt_rules.specs.declared.call.Call.{Call}
 use Rattle.lt_rules.specs.declared.call.Call.TheVariants.{Look}
 use Rattle.lt_shard.specs.declared.answer.Answer.{Answer}
@@ -23,13 +23,15 @@ shard_at p x = shard_of x.key p.of.shards
 
 -- The step was made and is reported: an entry with its key, its call and its reply is at the answer's index in its
 -- key's shard. The entry names the pass, it comes after everything that the pass had seen, and the pass counts one
--- more step at the shard.
+-- more step at the shard. Nobody has still to be woken: each caller that the step let through and that sleeps was woken,
+-- and the waker was called for each let.
 pub record Reported (old new : PassState) (x : Step) : Type 0 where
   pub entry : Entry
   pub key_is : entry.key ≡ x.key
   pub call_is : entry.call ≡ x.call
   pub reply_is : entry.reply ≡ x.answer.reply
   pub reports : Reports old new (shard_at old x) x.answer.at entry
+  pub woken : OwesNoWakeUp new
 
 -- The step of this call at this key was made, was answered so, and is reported.
 abbrev pub ReportsCall : PassState → PassState → List ℕ → Call → Answer → Type 0

@@ -15,7 +15,7 @@ use Rattle.lt_entry.specs.declared.entry.Entry.{Entry}
 use Rattle.lt_words.specs.declared.event.Event.{Event}
 use Rattle.lt_words.specs.History.{part, shard_of, key_history, IsLegalHistory, LetIn}
 use Rattle.lt_words.specs.Shown.{AreShown, AreLet}
-use Rattle.lt_words.specs.Row.{Opening, PassState, MakesNoStep, fresh, fresh_passes}
+use Rattle.lt_words.specs.Row.{Opening, PassState, MakesNoStep, AreFresh, fresh}
 use Rattle.lt_shard.specs.declared.holding.Rest.{Rest}
 use Rattle.lt_table_core.specs.declared.scan_results.Scan.{Scan}
 use Rattle.lt_table_core.specs.declared.scan_results.ScanError.{ScanError}
@@ -143,7 +143,7 @@ TheTheoremSoFar = (of : Opening) (ps : List PassState) (h : List Event) (all : L
 
 -- The passes of a table have heard nothing when it is opened.
 abbrev pub FreshHaveHeardNothing : Type 0
-FreshHaveHeardNothing = (of : Opening) (n : ℕ) → AreHeard of (map (λ p. []) (fresh_passes of n)) (fresh_passes of n)
+FreshHaveHeardNothing = (of : Opening) (n : ℕ) (ps : List PassState) → AreFresh of n ps → AreHeard of (map (λ p. []) ps) ps
 
 -- Each call extends what the caller was told: it makes no step, or it tells of steps, or it tells that the request was let
 -- through.

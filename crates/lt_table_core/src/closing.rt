@@ -12,10 +12,10 @@ ghost use Rattle.lt_table_core.specs.Configs.{AreInPlace};
 ghost use Rattle.lt_table_core.specs.Closed.{tally, tallied_at, taken_at, passes_of, IsCounted, AreCounted, IsMiscount, IsEnded, AreEnded, IsClosed, IsClosedRest, AreRestsOf, AreWhole, IsRoomFor, IsUnclosed, IsGivenBack};
 
 use crate::guard::Guard;
-use crate::table::{Label, Slot, Table};
+use crate::table::{Label, Named, Slot, Table};
 use lt_entry::Entry;
 use lt_rules::KeyTable;
-use lt_shard::{Rest, Shard};
+use lt_shard::Rest;
 use lt_words::{Book, Keeping, Name, Pass, Waker, abandon_all};
 use std::alloc::{AllocError, Global};
 use std::sync::Wait;
@@ -196,7 +196,7 @@ fn is_missing(whole: bool, before: u64) -> bool
 
 /// Whether the shard has this index, made as many steps as the passes made there, and is as `wanted` says.
 fn is_counted<N: Name, T: KeyTable>(
-    shard: &Shard<N, T>,
+    shard: &Named<N, T>,
     index: usize,
     wanted: Wanted,
     passes: &[Pass],
@@ -207,6 +207,7 @@ fn is_counted<N: Name, T: KeyTable>(
     ensures yes { IsTrue result → IsCounted wanted (passes_of passes.now guards.now) index shard.now }
     ensures no { IsFalse result → IsCounted wanted (passes_of passes.now guards.now) index shard.now → ⊥ }
 {
+    let shard = &shard.shard;
     if shard.index() != index {
         return false;
     }
@@ -224,7 +225,7 @@ fn is_counted<N: Name, T: KeyTable>(
 
 /// Names the first shard that is not counted in the sense of `is_counted`.
 fn count_fault<N: Name, T: KeyTable>(
-    shards: &[Shard<N, T>],
+    shards: &[Named<N, T>],
     wanted: Wanted,
     passes: &[Pass],
     guards: &[Guard],
@@ -259,14 +260,15 @@ fn learn_all(last: &mut Pass, passes: &[Pass])
 fn end_shard<N: Name, T: KeyTable + Drop, R: Wait>(
     rt: &R,
     book: &Book,
-    mut shard: Shard<N, T>,
+    named: Named<N, T>,
     last: &mut Pass,
 ) -> Rest
     requires book { book.now ≡ N.of }
     requires pass { last.old.of ≡ N.of }
-    ensures ended { IsEnded N.of last.old last.new shard.index shard result }
+    ensures ended { IsEnded N.of last.old last.new named.index named result }
     ensures more { SeesMore last.old last.new }
 {
+    let mut shard = named.into_shard();
     shard.meet(rt, book, last);
     shard.into_rest()
 }
@@ -275,7 +277,7 @@ fn end_shard<N: Name, T: KeyTable + Drop, R: Wait>(
 fn end_shards<N: Name, T: KeyTable + Drop, R: Wait>(
     rt: &R,
     book: &Book,
-    shards: Vec<Shard<N, T>>,
+    shards: Vec<Named<N, T>>,
     last: &mut Pass,
     mut rests: Vec<Rest>,
 ) -> Vec<Rest>
@@ -334,7 +336,7 @@ fn each_into<A: Drop, B: Drop, F: Fn(A) -> B>(items: Vec<A>, mut made: Vec<B>, m
 
 /// Puts each shard back behind a lock, in order. `slots` is empty and has room for them.
 fn slots_back<N: Name, T: KeyTable + Drop>(
-    shards: Vec<Shard<N, T>>,
+    shards: Vec<Named<N, T>>,
     max_steps: u64,
     mut slots: Vec<Slot<N, T>>,
 ) -> Vec<Slot<N, T>>
@@ -356,7 +358,7 @@ fn slots_back<N: Name, T: KeyTable + Drop>(
 /// Room for the shards, for their locks if the table comes back, for what is left of them, and for their histories.
 #[derive(Drop)]
 struct CloseRoom<N: Name, T: KeyTable> {
-    shards: Vec<Shard<N, T>>,
+    shards: Vec<Named<N, T>>,
     slots: Vec<Slot<N, T>>,
     rests: Vec<Rest>,
     histories: Vec<Vec<Entry>>,
@@ -390,7 +392,7 @@ fn take_room<N: Name, T: KeyTable + Drop>(
 fn end<N: Name, T: KeyTable + Drop, R: Wait>(
     rt: &R,
     book: &Book,
-    shards: Vec<Shard<N, T>>,
+    shards: Vec<Named<N, T>>,
     wanted: Wanted,
     mut passes: Vec<Pass>,
     rests: Vec<Rest>,

@@ -13,7 +13,6 @@ use lt_rules::KeyTable;
 use lt_shard::Answer;
 use lt_words::{Name, Pass, Waker};
 use std::alloc::Global;
-use std::sync::Wait;
 
 /// A request that did not enter: its pass comes back, and no number was drawn.
 pub struct EnterRefused {
@@ -59,9 +58,8 @@ impl<N: Name, T: KeyTable, W: Waker> Table<N, T, W> {
     /// request's transaction, or `None`. The request joins the writers of a key only if they are fewer than
     /// `longest`; 0 means no bound.
     #[inline(always)]
-    pub fn enter<R: Wait>(
+    pub fn enter(
         &self,
-        rt: &R,
         alloc: Global,
         mut pass: Pass,
         txn: Option<TxnId>,
@@ -79,7 +77,7 @@ impl<N: Name, T: KeyTable, W: Waker> Table<N, T, W> {
             Ok(room) => room,
             Err(error) => return Err(EnterRefused { pass, error }),
         };
-        let Some(number) = self.book.draw(rt, &mut pass, max_requests) else {
+        let Some(number) = self.book.draw(&mut pass, max_requests) else {
             let error = EnterError::NumbersOut;
             return Err(EnterRefused { pass, error });
         };

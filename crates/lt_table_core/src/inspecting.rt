@@ -36,8 +36,8 @@ impl<N: Name, T: KeyTable, W: Waker> Table<N, T, W> {
         for _ in rt.forever() {
             let mut locked = lock.lock(rt);
             let inside = &mut *locked;
-            if inside.index() == index {
-                return inside.inspect(rt, &self.book, pass, key);
+            if inside.shard.index() == index {
+                return inside.shard.inspect(rt, &self.book, pass, key);
             }
         }
         unreachable!()
@@ -80,8 +80,8 @@ impl<N: Name, T: KeyTable, W: Waker> Table<N, T, W> {
         for _ in rt.forever() {
             let mut locked = lock.lock(rt);
             let inside = &mut *locked;
-            if inside.index() == shard {
-                return inside.locked_keys(rt, &self.book, pass);
+            if inside.shard.index() == shard {
+                return inside.shard.locked_keys(rt, &self.book, pass);
             }
         }
         unreachable!()
@@ -113,8 +113,10 @@ impl<N: Name, T: KeyTable, W: Waker> Table<N, T, W> {
         for _ in rt.forever() {
             let mut locked = lock.lock(rt);
             let inside = &mut *locked;
-            if shard == inside.index() {
-                return inside.locked_keys_after(rt, &self.book, pass, after, at_most);
+            if shard == inside.shard.index() {
+                return inside
+                    .shard
+                    .locked_keys_after(rt, &self.book, pass, after, at_most);
             }
         }
         unreachable!()

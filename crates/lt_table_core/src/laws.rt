@@ -152,7 +152,7 @@ pub fn theorem_so_far()
     parts_are_legal();
 }
 
-/// The passes that `open` hands out have different numbers, and their callers have been told nothing.
+/// The passes that `open` or `open_waking` hands out have different numbers, and their callers have been told nothing.
 pub fn fresh_have_heard_nothing()
     ensures { FreshHaveHeardNothing }
 {}

@@ -4,7 +4,7 @@
 ghost use Rattle.std.specs.Prelude.{◌≡◌, ◌≤◌, ◌^◌, IfOk, length, map};
 ghost use Rattle.std.specs.List.{All};
 ghost use Rattle.std.specs.FinMap as finmap;
-ghost use Rattle.lt_words.specs.Row.{fresh_passes};
+ghost use Rattle.lt_words.specs.Row.{AreFresh, AreNoting, OwesNoWakeUp, fresh_passes, quiet};
 ghost use Rattle.lt_table_core.specs.Configs.{AreNewShards, AreInPlace};
 
 use crate::config::Ready;
@@ -15,19 +15,18 @@ use lt_words::{Book, Name, Pass, Waker, abandon_all};
 use std::alloc::{AllocError, Global};
 
 /// The shards over these tables, in order. Each may hold `max_steps` steps.
-fn shards_over<N: Name, T: KeyTable + Drop>(
+fn shards_over<T: KeyTable + Drop>(
     alloc: Global,
     book: &Book,
     tables: Vec<T>,
     max_steps: u64,
-) -> Result<Vec<Shard<N, T>>, AllocError>
-    requires book { book.now ≡ N.of }
-    requires many { length tables.items ≡ N.of.shards }
+) -> Result<Vec<Shard<T>>, AllocError>
+    requires many { length tables.items ≡ book.now.shards }
     requires empty { All (λ t. T.records t ≡ finmap.empty) tables.items }
     requires low { 1 ≤ max_steps }
     requires high { max_steps ≤ 2 ^ 32 }
-    ensures many { IfOk result (λ shards. length shards.items ≡ N.of.shards) }
-    ensures each { IfOk result (λ shards. AreNewShards N.of max_steps shards.items) }
+    ensures many { IfOk result (λ shards. length shards.items ≡ book.now.shards) }
+    ensures each { IfOk result (λ shards. AreNewShards book.now max_steps shards.items) }
 {
     let mut shards = Vec::new(alloc);
     for table in tables {
@@ -40,7 +39,7 @@ fn shards_over<N: Name, T: KeyTable + Drop>(
 /// Puts each of these new shards behind a lock of its own, in order.
 fn slots_of<N: Name, T: KeyTable + Drop>(
     alloc: Global,
-    shards: Vec<Shard<N, T>>,
+    shards: Vec<Shard<T>>,
     max_steps: u64,
 ) -> Result<Vec<Slot<N, T>>, AllocError>
     requires new { AreNewShards N.of max_steps shards.items }
@@ -115,7 +114,9 @@ pub fn open_with<N: Name, T: KeyTable + Drop>(
 
 /// Lets each pass note every let, for a waker. If an allocation fails, the passes are given up.
 fn noting_each(passes: Vec<Pass>) -> Result<Vec<Pass>, AllocError>
-    ensures { IfOk result (λ noting. noting.items ≡ passes.items) }
+    requires { All (λ p. OwesNoWakeUp p) passes.items }
+    ensures same { IfOk result (λ noting. map quiet noting.items ≡ map quiet passes.items) }
+    ensures noting { IfOk result (λ noting. AreNoting (length passes.items) noting.items) }
 {
     let mut noting = passes;
     let room = noting.len();
@@ -139,7 +140,9 @@ pub fn open_waking_with<N: Name, T: KeyTable + Drop, W: Waker + Drop>(
     requires many { length tables.items ≡ N.of.shards }
     requires empty { All (λ t. T.records t ≡ finmap.empty) tables.items }
     ensures config { IfOk result (λ r. r.0 ≡ ready.config) }
-    ensures passes { IfOk result (λ r. r.1.items ≡ fresh_passes N.of N.of.passes) }
+    ensures passes { IfOk result (λ r. AreFresh N.of N.of.passes r.1.items) }
+    // Each pass notes every let of a step.
+    ensures noting { IfOk result (λ r. AreNoting N.of.passes r.1.items) }
     ensures of { IfOk result (λ r. All (λ p. p.of ≡ N.of) r.1.items) }
 {
     let (table, passes) = open_with::<N, T>(alloc, ready, tables)?;

@@ -11,8 +11,51 @@ use lt_ids::Key;
 use lt_rules::{Call, KeyTable};
 use lt_shard::{Answer, Shard, StepError};
 use lt_words::{Book, Keeping, Name, Pass, Waker, shard_of};
-use std::marker::Model;
+use std::marker::{Model, PhantomData};
 use std::sync::{Mutex, Wait};
+
+/// A shard of the book that `N` names: a value behind a lock is known by its type alone.
+#[derive(Drop)]
+pub(crate) struct Named<N: Name, T: KeyTable> {
+    pub shard: Shard<T>,
+    name: PhantomData<N>,
+}
+
+impl<N: Name, T: KeyTable> Model for Named<N, T> {
+    ghost use Rattle.std.specs.Prelude.{◌≡◌};
+    ghost use Rattle.std.specs.Coded.{codes};
+    ghost use Rattle.lt_rules.specs.Codes.{records_code};
+    ghost use Rattle.lt_shard.specs.Shards.{View};
+
+    ghost Value = { View };
+
+    ghost coded = { Prim.hlevel (codes, records_code) };
+
+    ghost view = { λ s. s.shard };
+
+    ghost invariant = { λ s. s.shard.front.of ≡ N.of };
+}
+
+impl<N: Name, T: KeyTable> Named<N, T> {
+    /// A shard of this book.
+    pub fn new(shard: Shard<T>) -> Named<N, T>
+        requires { shard.front.of ≡ N.of }
+        ensures { result ≡ shard }
+    {
+        Named {
+            shard,
+            name: PhantomData,
+        }
+    }
+
+    pub fn into_shard(self) -> Shard<T>
+        ensures same { result ≡ self }
+        ensures of { result.front.of ≡ N.of }
+    {
+        let Named { shard, .. } = self;
+        shard
+    }
+}
 
 /// Which shard a slot was opened with: its index in the book, and how many steps it may hold.
 #[derive(Clone, Copy, Debug)]
@@ -27,22 +70,22 @@ pub(crate) struct Label {
 /// what they knew of it there.
 #[derive(Drop)]
 pub(crate) struct Slot<N: Name, T: KeyTable> {
-    pub lock: Mutex<Shard<N, T>>,
+    pub lock: Mutex<Named<N, T>>,
     pub label: Label,
     _rest: [u64; 6],
 }
 
 impl<N: Name, T: KeyTable> Slot<N, T> {
     /// Puts a new shard, which is as the label says, behind its lock.
-    pub fn new(shard: Shard<N, T>, label: Label) -> Slot<N, T>
+    pub fn new(shard: Shard<T>, label: Label) -> Slot<N, T>
         requires new { shard ≡ new_shard N.of label.index label.max_steps }
         ensures label { result.label ≡ label }
     {
-        Slot::back(shard, label)
+        Slot::back(Named::new(shard), label)
     }
 
     /// Puts a shard that came out of the slot with this label back behind a lock.
-    pub fn back(shard: Shard<N, T>, label: Label) -> Slot<N, T>
+    pub fn back(shard: Named<N, T>, label: Label) -> Slot<N, T>
         ensures label { result.label ≡ label }
     {
         Slot {
@@ -52,7 +95,7 @@ impl<N: Name, T: KeyTable> Slot<N, T> {
         }
     }
 
-    pub fn into_shard(self) -> Shard<N, T> {
+    pub fn into_shard(self) -> Named<N, T> {
         let Slot { lock, .. } = self;
         lock.into_inner()
     }
@@ -113,12 +156,12 @@ impl<N: Name, T: KeyTable, W: Waker> Table<N, T, W> {
         for _ in rt.forever() {
             let mut locked = lock.lock(rt);
             let inside = &mut *locked;
-            if inside.index() == index {
-                let answered = inside.step(rt, &self.book, pass, key, call);
+            if inside.shard.index() == index {
+                let answer = inside.shard.step(rt, &self.book, pass, key, call)?;
                 // Release the lock first, so that the threads that are woken do not run into it.
                 drop(locked);
                 self.book.wake(pass, &self.waker);
-                return answered;
+                return Ok(answer);
             }
         }
         unreachable!()

@@ -51,8 +51,8 @@ impl<N: Name, T: KeyTable, W: Waker> Table<N, T, W> {
         for _ in rt.forever() {
             let mut locked = lock.lock(rt);
             let inside = &mut *locked;
-            if inside.index() == shard {
-                return inside.take(rt, &self.book, pass, steps);
+            if inside.shard.index() == shard {
+                return inside.shard.take(rt, &self.book, pass, steps);
             }
         }
         unreachable!()
@@ -87,8 +87,11 @@ impl<N: Name, T: KeyTable, W: Waker> Table<N, T, W> {
         for _ in rt.forever() {
             let mut locked = lock.lock(rt);
             let inside = &mut *locked;
-            if inside.index() == index {
-                let count = match inside.take_next(rt, &self.book, pass, reader.next, steps) {
+            if inside.shard.index() == index {
+                let count = match inside
+                    .shard
+                    .take_next(rt, &self.book, pass, reader.next, steps)
+                {
                     Ok(count) => count,
                     Err(gone) => return Err(Gone(gone)),
                 };

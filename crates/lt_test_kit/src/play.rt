@@ -142,8 +142,7 @@ fn owner(number: Option<u64>) -> Option<Option<TxnId>> {
 }
 
 /// Makes the request enter. None if its transaction number is invalid; the pass is then given up.
-fn enter<N: Name, T: KeyTable, R: Wait>(
-    rt: &R,
+fn enter<N: Name, T: KeyTable>(
     alloc: Global,
     table: &Table<N, T>,
     pass: Pass,
@@ -159,7 +158,7 @@ fn enter<N: Name, T: KeyTable, R: Wait>(
         wall: entry.wall,
         logical: 0,
     };
-    match table.enter(rt, alloc, pass, txn, ts, &entry.keys, entry.longest) {
+    match table.enter(alloc, pass, txn, ts, &entry.keys, entry.longest) {
         Ok(guard) => {
             let number = guard.number();
             Some((Seat::open(guard), reported(CallOutcome::Entered(number))))
@@ -228,7 +227,7 @@ fn by_pass<N: Name, T: KeyTable, R: Wait>(
     requires { pass.of ≡ N.of }
 {
     match entry_of(alloc, command) {
-        Some(Some(entry)) => enter(rt, alloc, table, pass, &entry),
+        Some(Some(entry)) => enter(alloc, table, pass, &entry),
         Some(None) => {
             let said = lock_by_pass(rt, alloc, table, &mut pass, command);
             let seat = Seat::free(pass);

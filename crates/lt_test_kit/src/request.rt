@@ -9,6 +9,8 @@ use lt_table_core::{EnterRefused, Guard, LeaveStopped, Left, Table};
 use lt_words::{Name, Pass, Waker};
 use std::alloc::Global;
 use std::sync::Wait;
+use std::thread::sleep;
+use std::time::{Clock, Duration};
 
 /// When each lock is taken, and what each request reads.
 pub const TIME: Timestamp = Timestamp {
@@ -31,8 +33,7 @@ pub fn hold<N: Name, T: KeyTable, W: Waker, R: Wait>(
 }
 
 /// A request enters that names one key.
-pub fn enter<N: Name, T: KeyTable, W: Waker, R: Wait>(
-    rt: &R,
+pub fn enter<N: Name, T: KeyTable, W: Waker>(
     alloc: Global,
     table: &Table<N, T, W>,
     seat: Seat<N>,
@@ -45,7 +46,7 @@ pub fn enter<N: Name, T: KeyTable, W: Waker, R: Wait>(
     let mut accesses = Vec::new(alloc);
     accesses.push((key.copy().ok()?, access)).ok()?;
     let pass = seat.into_pass()?;
-    match table.enter(rt, alloc, pass, Some(txn), TIME, &accesses, 0) {
+    match table.enter(alloc, pass, Some(txn), TIME, &accesses, 0) {
         Ok(guard) => Some(guard),
         Err(EnterRefused { pass, error: _ }) => {
             pass.abandon();
@@ -70,4 +71,32 @@ pub fn leave<N: Name, T: KeyTable, W: Waker, R: Wait>(
             None
         }
     }
+}
+
+/// Waits until `many` requests are queued for this access to the key. False if a check fails, or after 10,000 checks.
+pub fn await_queued<N: Name, T: KeyTable, W: Waker, R: Wait + Clock>(
+    rt: &R,
+    table: &Table<N, T, W>,
+    pass: &mut Pass,
+    asked: (&Key, Access),
+    many: usize,
+) -> bool
+    requires { pass.old.of ≡ N.of }
+    ensures { pass.new.of ≡ N.of }
+{
+    let (key, access) = asked;
+    for _ in 0..10_000 {
+        let Ok(state) = table.inspect(rt, pass, key) else {
+            return false;
+        };
+        let queued = match access {
+            Access::Read => state.readers.len(),
+            Access::Write => state.writers.len(),
+        };
+        if queued == many {
+            return true;
+        }
+        sleep(rt, Duration::from_millis(1));
+    }
+    false
 }

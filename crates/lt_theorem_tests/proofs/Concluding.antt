@@ -1,12 +1,14 @@
 -- What two callers know when the table is opened and when it is closed.
 use Rattle.std.proofs.Common.{◌≡◌, ◌≢◌, ℕ, zero, suc, ◌<◌, List, [], ◌∷◌, ◌++◌, map, length, get_or, refl, sym, ◌∙◌, ap, subst, arith}
-use Rattle.lt_words.specs.Row.{Opening, PassState, fresh, fresh_passes}
+use Rattle.std.specs.List.{All}
+use Rattle.lt_words.specs.Row.{Opening, PassState, fresh, fresh_passes, quiet}
 use Rattle.lt_shard.specs.declared.answer.Answer.{Answer}
 use Rattle.lt_shard.specs.declared.holding.Rest.{Rest}
 use Rattle.lt_table_core.specs.Closed.{IsClosedRest, passes_of}
 use Rattle.lt_table_core.specs.Reported.{GuardState}
 use Rattle.lt_table_core.specs.Theorem.{Told, Heard, AreHeard, ShardHistories, IsEnd, TheMainTheorem, RestIsEnd, FreshHaveHeardNothing}
-use Rattle.lt_theorem_tests.specs.Heard.{WasTold, IsConcluded}
+use Rattle.lt_theorem_tests.specs.declared.notes.Notes.{Notes}
+use Rattle.lt_theorem_tests.specs.Heard.{WasTold, HasNoted, IsConcluded}
 
 first_heard : (of : Opening) (told : List Told) (all : List (List Told)) (p : PassState) (ps : List PassState) → AreHeard of (told ∷ all) (p ∷ ps) → Heard (fresh of p.number) told p
 first_heard of told all p ps h = h.0
@@ -25,14 +27,18 @@ told_nothing of p same h = record {
   lets_are = refl;
 }
 
--- Two passes that are all that were handed out have different numbers, and their callers were told nothing.
-pub two_begin : FreshHaveHeardNothing → (of : Opening) (n : ℕ) (one two : PassState) → fresh_passes of n ≡ one ∷ two ∷ [] → one.of ≡ of → two.of ≡ of →
-    (one.number ≢ two.number) × WasTold one [] [] × WasTold two [] []
-two_begin law of n one two are same same' =
-    let h : AreHeard of ([] ∷ [] ∷ []) (one ∷ two ∷ []) = subst (λ ps. AreHeard of (map (λ p. []) ps) ps) are (law of n) in (
+noted_nothing : (of : Opening) (p : PassState) (notes : Notes) → p.of ≡ of → Heard (fresh of p.number) [] p → notes.answers.items ≡ [] → notes.lets.items ≡ [] → HasNoted of p notes
+noted_nothing of p notes same h answers lets = record { table = same; told = rw (answers, lets) (told_nothing of p same h) }
+
+-- Two passes that are all that were handed out have different numbers, and their callers have noted nothing.
+pub two_begin : FreshHaveHeardNothing → (of : Opening) (n : ℕ) (one two : PassState) (ps : List PassState) (a b : Notes) → ps ≡ fresh_passes of n → All (λ p. p.of ≡ of) ps → ps ≡ one ∷ two ∷ []
+    → a.answers.items ≡ [] → a.lets.items ≡ [] → b.answers.items ≡ [] → b.lets.items ≡ [] → (one.number ≢ two.number) × HasNoted of one a × HasNoted of two b
+two_begin law of n one two ps a b fresh of_table are a-answers a-lets b-answers b-lets =
+    let h : AreHeard of ([] ∷ [] ∷ []) (one ∷ two ∷ []) = law of n (one ∷ two ∷ []) (ap (map quiet) (sym are ∙ fresh)) in
+    let each : All (λ p. p.of ≡ of) (one ∷ two ∷ []) = subst (All (λ p. p.of ≡ of)) are of_table in (
       first_differs of [] ([] ∷ []) one two [] h,
-      told_nothing of one same (first_heard of [] ([] ∷ []) one (two ∷ []) h),
-      told_nothing of two same' (first_heard of [] [] two [] (others_heard of [] ([] ∷ []) one (two ∷ []) h)),
+      noted_nothing of one a (each 0 one (omega arith)) (first_heard of [] ([] ∷ []) one (two ∷ []) h) a-answers a-lets,
+      noted_nothing of two b (each 1 two (omega arith)) (first_heard of [] [] two [] (others_heard of [] ([] ∷ []) one (two ∷ []) h)) b-answers b-lets,
     )
 
 pub concluded : TheMainTheorem → RestIsEnd → (of : Opening) (one two : PassState) (answers answers' : List Answer) (lets lets' : List ℕ) (rests : List Rest) (draws : ℕ) (d : Rest) →

@@ -70,13 +70,16 @@ told_call law p q answers lets key call answer reports w = told_steps law p q an
 no_step : (p q : PassState) → SeesMore p q → MakesNoStep p q
 no_step p q m = record { of = m.of; number = m.number; counts = m.counts; seen = m.seen; shown = m.shown; takes = m.takes }
 
-pub told_more : HearingGoesOn → (p q : PassState) (answers : List Answer) (lets : List ℕ) → SeesMore p q → WasTold p answers lets → WasTold q answers lets
-told_more law p q answers lets more w = record {
+pub told_without : HearingGoesOn → (p q : PassState) (answers : List Answer) (lets : List ℕ) → MakesNoStep p q → WasTold p answers lets → WasTold q answers lets
+told_without law p q answers lets none w = record {
   told = w.told;
-  heard = heard_as p q w.told more.of more.number ((law (fresh p.of p.number) p q w.told w.heard).0 (no_step p q more));
+  heard = heard_as p q w.told none.of none.number ((law (fresh p.of p.number) p q w.told w.heard).0 none);
   answers_are = w.answers_are;
   lets_are = w.lets_are;
 }
+
+pub told_more : HearingGoesOn → (p q : PassState) (answers : List Answer) (lets : List ℕ) → SeesMore p q → WasTold p answers lets → WasTold q answers lets
+told_more law p q answers lets more w = told_without law p q answers lets (no_step p q more) w
 
 told_let : HearingGoesOn → (p q : PassState) (answers : List Answer) (lets : List ℕ) (t : Wait) → SeesMore p q → LetIn q.seen q.number t → WasTold p answers lets → WasTold q answers (lets ++ t.number ∷ [])
 told_let law p q answers lets t more through w =

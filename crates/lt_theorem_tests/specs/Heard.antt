@@ -9,6 +9,7 @@ use Rattle.lt_table_core.specs.declared.walk_progress.Mode.TheVariants.{Leaving}
 use Rattle.lt_table_core.specs.Reported.{GuardState}
 use Rattle.lt_table_core.specs.Theorem.{Told, Heard, AreHeard, ShardHistories, IsEnd, MainTheorem, steps_told}
 use Rattle.lt_table_core.specs.Theorem.Told.{Made, WasLet}
+use Rattle.lt_theorem_tests.specs.declared.notes.Notes.{Notes}
 
 -- the waits that a caller was told to be let through
 abbrev pub lets_told : List Told → List Wait
@@ -23,6 +24,16 @@ pub record WasTold (p : PassState) (answers : List Answer) (lets : List ℕ) : T
   pub heard : Heard (fresh p.of p.number) told p
   pub answers_are : answers ≡ map answer_of (steps_told told)
   pub lets_are : lets ≡ map (λ t. t.number) (lets_told told)
+
+-- The pass is of this table, and its caller was told what these notes have.
+pub record HasNoted (of : Opening) (p : PassState) (notes : Notes) : Type 0 where
+  pub table : p.of ≡ of
+  pub told : WasTold p notes.answers.items notes.lets.items
+
+-- The same pass made calls, and its caller then has these notes.
+pub record NotesMore (of : Opening) (old new : PassState) (notes : Notes) : Type 0 where
+  pub number : new.number ≡ old.number
+  pub noted : HasNoted of new notes
 
 -- The request of the guard is not leaving.
 abbrev pub IsStaying : GuardState → Type 0

@@ -1,13 +1,14 @@
 //! How does each call add to what its caller was told?
-ghost use Rattle.std.specs.Prelude.{◌≡◌, ◌≢◌, IfSome, IsTrue};
-ghost use Rattle.lt_theorem_tests.specs.Heard.{WasTold, IsStaying};
+ghost use Rattle.std.specs.Prelude.{◌≡◌, ◌≢◌, ◌<◌, IfSome};
+ghost use Rattle.lt_table_core.specs.Taken.{IsTaken};
+ghost use Rattle.lt_theorem_tests.specs.Heard.{HasNoted, NotesMore, IsStaying};
 
 use crate::notes::{Notes, note_all, note_let};
 use lt_ids::{Access, Key, Timestamp, TxnId};
 use lt_rules::KeyTable;
 use lt_table_core::laws::hearing_goes_on;
 use lt_table_core::{EnterRefused, Guard, LeaveStopped, Left, Poll, Scan, Table};
-use lt_words::{Name, Pass};
+use lt_words::{Keeping, Name, Pass};
 use std::alloc::Global;
 use std::sync::Wait;
 
@@ -76,11 +77,8 @@ fn scanned<N: Name, T: KeyTable, R: Wait>(
     guard: &mut Guard,
     notes: &mut Notes,
 ) -> Option<Scan>
-    requires of { guard.old.pass.of ≡ N.of }
-    requires told { WasTold guard.old.pass notes.old.answers.items notes.old.lets.items }
-    ensures of { IfSome result (λ s. guard.new.pass.of ≡ N.of) }
-    ensures number { IfSome result (λ s. guard.new.pass.number ≡ guard.old.pass.number) }
-    ensures told { IfSome result (λ s. WasTold guard.new.pass notes.new.answers.items notes.new.lets.items) }
+    requires noted { HasNoted N.of guard.old.pass notes.old }
+    ensures noted { IfSome result (λ s. NotesMore N.of guard.old.pass guard.new.pass notes.new) }
     ensures staying { IfSome result (λ s. IsStaying guard.new) }
 {
     hearing_goes_on();
@@ -101,12 +99,9 @@ fn waited<N: Name, T: KeyTable, R: Wait>(
     guard: &mut Guard,
     notes: &mut Notes,
 ) -> Option<()>
-    requires of { guard.old.pass.of ≡ N.of }
-    requires told { WasTold guard.old.pass notes.old.answers.items notes.old.lets.items }
+    requires noted { HasNoted N.of guard.old.pass notes.old }
     requires staying { IsStaying guard.old }
-    ensures of { IfSome result (λ s. guard.new.pass.of ≡ N.of) }
-    ensures number { IfSome result (λ s. guard.new.pass.number ≡ guard.old.pass.number) }
-    ensures told { IfSome result (λ s. WasTold guard.new.pass notes.new.answers.items notes.new.lets.items) }
+    ensures noted { IfSome result (λ s. NotesMore N.of guard.old.pass guard.new.pass notes.new) }
     ensures staying { IfSome result (λ s. IsStaying guard.new) }
 {
     hearing_goes_on();
@@ -129,12 +124,9 @@ fn acquired<N: Name, T: KeyTable, R: Wait>(
     key: &Key,
     txn: TxnId,
 ) -> Option<()>
-    requires of { guard.old.pass.of ≡ N.of }
-    requires told { WasTold guard.old.pass notes.old.answers.items notes.old.lets.items }
+    requires noted { HasNoted N.of guard.old.pass notes.old }
     requires staying { IsStaying guard.old }
-    ensures of { IfSome result (λ s. guard.new.pass.of ≡ N.of) }
-    ensures number { IfSome result (λ s. guard.new.pass.number ≡ guard.old.pass.number) }
-    ensures told { IfSome result (λ s. WasTold guard.new.pass notes.new.answers.items notes.new.lets.items) }
+    ensures noted { IfSome result (λ s. NotesMore N.of guard.old.pass guard.new.pass notes.new) }
     ensures staying { IfSome result (λ s. IsStaying guard.new) }
 {
     hearing_goes_on();
@@ -157,11 +149,8 @@ fn finished<N: Name, T: KeyTable, R: Wait>(
     key: &Key,
     txn: TxnId,
 ) -> Option<()>
-    requires of { pass.old.of ≡ N.of }
-    requires told { WasTold pass.old notes.old.answers.items notes.old.lets.items }
-    ensures of { IfSome result (λ s. pass.new.of ≡ N.of) }
-    ensures number { IfSome result (λ s. pass.new.number ≡ pass.old.number) }
-    ensures told { IfSome result (λ s. WasTold pass.new notes.new.answers.items notes.new.lets.items) }
+    requires noted { HasNoted N.of pass.old notes.old }
+    ensures noted { IfSome result (λ s. NotesMore N.of pass.old pass.new notes.new) }
 {
     hearing_goes_on();
     let Ok(answer) = table.finish(rt, pass, key, txn) else {
@@ -175,26 +164,22 @@ fn finished<N: Name, T: KeyTable, R: Wait>(
 }
 
 /// A request of the caller enters, to write the key. `None` if it is refused.
-pub fn enter<N: Name, T: KeyTable, R: Wait>(
-    rt: &R,
+pub fn enter<N: Name, T: KeyTable>(
     alloc: Global,
     table: &Table<N, T>,
     caller: NotingCaller,
     key: &Key,
     txn: TxnId,
 ) -> Option<NotingRequester>
-    requires of { caller.pass.of ≡ N.of }
-    requires told { WasTold caller.pass caller.notes.answers.items caller.notes.lets.items }
-    ensures of { IfSome result (λ r. r.guard.pass.of ≡ N.of) }
-    ensures number { IfSome result (λ r. r.guard.pass.number ≡ caller.pass.number) }
-    ensures told { IfSome result (λ r. WasTold r.guard.pass r.notes.answers.items r.notes.lets.items) }
+    requires noted { HasNoted N.of caller.pass caller.notes }
+    ensures noted { IfSome result (λ r. NotesMore N.of caller.pass r.guard.pass r.notes) }
     ensures staying { IfSome result (λ r. IsStaying r.guard) }
 {
     hearing_goes_on();
     let mut accesses = Vec::new(alloc);
     accesses.push((key.copy().ok()?, Access::Write)).ok()?;
     let (pass, notes) = caller.into_parts();
-    match table.enter(rt, alloc, pass, Some(txn), TIME, &accesses, 0) {
+    match table.enter(alloc, pass, Some(txn), TIME, &accesses, 0) {
         Ok(guard) => Some(NotingRequester { guard, notes }),
         Err(EnterRefused { pass, error: _ }) => {
             pass.abandon();
@@ -209,11 +194,8 @@ pub fn scan<N: Name, T: KeyTable, R: Wait>(
     table: &Table<N, T>,
     requester: &mut NotingRequester,
 ) -> Option<Scan>
-    requires of { requester.old.guard.pass.of ≡ N.of }
-    requires told { WasTold requester.old.guard.pass requester.old.notes.answers.items requester.old.notes.lets.items }
-    ensures of { IfSome result (λ s. requester.new.guard.pass.of ≡ N.of) }
-    ensures number { IfSome result (λ s. requester.new.guard.pass.number ≡ requester.old.guard.pass.number) }
-    ensures told { IfSome result (λ s. WasTold requester.new.guard.pass requester.new.notes.answers.items requester.new.notes.lets.items) }
+    requires noted { HasNoted N.of requester.old.guard.pass requester.old.notes }
+    ensures noted { IfSome result (λ s. NotesMore N.of requester.old.guard.pass requester.new.guard.pass requester.new.notes) }
     ensures staying { IfSome result (λ s. IsStaying requester.new.guard) }
 {
     scanned(rt, table, &mut requester.guard, &mut requester.notes)
@@ -225,12 +207,9 @@ pub fn wait<N: Name, T: KeyTable, R: Wait>(
     table: &Table<N, T>,
     requester: &mut NotingRequester,
 ) -> Option<()>
-    requires of { requester.old.guard.pass.of ≡ N.of }
-    requires told { WasTold requester.old.guard.pass requester.old.notes.answers.items requester.old.notes.lets.items }
+    requires noted { HasNoted N.of requester.old.guard.pass requester.old.notes }
     requires staying { IsStaying requester.old.guard }
-    ensures of { IfSome result (λ s. requester.new.guard.pass.of ≡ N.of) }
-    ensures number { IfSome result (λ s. requester.new.guard.pass.number ≡ requester.old.guard.pass.number) }
-    ensures told { IfSome result (λ s. WasTold requester.new.guard.pass requester.new.notes.answers.items requester.new.notes.lets.items) }
+    ensures noted { IfSome result (λ s. NotesMore N.of requester.old.guard.pass requester.new.guard.pass requester.new.notes) }
     ensures staying { IfSome result (λ s. IsStaying requester.new.guard) }
 {
     waited(rt, table, &mut requester.guard, &mut requester.notes)
@@ -244,12 +223,9 @@ pub fn acquire<N: Name, T: KeyTable, R: Wait>(
     key: &Key,
     txn: TxnId,
 ) -> Option<()>
-    requires of { requester.old.guard.pass.of ≡ N.of }
-    requires told { WasTold requester.old.guard.pass requester.old.notes.answers.items requester.old.notes.lets.items }
+    requires noted { HasNoted N.of requester.old.guard.pass requester.old.notes }
     requires staying { IsStaying requester.old.guard }
-    ensures of { IfSome result (λ s. requester.new.guard.pass.of ≡ N.of) }
-    ensures number { IfSome result (λ s. requester.new.guard.pass.number ≡ requester.old.guard.pass.number) }
-    ensures told { IfSome result (λ s. WasTold requester.new.guard.pass requester.new.notes.answers.items requester.new.notes.lets.items) }
+    ensures noted { IfSome result (λ s. NotesMore N.of requester.old.guard.pass requester.new.guard.pass requester.new.notes) }
     ensures staying { IfSome result (λ s. IsStaying requester.new.guard) }
 {
     acquired(
@@ -268,11 +244,8 @@ pub fn proceed<N: Name, T: KeyTable, R: Wait>(
     table: &Table<N, T>,
     requester: &mut NotingRequester,
 ) -> Option<()>
-    requires of { requester.old.guard.pass.of ≡ N.of }
-    requires told { WasTold requester.old.guard.pass requester.old.notes.answers.items requester.old.notes.lets.items }
-    ensures of { IfSome result (λ s. requester.new.guard.pass.of ≡ N.of) }
-    ensures number { IfSome result (λ s. requester.new.guard.pass.number ≡ requester.old.guard.pass.number) }
-    ensures told { IfSome result (λ s. WasTold requester.new.guard.pass requester.new.notes.answers.items requester.new.notes.lets.items) }
+    requires noted { HasNoted N.of requester.old.guard.pass requester.old.notes }
+    ensures noted { IfSome result (λ s. NotesMore N.of requester.old.guard.pass requester.new.guard.pass requester.new.notes) }
     ensures staying { IfSome result (λ s. IsStaying requester.new.guard) }
 {
     for _ in 0..SCANS {
@@ -292,12 +265,9 @@ pub fn leave<N: Name, T: KeyTable, R: Wait>(
     table: &Table<N, T>,
     requester: NotingRequester,
 ) -> Option<NotingCaller>
-    requires of { requester.guard.pass.of ≡ N.of }
-    requires told { WasTold requester.guard.pass requester.notes.answers.items requester.notes.lets.items }
+    requires noted { HasNoted N.of requester.guard.pass requester.notes }
     requires staying { IsStaying requester.guard }
-    ensures of { IfSome result (λ c. c.pass.of ≡ N.of) }
-    ensures number { IfSome result (λ c. c.pass.number ≡ requester.guard.pass.number) }
-    ensures told { IfSome result (λ c. WasTold c.pass c.notes.answers.items c.notes.lets.items) }
+    ensures noted { IfSome result (λ c. NotesMore N.of requester.guard.pass c.pass c.notes) }
 {
     hearing_goes_on();
     let (guard, mut notes) = requester.into_parts();
@@ -325,11 +295,30 @@ pub fn finish<N: Name, T: KeyTable, R: Wait>(
     key: &Key,
     txn: TxnId,
 ) -> Option<()>
-    requires of { caller.old.pass.of ≡ N.of }
-    requires told { WasTold caller.old.pass caller.old.notes.answers.items caller.old.notes.lets.items }
-    ensures of { IfSome result (λ s. caller.new.pass.of ≡ N.of) }
-    ensures number { IfSome result (λ s. caller.new.pass.number ≡ caller.old.pass.number) }
-    ensures told { IfSome result (λ s. WasTold caller.new.pass caller.new.notes.answers.items caller.new.notes.lets.items) }
+    requires noted { HasNoted N.of caller.old.pass caller.old.notes }
+    ensures noted { IfSome result (λ s. NotesMore N.of caller.old.pass caller.new.pass caller.new.notes) }
 {
     finished(rt, table, &mut caller.pass, &mut caller.notes, key, txn)
+}
+
+/// Takes out the steps that the shard holds, and returns how many of the shard's steps were made before them. What the
+/// caller was told stands: a take is no step.
+pub fn take_out<N: Name, T: KeyTable, R: Wait>(
+    rt: &R,
+    alloc: Global,
+    table: &Table<N, T>,
+    caller: &mut NotingCaller,
+    shard: usize,
+) -> u64
+    requires noted { HasNoted N.of caller.old.pass caller.old.notes }
+    requires shard { shard < N.of.shards }
+    requires keeping { N.of.keeping ≢ Keeping.Whole }
+    ensures noted { NotesMore N.of caller.old.pass caller.new.pass caller.new.notes }
+    ensures taken { IsTaken shard caller.new.pass.seen result caller.new.notes.taken.items }
+{
+    hearing_goes_on();
+    let mut steps = Vec::new(alloc);
+    let before = table.take_history(rt, &mut caller.pass, shard, &mut steps);
+    caller.notes.taken = steps;
+    before
 }

@@ -1,15 +1,17 @@
 //! What does a caller keep of what it was told?
 ghost use Rattle.std.specs.Prelude.{◌≡◌, ◌++◌, ◌∷◌, [], IsTrue};
 
+use lt_entry::Entry;
 use lt_table_core::Answer;
 use std::alloc::Global;
 
 /// The answers that a caller's calls gave it, and the numbers of the requests that it read as let through: both in order,
-/// since the table was opened.
+/// since the table was opened. Beside them are the steps that the caller took out of the table, of whichever caller.
 #[derive(Drop)]
 pub struct Notes {
     pub answers: Vec<Answer>,
     pub lets: Vec<u64>,
+    pub taken: Vec<Entry>,
 }
 
 impl Notes {
@@ -21,6 +23,7 @@ impl Notes {
         Notes {
             answers: Vec::new(alloc),
             lets: Vec::new(alloc),
+            taken: Vec::new(alloc),
         }
     }
 }

@@ -3,17 +3,17 @@ ghost use Rattle.std.specs.Prelude.{◌≡◌, ◌≢◌, ◌++◌, ◌∷◌, [
 ghost use Rattle.std.specs.List.{All};
 ghost use Rattle.lt_words.specs.Row.{fresh_passes};
 ghost use Rattle.lt_shard.specs.declared.holding.Rest.{Rest as RestState};
-ghost use Rattle.lt_theorem_tests.specs.Heard.{WasTold, IsStaying, IsConcluded};
+ghost use Rattle.lt_theorem_tests.specs.Heard.{HasNoted, NotesMore, IsStaying, IsConcluded};
 
 use crate::caller::{
-    NotingCaller, NotingRequester, acquire, enter, finish, leave, proceed, scan, wait,
+    NotingCaller, NotingRequester, acquire, enter, finish, leave, proceed, scan, take_out, wait,
 };
 use crate::notes::Notes;
 use lt_ids::{Key, TxnId};
 use lt_rules::KeyTable;
 use lt_table_core::laws::{fresh_have_heard_nothing, main_theorem, rest_is_end};
 use lt_table_core::{Rests, Scan, Table};
-use lt_words::{Name, Pass, abandon_all};
+use lt_words::{Keeping, Name, Pass, abandon_all};
 use std::alloc::Global;
 use std::sync::Wait;
 use std::thread::{Threads, join};
@@ -55,10 +55,8 @@ pub fn two_callers<N: Name>(
     requires fresh { passes.items ≡ fresh_passes N.of N.of.passes }
     requires of { All (λ p. p.of ≡ N.of) passes.items }
     ensures differ { IfSome result (λ r. r.0.pass.number ≢ r.1.pass.number) }
-    ensures of { IfSome result (λ r. r.0.pass.of ≡ N.of) }
-    ensures of_other { IfSome result (λ r. r.1.pass.of ≡ N.of) }
-    ensures told { IfSome result (λ r. WasTold r.0.pass r.0.notes.answers.items r.0.notes.lets.items) }
-    ensures other_told { IfSome result (λ r. WasTold r.1.pass r.1.notes.answers.items r.1.notes.lets.items) }
+    ensures one { IfSome result (λ r. HasNoted N.of r.0.pass r.0.notes) }
+    ensures two { IfSome result (λ r. HasNoted N.of r.1.pass r.1.notes) }
 {
     fresh_have_heard_nothing();
     let (one, two) = two_passes(passes)?;
@@ -112,10 +110,8 @@ pub fn close<N: Name, T: KeyTable + Drop, R: Wait>(
     two: NotingCaller,
 ) -> Option<NotedClose>
     requires differ { one.pass.number ≢ two.pass.number }
-    requires of { one.pass.of ≡ N.of }
-    requires of_other { two.pass.of ≡ N.of }
-    requires told { WasTold one.pass one.notes.answers.items one.notes.lets.items }
-    requires other_told { WasTold two.pass two.notes.answers.items two.notes.lets.items }
+    requires one { HasNoted N.of one.pass one.notes }
+    requires two { HasNoted N.of two.pass two.notes }
     ensures { IfSome result (λ c. (d : RestState) → IsConcluded N.of d c.rests.shards.items c.one.answers.items c.two.answers.items c.one.lets.items c.two.lets.items) }
 {
     main_theorem();
@@ -145,19 +141,16 @@ fn take<N: Name, T: KeyTable, R: Wait>(
     key: &Key,
     txn: TxnId,
 ) -> Option<NotingCaller>
-    requires of { caller.pass.of ≡ N.of }
-    requires told { WasTold caller.pass caller.notes.answers.items caller.notes.lets.items }
-    ensures of { IfSome result (λ c. c.pass.of ≡ N.of) }
-    ensures number { IfSome result (λ c. c.pass.number ≡ caller.pass.number) }
-    ensures told { IfSome result (λ c. WasTold c.pass c.notes.answers.items c.notes.lets.items) }
+    requires noted { HasNoted N.of caller.pass caller.notes }
+    ensures noted { IfSome result (λ c. NotesMore N.of caller.pass c.pass c.notes) }
 {
-    let mut requester = enter(rt, alloc, table, caller, key, txn)?;
+    let mut requester = enter(alloc, table, caller, key, txn)?;
     proceed(rt, table, &mut requester)?;
     acquire(rt, table, &mut requester, key, txn)?;
     leave(rt, table, requester)
 }
 
-/// A transaction takes the lock of the key, and then frees it.
+/// A transaction takes the lock of the key, and then frees it. Then its caller takes out the steps of the key's shard.
 fn work<N: Name, T: KeyTable, R: Wait>(
     rt: &R,
     alloc: Global,
@@ -166,14 +159,13 @@ fn work<N: Name, T: KeyTable, R: Wait>(
     key: &Key,
     txn: TxnId,
 ) -> Option<NotingCaller>
-    requires of { caller.pass.of ≡ N.of }
-    requires told { WasTold caller.pass caller.notes.answers.items caller.notes.lets.items }
-    ensures of { IfSome result (λ c. c.pass.of ≡ N.of) }
-    ensures number { IfSome result (λ c. c.pass.number ≡ caller.pass.number) }
-    ensures told { IfSome result (λ c. WasTold c.pass c.notes.answers.items c.notes.lets.items) }
+    requires noted { HasNoted N.of caller.pass caller.notes }
+    requires keeping { N.of.keeping ≢ Keeping.Whole }
+    ensures noted { IfSome result (λ c. NotesMore N.of caller.pass c.pass c.notes) }
 {
     let mut holder = take(rt, alloc, table, caller, key, txn)?;
     finish(rt, table, &mut holder, key, txn)?;
+    let _ = take_out(rt, alloc, table, &mut holder, table.shard_of(key));
     Some(holder)
 }
 
@@ -187,12 +179,9 @@ fn go_on<N: Name, T: KeyTable, R: Wait>(
     key: &Key,
     txn: TxnId,
 ) -> Option<NotingCaller>
-    requires of { waiter.guard.pass.of ≡ N.of }
-    requires told { WasTold waiter.guard.pass waiter.notes.answers.items waiter.notes.lets.items }
+    requires noted { HasNoted N.of waiter.guard.pass waiter.notes }
     requires staying { IsStaying waiter.guard }
-    ensures of { IfSome result (λ c. c.pass.of ≡ N.of) }
-    ensures number { IfSome result (λ c. c.pass.number ≡ waiter.guard.pass.number) }
-    ensures told { IfSome result (λ c. WasTold c.pass c.notes.answers.items c.notes.lets.items) }
+    ensures noted { IfSome result (λ c. NotesMore N.of waiter.guard.pass c.pass c.notes) }
 {
     let mut waiter = waiter;
     if let Scan::Waiting(_) = scanned {
@@ -206,7 +195,8 @@ fn go_on<N: Name, T: KeyTable, R: Wait>(
 }
 
 /// Two callers take the lock of one key in turn, on one thread: the second one's request meets the lock and waits until
-/// the first frees it. Then the table is closed. The main theorem holds of what they noted.
+/// the first frees it. The first takes out the steps that were made until then. Then the table is closed. The main theorem
+/// holds of what they noted.
 pub fn run_in_turn<N: Name, T: KeyTable + Drop, R: Wait>(
     rt: &R,
     alloc: Global,
@@ -215,15 +205,17 @@ pub fn run_in_turn<N: Name, T: KeyTable + Drop, R: Wait>(
 ) -> Option<NotedClose>
     requires fresh { passes.items ≡ fresh_passes N.of N.of.passes }
     requires of { All (λ p. p.of ≡ N.of) passes.items }
+    requires keeping { N.of.keeping ≢ Keeping.Whole }
     ensures { IfSome result (λ c. (d : RestState) → IsConcluded N.of d c.rests.shards.items c.one.answers.items c.two.answers.items c.one.lets.items c.two.lets.items) }
 {
     let (one, two) = two_callers::<N>(alloc, passes)?;
     let key = Key::from_bytes(alloc, b"a").ok()?;
     let (txn, other) = (TxnId::new(1)?, TxnId::new(2)?);
     let mut holder = take(rt, alloc, &table, one, &key, txn)?;
-    let mut waiter = enter(rt, alloc, &table, two, &key, other)?;
+    let mut waiter = enter(alloc, &table, two, &key, other)?;
     let scanned = scan(rt, &table, &mut waiter)?;
     finish(rt, &table, &mut holder, &key, txn)?;
+    let _ = take_out(rt, alloc, &table, &mut holder, table.shard_of(&key));
     let two = go_on(rt, &table, waiter, scanned, &key, other)?;
     close(rt, alloc, table, holder, two)
 }
@@ -238,33 +230,30 @@ fn work_at_once<N: Name + Send + Sync, T: KeyTable + Send, R: Threads + Wait + S
     key: &Key,
 ) -> Option<(NotingCaller, NotingCaller)>
     requires differ { one.pass.number ≢ two.pass.number }
-    requires of { one.pass.of ≡ N.of }
-    requires of_other { two.pass.of ≡ N.of }
-    requires told { WasTold one.pass one.notes.answers.items one.notes.lets.items }
-    requires other_told { WasTold two.pass two.notes.answers.items two.notes.lets.items }
+    requires one { HasNoted N.of one.pass one.notes }
+    requires two { HasNoted N.of two.pass two.notes }
+    requires keeping { N.of.keeping ≢ Keeping.Whole }
     ensures differ { IfSome result (λ r. r.0.pass.number ≢ r.1.pass.number) }
-    ensures of { IfSome result (λ r. r.0.pass.of ≡ N.of) }
-    ensures of_other { IfSome result (λ r. r.1.pass.of ≡ N.of) }
-    ensures told { IfSome result (λ r. WasTold r.0.pass r.0.notes.answers.items r.0.notes.lets.items) }
-    ensures other_told { IfSome result (λ r. WasTold r.1.pass r.1.notes.answers.items r.1.notes.lets.items) }
+    ensures one { IfSome result (λ r. HasNoted N.of r.0.pass r.0.notes) }
+    ensures two { IfSome result (λ r. HasNoted N.of r.1.pass r.1.notes) }
 {
     let (txn, other) = (TxnId::new(1)?, TxnId::new(2)?);
     let (done, also_done) = join(
         rt,
         move || -> Option<NotingCaller>
-            requires { (one.pass.of ≡ N.of) × WasTold one.pass one.notes.answers.items one.notes.lets.items }
-            ensures { IfSome result (λ c. (c.pass.of ≡ N.of) × (c.pass.number ≡ one.pass.number) × WasTold c.pass c.notes.answers.items c.notes.lets.items) }
+            requires { HasNoted N.of one.pass one.notes × (N.of.keeping ≢ Keeping.Whole) }
+            ensures { IfSome result (λ c. NotesMore N.of one.pass c.pass c.notes) }
         { work(rt, alloc, table, one, key, txn) },
         move || -> Option<NotingCaller>
-            requires { (two.pass.of ≡ N.of) × WasTold two.pass two.notes.answers.items two.notes.lets.items }
-            ensures { IfSome result (λ c. (c.pass.of ≡ N.of) × (c.pass.number ≡ two.pass.number) × WasTold c.pass c.notes.answers.items c.notes.lets.items) }
+            requires { HasNoted N.of two.pass two.notes × (N.of.keeping ≢ Keeping.Whole) }
+            ensures { IfSome result (λ c. NotesMore N.of two.pass c.pass c.notes) }
         { work(rt, alloc, table, two, key, other) },
     );
     Some((done?, also_done?))
 }
 
-/// Two callers take the lock of one key at once, each on a thread; then the table is closed. The main theorem holds of
-/// what they noted.
+/// Two callers take the lock of one key at once, each on a thread, and take out steps; then the table is closed. The main
+/// theorem holds of what they noted.
 pub fn run_at_once<N: Name + Send + Sync, T: KeyTable + Drop + Send, R: Threads + Wait + Sync>(
     rt: &R,
     alloc: Global,
@@ -273,6 +262,7 @@ pub fn run_at_once<N: Name + Send + Sync, T: KeyTable + Drop + Send, R: Threads 
 ) -> Option<NotedClose>
     requires fresh { passes.items ≡ fresh_passes N.of N.of.passes }
     requires of { All (λ p. p.of ≡ N.of) passes.items }
+    requires keeping { N.of.keeping ≢ Keeping.Whole }
     ensures { IfSome result (λ c. (d : RestState) → IsConcluded N.of d c.rests.shards.items c.one.answers.items c.two.answers.items c.one.lets.items c.two.lets.items) }
 {
     let (one, two) = two_callers::<N>(alloc, passes)?;

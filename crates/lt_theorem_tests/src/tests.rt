@@ -1,5 +1,5 @@
 //! Do both callers come to the end, and what do they note?
-ghost use Rattle.std.specs.Prelude.{◌≡◌, IfSome};
+ghost use Rattle.std.specs.Prelude.{◌≡◌, IfOk, IfSome};
 ghost use Rattle.std.specs.List.{All};
 ghost use Rattle.std.specs.FinMap as finmap;
 ghost use Rattle.lt_words.specs.Row.{fresh_passes};
@@ -39,7 +39,9 @@ fn open<N: Name>(alloc: Global, ready: Ready) -> Option<(Table<N, PlainTable>, V
 }
 
 /// A streamed table of two shards and two passes.
-fn streamed(alloc: Global) -> Result<Ready, PrepareError> {
+fn streamed(alloc: Global) -> Result<Ready, PrepareError>
+    ensures { IfOk result (λ ready. ready.of.keeping ≡ Keeping.Streamed) }
+{
     let config = Config {
         shards: 2,
         passes: 2,
@@ -51,7 +53,8 @@ fn streamed(alloc: Global) -> Result<Ready, PrepareError> {
 }
 
 fn run_named<N: Name, R: Wait>(rt: &R, alloc: Global, ready: Ready) -> Option<NotedClose>
-    requires { ready.of ≡ N.of }
+    requires named { ready.of ≡ N.of }
+    requires streamed { ready.of.keeping ≡ Keeping.Streamed }
 {
     let (table, passes) = open::<N>(alloc, ready)?;
     run_in_turn(rt, alloc, table, passes)
@@ -67,7 +70,8 @@ fn threads_named<N: Name + Send + Sync, R: Threads + Wait + Sync>(
     alloc: Global,
     ready: Ready,
 ) -> Option<NotedClose>
-    requires { ready.of ≡ N.of }
+    requires named { ready.of ≡ N.of }
+    requires streamed { ready.of.keeping ≡ Keeping.Streamed }
 {
     let (table, passes) = open::<N>(alloc, ready)?;
     run_at_once(rt, alloc, table, passes)
@@ -87,13 +91,18 @@ fn expect_replies<R: Abort>(rt: &R, notes: &Notes, replies: &[Reply]) -> Result<
     Ok(())
 }
 
-/// Asserts that the table made as many steps as the callers noted answers, and drew two numbers.
+/// Asserts that the table made as many steps as the callers noted answers, that the steps which the close gave begin after
+/// those that the callers took out, and that the table drew two numbers.
 fn expect_all<R: Abort>(rt: &R, closed: &NotedClose) -> Result<(), Fail> {
     let mut steps = 0usize;
+    let mut from = 0u64;
     for rest in &closed.rests.shards {
-        assert_eq!(rt; rest.from, 0);
+        from = from.wrapping_add(rest.from);
         steps = steps.wrapping_add(rest.entries.len());
     }
+    let taken = closed.one.taken.len().wrapping_add(closed.two.taken.len());
+    assert_eq!(rt; from, taken as u64);
+    steps = steps.wrapping_add(taken);
     let noted = closed
         .one
         .answers
@@ -119,6 +128,8 @@ fn two_callers_in_turn_note_what_they_were_told(rt: HostRuntime) -> Result<(), F
     ];
     expect_replies(&rt, &closed.two, &two)?;
     assert!(rt; closed.one.lets.is_empty());
+    // Until its finish the first caller made four steps, and the second one's scan a fifth.
+    assert_eq!(rt; closed.one.taken.len(), 5);
     assert_eq!(rt; closed.two.lets.as_slice(), [2u64].as_slice());
     Ok(())
 }

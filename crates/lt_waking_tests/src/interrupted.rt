@@ -134,7 +134,6 @@ fn answers_on<N: Name + Send + Sync, T: KeyTable + Send, R: Threads + Wait + Clo
     let txn = TxnId::new(1)?;
     let holder = hold(rt, table, seats.pop()?, &key, txn)?;
     let guard = enter(
-        rt,
         alloc,
         table,
         seats.pop()?,

@@ -5,10 +5,10 @@ ghost use Rattle.std.specs.Prelude.{◌≡◌, ◌<◌};
 use lt_ids::{Access, Key, TxnId};
 use lt_rules::KeyTable;
 use lt_table::{Config, Poll, Ready, Scan, Table, open, prepare};
-use lt_test_kit::request::{enter, hold, leave};
+use lt_test_kit::request::{await_queued, enter, hold, leave};
 use lt_test_kit::run::{close_all, seated};
 use lt_test_kit::seat::Seat;
-use lt_words::{Name, Pass};
+use lt_words::Name;
 use std::alloc::Global;
 use std::marker::Brand;
 use std::sync::Wait;
@@ -24,7 +24,7 @@ fn read<N: Name, T: KeyTable, R: Wait>(
     key: &Key,
     txn: TxnId,
 ) -> Option<Seat<N>> {
-    let mut guard = enter(rt, alloc, table, seat, (key, Access::Read), txn)?;
+    let mut guard = enter(alloc, table, seat, (key, Access::Read), txn)?;
     let has_waited = match table.scan(rt, &mut guard) {
         Ok(Scan::Waiting(_)) => table.wait(rt, &mut guard) == Poll::Through,
         _ => false,
@@ -32,31 +32,6 @@ fn read<N: Name, T: KeyTable, R: Wait>(
     let pass = leave(rt, table, guard)?;
     let seat = Seat::free(pass);
     if has_waited { Some(seat) } else { None }
-}
-
-/// Waits until so many readers are queued. False if a check fails, or after 10,000 checks.
-fn await_readers<N: Name, T: KeyTable, R: Wait + Clock>(
-    rt: &R,
-    table: &Table<N, T>,
-    pass: &mut Pass,
-    key: &Key,
-    many: usize,
-) -> bool
-    requires { pass.old.of ≡ N.of }
-    ensures { pass.new.of ≡ N.of }
-{
-    for _ in 0..10_000 {
-        match table.inspect(rt, pass, key) {
-            Ok(state) => {
-                if state.readers.len() == many {
-                    return true;
-                }
-            }
-            Err(_) => return false,
-        }
-        sleep(rt, Duration::from_millis(1));
-    }
-    false
 }
 
 /// Frees the lock once all readers wait, and most of them sleep.
@@ -69,7 +44,7 @@ fn free_when<N: Name, T: KeyTable, R: Wait + Clock>(
     many: usize,
 ) -> Option<Seat<N>> {
     let mut pass = seat.into_pass()?;
-    let have_come = await_readers(rt, table, &mut pass, key, many);
+    let have_come = await_queued(rt, table, &mut pass, (key, Access::Read), many);
     sleep(rt, Duration::from_millis(100));
     let is_freed = table.finish(rt, &mut pass, key, txn).is_ok();
     let seat = Seat::free(pass);

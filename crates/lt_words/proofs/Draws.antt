@@ -104,3 +104,7 @@ drew None pass max old new g = tt
 drew (Some n) pass max old new g =
     let goes : Appends old (λ h. draws_of h + 1 ≡ n) (Draw pass n) new = g.2 in
     subst (λ (l : List Event). DrewIn l pass n) (sym goes.3) (drew_last goes.0 pass n)
+
+-- a later history has as many draws or more
+pub draws_later : (xs ys : List Event) → IsPrefix xs ys → draws_of xs ≤ draws_of ys
+draws_later xs ys more = omega (arith, draws_of-append xs more.0, ap draws_of more.1)

@@ -91,9 +91,11 @@ draw_moves v pass old new begun is =
     let next = kept_draw cs log pass new kept (omega (arith, e, is)) in (
       Happened (Draw pass new) ∷ [],
       next,
-      (next.is_open, match_true (old == old) _ _ (eq-eqb old old refl) (history_of log, history_prefix v log begun pre, sym kept.number ∙ e, history_on log (Happened (Draw pass new) ∷ []) kept.is_open)),
+      ((next.is_open, match_true (old == old) _ _ (eq-eqb old old refl) (history_of log, history_prefix v log begun pre, sym kept.number ∙ e, history_on log (Happened (Draw pass new) ∷ []) kept.is_open)), match_true (old == old) _ _ (eq-eqb old old refl) tt),
     ))
-    (λ cs log kept pre ne. (kept.is_open, match_false ((cell cs 0).0 == old) _ _ (ne_eqb (cell cs 0).0 old ne) (history_prefix v log begun pre)))
+    (λ cs log kept pre ne.
+    let other = ne_eqb (cell cs 0).0 old ne in
+    ((kept.is_open, match_false ((cell cs 0).0 == old) _ _ other (history_prefix v log begun pre)), match_false ((cell cs 0).0 == old) _ _ other (λ e. ne (kept.number ∙ e))))
 
 -- a step word goes from old to old + 1: the front's part of the shard has old steps, and the entry may follow them
 pub step_moves : (v : List Logged) (front : List Event) (shard old new : ℕ) (entry : Entry) → IsOpenLog v → IsPrefix front (history_of v)
@@ -140,7 +142,10 @@ signal_moves v old new t is low high below number wait value let_in =
     let above : word_of t.pass (shown_of log) < value_of t.ticket = omega (arith, e, below, value, kept.status t.pass low high2) in
     let reached : IsShown (shown_of (log ++ Shown t ∷ [])) t.pass t.ticket = omega (arith, ap (word_of t.pass) (shown_of-append log (Shown t ∷ [])), word_here t.pass (shown_of log) t refl above) in
     (Shown t ∷ [], next, (next.is_open, match_true (old == old) _ _ (eq-eqb old old refl) (reached, tt))))
-    (λ cs log kept pre ne. (kept.is_open, match_false ((cell cs (t.pass + 128)).0 == old) _ _ (ne_eqb (cell cs (t.pass + 128)).0 old ne) tt))
+    (λ cs log kept pre ne.
+    let back : (t.pass + 128) - 128 ≡ t.pass = omega arith in
+    let word : (cell cs (t.pass + 128)).0 ≡ word_of t.pass (shown_of log) = kept.status t.pass low (omega (arith, high, same_passes v log is pre)) in
+    (kept.is_open, match_false ((cell cs (t.pass + 128)).0 == old) _ _ (ne_eqb (cell cs (t.pass + 128)).0 old ne) (λ e. ne (word ∙ (ap (λ p. word_of p (shown_of log)) (sym back) ∙ e)))))
 
 -- a take word goes from old to old + many
 pub take_moves : (v : List Logged) (old new : ℕ) (t : Take) → t.shard < 64 → new ≡ old + t.many

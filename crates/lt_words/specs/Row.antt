@@ -1,6 +1,7 @@
 -- The row of words of a book, what a pass and a front carry, and what a step tells the pass that made it.
-use Rattle.std.specs.Prelude.{ℕ, ◌≡◌, ◌+◌, ◌<◌, ◌≤◌, List, [], ◌∷◌, ◌++◌, length, slice_index, slice_index_or, replicate, zero, suc, ◌≢◌, Some, slice_get, Bool, MatchBool}
+use Rattle.std.specs.Prelude.{ℕ, nat_lt, if◌then◌else◌, ◌≡◌, ◌+◌, ◌<◌, ◌≤◌, List, [], ◌∷◌, ◌++◌, length, slice_index, slice_index_or, slice_set, replicate, map, zero, suc, ◌≢◌, Some, slice_get, Bool, MatchBool}
 use mathlib.Core.List.{IsPrefix}
+use Rattle.std.specs.List.{All}
 use Rattle.logbook.specs.Pages.{Book}
 use Rattle.lt_ids.specs.declared.ticket.Through.{Through}
 use Rattle.lt_words.specs.declared.event.Event.{Event}
@@ -74,8 +75,29 @@ pub record FrontGrows (old new : FrontState) : Type 0 where
   pub shown : IsPrefix old.shown new.shown
   pub takes : IsPrefix old.takes new.takes
 
+-- Whom a pass has still to wake for the lets that it showed: for how many lets it has room, so that a waker is called for
+-- each; the lets that it has noted for the waker; and how often it has noted that a let's caller sleeps.
+pub record WakeUps : Type 0 where
+  pub room : ℕ
+  pub lets : List Through
+  pub sleepers : ℕ
+
+abbrev pub wake_ups : ℕ → List Through → ℕ → WakeUps
+wake_ups room lets sleepers = record { room = room; lets = lets; sleepers = sleepers }
+
+-- The let was noted if there was room for it, and its caller may have been noted as one that sleeps.
+pub record NotesLet (old : WakeUps) (t : Through) (new : WakeUps) : Type 0 where
+  pub room : new.room ≡ old.room
+  pub lets : new.lets ≡ (if nat_lt (length old.lets) old.room then old.lets ++ t ∷ [] else old.lets)
+  pub sleepers : old.sleepers ≤ new.sleepers
+
+-- these lets were noted, one after the other
+abbrev pub NotesEach : WakeUps → List Through → WakeUps → Type 0
+NotesEach old [] new = new ≡ old
+NotesEach old (t ∷ ts) new = (mid : WakeUps) × NotesLet old t mid × NotesEach mid ts new
+
 -- what a pass carries: its book, its number, its seen prefix, the lets that were shown and the steps that were taken
--- out meanwhile, how many steps it made at each shard, and how many of each shard it took out
+-- out meanwhile, how many steps it made at each shard, how many of each shard it took out, and whom it has to wake
 pub record PassState : Type 0 where
   pub of : Opening
   pub number : ℕ
@@ -84,9 +106,18 @@ pub record PassState : Type 0 where
   pub takes : List Take
   pub counts : List ℕ
   pub taken : List ℕ
+  pub wakes : WakeUps
 
-abbrev pub pass_state : ℕ → FrontState → List ℕ → List ℕ → PassState
-pass_state number sight counts taken = record { of = sight.of; number = number; seen = sight.seen; shown = sight.shown; takes = sight.takes; counts = counts; taken = taken }
+abbrev pub pass_state : ℕ → FrontState → List ℕ → List ℕ → WakeUps → PassState
+pass_state number sight counts taken wakes = record { of = sight.of; number = number; seen = sight.seen; shown = sight.shown; takes = sight.takes; counts = counts; taken = taken; wakes = wakes }
+
+-- the pass when nobody is left to be woken
+abbrev pub awoken : PassState → PassState
+awoken p = record p { wakes = wake_ups p.wakes.room [] 0 }
+
+-- The pass has nobody to wake.
+abbrev pub OwesNoWakeUp : PassState → Type 0
+OwesNoWakeUp p = (p.wakes.lets ≡ []) × (p.wakes.sleepers ≡ 0)
 
 -- The pass is one of the book's. It has seen at least as many steps of each shard as it made there, and at least as many
 -- steps taken out as it took.
@@ -122,12 +153,35 @@ AppendsStep pass front shard entry new =
     (h : List Event) × IsPrefix pass h × IsPrefix front h × (part shard h ≡ part shard front)
     × (new ≡ h ++ Step shard entry ∷ [])
 
+-- The pass and the front have seen the same log of the same book.
+pub record IsSight (pass : PassState) (front : FrontState) : Type 0 where
+  pub of : front.of ≡ pass.of
+  pub seen : front.seen ≡ pass.seen
+  pub shown : front.shown ≡ pass.shown
+  pub takes : front.takes ≡ pass.takes
+
+-- The pass made a step: it was appended to a history that extends what the pass and the front had seen, and in which the
+-- shard's steps are those that the front had seen. Afterwards both have seen the same.
+pub record Commits (pass : PassState) (front : FrontState) (shard : ℕ) (entry : Entry) (pass' : PassState) (front' : FrontState) : Type 0 where
+  pub same : IsSight pass' front'
+  pub front_grows : FrontGrows front front'
+  pub step : AppendsStep pass.seen front.seen shard entry pass'.seen
+  pub stored : part shard front'.seen ≡ part shard front.seen ++ entry ∷ []
+  pub shown : IsPrefix pass.shown pass'.shown
+  pub takes : IsPrefix pass.takes pass'.takes
+  pub counted : pass'.counts ≡ slice_set pass.counts shard (slice_index pass.counts shard + 1)
+  pub taken : pass'.taken ≡ pass.taken
+  pub wakes : pass'.wakes ≡ pass.wakes
+  pub of : pass'.of ≡ pass.of
+  pub number : pass'.number ≡ pass.number
+
 -- Nothing changed except the seen prefix, which only grew.
 pub record SeesMore (old new : PassState) : Type 0 where
   pub of : new.of ≡ old.of
   pub number : new.number ≡ old.number
   pub counts : new.counts ≡ old.counts
   pub taken : new.taken ≡ old.taken
+  pub wakes : new.wakes ≡ old.wakes
   pub seen : IsPrefix old.seen new.seen
   pub shown : IsPrefix old.shown new.shown
   pub takes : IsPrefix old.takes new.takes
@@ -143,7 +197,11 @@ pub record MakesNoStep (old new : PassState) : Type 0 where
 
 -- a pass that has seen nothing, made no step and taken none out
 abbrev pub fresh : Opening → ℕ → PassState
-fresh of number = record { of = of; number = number; seen = []; shown = []; takes = []; counts = replicate of.shards 0; taken = replicate of.shards 0 }
+fresh of number = record { of = of; number = number; seen = []; shown = []; takes = []; counts = replicate of.shards 0; taken = replicate of.shards 0; wakes = wake_ups 0 [] 0 }
+
+-- the pass, but for the wake-ups that it has room for or has still to make
+abbrev pub quiet : PassState → PassState
+quiet p = record p { wakes = wake_ups 0 [] 0 }
 
 -- the passes of a new book, numbered from 1
 abbrev pub fresh_passes : Opening → ℕ → List PassState
@@ -178,6 +236,7 @@ pub record TakesOut (old new : PassState) (shard from many : ℕ) : Type 0 where
   pub seen : IsPrefix old.seen new.seen
   pub shown : IsPrefix old.shown new.shown
   pub counts : new.counts ≡ old.counts
+  pub wakes : new.wakes ≡ old.wakes
   pub of : new.of ≡ old.of
   pub number : new.number ≡ old.number
 
@@ -187,3 +246,11 @@ abbrev pub AreGone : Keeping → PassState → ℕ → ℕ → Type 0
 AreGone Whole p shard n = n ≡ 0
 AreGone Streamed p shard n = n ≡ taken_of shard p.takes
 AreGone Unrecorded p shard n = n ≡ length (part shard p.seen)
+
+-- They are the passes of a new book, whether or not they have room to note lets for a waker.
+abbrev pub AreFresh : Opening → ℕ → List PassState → Type 0
+AreFresh of n ps = map quiet ps ≡ map quiet (fresh_passes of n)
+
+-- Each of them has room to note this many lets of one step, and has nobody to wake.
+abbrev pub AreNoting : ℕ → List PassState → Type 0
+AreNoting room ps = All (λ p. (room ≤ p.wakes.room) × OwesNoWakeUp p) ps

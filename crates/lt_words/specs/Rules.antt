@@ -1,5 +1,5 @@
 -- The log of a book, the rule that ties the book's words to it, and what each access of a word tells its caller.
-use Rattle.std.specs.Prelude.{ℕ, ◌≡◌, ◌+◌, ◌-◌, ◌==◌, ◌<◌, ◌≤◌, true, List, [], ◌∷◌, ◌++◌, length, MatchBool}
+use Rattle.std.specs.Prelude.{ℕ, ◌≡◌, ◌≢◌, ◌+◌, ◌-◌, ◌==◌, ◌<◌, ◌≤◌, true, List, [], ◌∷◌, ◌++◌, length, MatchBool}
 use mathlib.Core.List.{IsPrefix}
 use Rattle.logbook.specs.Pages.{Cell, cell, Step as Turn, View, Book, Named}
 use Rattle.lt_ids.specs.declared.ticket.Through.{Through}
@@ -126,8 +126,9 @@ Adds counted s v found w =
     ((h : List Event) × IsPrefix (history_of v.0) h × (counted h ≡ s.old) × (history_of w.0 ≡ h ++ events_of (s.ask ∷ [])))
     (IsPrefix (history_of v.0) (history_of w.0))
 
+-- An exchange of the number word that found another number saw a log with another number of draws.
 abbrev pub DrawGives : Turn Logged → View Logged ℕ → ℕ → View Logged ℕ → Type 0
-DrawGives s v found w = Adds draws_of s v found w
+DrawGives s v found w = Adds draws_of s v found w × MatchBool (found == s.old) (Unit {0}) (draws_of (history_of w.0) ≢ s.old)
 
 -- the shard of the step that an exchange asks to append
 abbrev pub shard_first : List Event → ℕ
@@ -147,9 +148,10 @@ CommitGives s v found w = Adds (λ h. length (part (asked_shard s.ask) h)) s v f
 abbrev pub ExactGives : Turn Logged → View Logged ℕ → ℕ → View Logged ℕ → Type 0
 ExactGives s v found w = IsOpenLog w.0 × MatchBool (found == s.old) (length (part (s.key - 1) (history_of w.0)) ≡ s.old) (Unit {0})
 
--- An exchange of a status word: if the word was as expected, the let is shown in the log then seen.
+-- An exchange of a status word: if the word was as expected, the let is shown in the log then seen. Otherwise the word
+-- is another one there.
 abbrev pub SignalGives : Turn Logged → View Logged ℕ → ℕ → View Logged ℕ → Type 0
-SignalGives s v found w = IsOpenLog w.0 × MatchBool (found == s.old) (AreShown (shown_of w.0) (shown_of (s.ask ∷ []))) (Unit {0})
+SignalGives s v found w = IsOpenLog w.0 × MatchBool (found == s.old) (AreShown (shown_of w.0) (shown_of (s.ask ∷ []))) (word_of (s.key - 128) (shown_of w.0) ≢ s.old)
 
 -- An exchange of a take word from n to n + k: if the word was as expected, the take was appended to a log in which n
 -- steps of the shard had been taken out.

@@ -4,11 +4,11 @@
 //! Each call states its contract over the caller's pass and, for a step, over the shard's front. Read next
 //! `src/front.rt`, which makes the atomic accesses; `specs/Row.antt`, which says what a pass and a front carry; and
 //! `src/parking.rt`, where callers sleep.
-ghost use Rattle.std.specs.Prelude.{◌≡◌, ◌+◌, ◌<◌, ◌≤◌, ◌^◌, ◌∷◌, ◌++◌, [], length, slice_index, slice_set, IfSome, IfNone, IfOk};
+ghost use Rattle.std.specs.Prelude.{◌≡◌, ◌+◌, ◌<◌, ◌≤◌, ◌^◌, ◌∷◌, ◌++◌, [], length, IfSome, IfNone, IfOk, IsTrue, IsFalse};
 ghost use mathlib.Core.List.{IsPrefix};
 ghost use Rattle.lt_words.specs.History.{part, draws_of, shard_of, DrewIn, LetIn, MayFollow, IsStatus};
 ghost use Rattle.lt_words.specs.Shown.{word_of, IsShown};
-ghost use Rattle.lt_words.specs.Row.{AreSizes, AppendsStep, IsNextDraw, SeesMore, TakesOut, fresh_passes};
+ghost use Rattle.lt_words.specs.Row.{AreSizes, FrontGrows, IsNextDraw, IsSight, SeesMore, NotesLet, TakesOut, Commits, awoken, fresh_passes};
 ghost use Rattle.lt_words.specs.Takes.{taken_of};
 
 use crate::cache_line::CacheLine;
@@ -19,7 +19,7 @@ use crate::keeping::Keeping;
 use crate::law::{BookRule, Opens, Sizes};
 use crate::parking::{Announced, LookedAgain};
 use crate::pass::{Pass, abandon_all};
-use crate::waker::Waker;
+use crate::waker::{OwedLet, Waker};
 use logbook::{Seen, Start, Word};
 use lt_entry::Entry;
 use lt_ids::{Through, Ticket};
@@ -157,15 +157,15 @@ impl Book {
     }
 
     /// Draws the next number for the pass. The number is 1 to `max`, and no other draw gives it. `None` means that
-    /// `max` numbers were drawn before. Retries until its exchange succeeds.
-    pub fn draw<R: Wait>(&self, rt: &R, pass: &mut Pass, max: u64) -> Option<u64>
+    /// `max` numbers were drawn before. Never blocks.
+    pub fn draw(&self, pass: &mut Pass, max: u64) -> Option<u64>
         requires { self.now ≡ pass.old.of }
         ensures some { IfSome result (λ n. IsNextDraw pass.old.seen pass.old.number max n pass.new.seen) }
         ensures drew { IfSome result (λ n. DrewIn pass.new.seen pass.old.number n) }
         ensures none { IfNone result (max ≤ draws_of pass.new.seen) }
         ensures more { SeesMore pass.old pass.new }
     {
-        pass.seen.draw(rt, self, pass.number, max)
+        pass.seen.draw(self, pass.number, max)
     }
 
     /// The number of draws in the history that the pass has then seen. Never blocks.
@@ -198,19 +198,7 @@ impl Book {
         requires own { entry.now.pass ≡ pass.old.number }
         requires home { shard ≡ shard_of entry.now.key self.now.shards }
         requires next { MayFollow (part shard front.old.seen) entry.now }
-        ensures of { (pass.new.of ≡ self.now) × (front.new.of ≡ self.now) }
-        ensures one { front.new.seen ≡ pass.new.seen }
-        ensures both { front.new.shown ≡ pass.new.shown }
-        ensures both_takes { front.new.takes ≡ pass.new.takes }
-        ensures step { AppendsStep pass.old.seen front.old.seen shard entry.now pass.new.seen }
-        ensures pass_shown { IsPrefix pass.old.shown pass.new.shown }
-        ensures front_shown { IsPrefix front.old.shown front.new.shown }
-        ensures pass_takes { IsPrefix pass.old.takes pass.new.takes }
-        ensures front_takes { IsPrefix front.old.takes front.new.takes }
-        ensures stored { part shard front.new.seen ≡ part shard front.old.seen ++ entry.now ∷ [] }
-        ensures counted { pass.new.counts ≡ slice_set pass.old.counts shard (slice_index pass.old.counts shard + 1) }
-        ensures taken { pass.new.taken ≡ pass.old.taken }
-        ensures number { pass.new.number ≡ pass.old.number }
+        ensures commits { Commits pass.old front.old shard entry.now pass.new front.new }
         // The word had room to count one more step.
         ensures room { count + 1 < 2 ^ 64 }
     {
@@ -233,29 +221,49 @@ impl Book {
         requires own { entry.now.pass ≡ pass.old.number }
         requires home { shard ≡ shard_of entry.now.key self.now.shards }
         requires next { MayFollow (part shard front.old.seen) entry.now }
-        ensures of { (pass.new.of ≡ self.now) × (front.new.of ≡ self.now) }
-        ensures one { front.new.seen ≡ pass.new.seen }
-        ensures both { front.new.shown ≡ pass.new.shown }
-        ensures both_takes { front.new.takes ≡ pass.new.takes }
-        ensures step { AppendsStep pass.old.seen front.old.seen shard entry.now pass.new.seen }
-        ensures pass_shown { IsPrefix pass.old.shown pass.new.shown }
-        ensures front_shown { IsPrefix front.old.shown front.new.shown }
-        ensures pass_takes { IsPrefix pass.old.takes pass.new.takes }
-        ensures front_takes { IsPrefix front.old.takes front.new.takes }
-        ensures stored { part shard front.new.seen ≡ part shard front.old.seen ++ entry.now ∷ [] }
-        ensures counted { pass.new.counts ≡ slice_set pass.old.counts shard (slice_index pass.old.counts shard + 1) }
-        ensures taken { pass.new.taken ≡ pass.old.taken }
-        ensures number { pass.new.number ≡ pass.old.number }
+        ensures commits { Commits pass.old front.old shard entry.now pass.new front.new }
         // The word had room to count one more step.
         ensures room { count + 1 < 2 ^ 64 }
     {
+        for _ in rt.forever() {
+            if self.commit_once(pass, front, shard, count, entry) {
+                return;
+            }
+        }
+        unreachable!()
+    }
+
+    /// [`Book::commit_parts`], tried once. Says whether it succeeded. If not, the shard's word is not `count` and never
+    /// will be again, and the pass and the front are as they were.
+    pub fn commit_once(
+        &self,
+        pass: &mut Pass,
+        front: &mut Front,
+        shard: usize,
+        count: u64,
+        entry: &EntryParts,
+    ) -> bool
+        requires pass_of { self.now ≡ pass.old.of }
+        requires front_of { self.now ≡ front.old.of }
+        requires count { length (part shard front.old.seen) ≡ count }
+        requires own { entry.now.pass ≡ pass.old.number }
+        requires home { shard ≡ shard_of entry.now.key self.now.shards }
+        requires next { MayFollow (part shard front.old.seen) entry.now }
+        ensures commits { IsTrue result → Commits pass.old front.old shard entry.now pass.new front.new }
+        ensures room { IsTrue result → count + 1 < 2 ^ 64 }
+        ensures lost { IsFalse result → (pass.new ≡ pass.old) × (front.new ≡ front.old) }
+    {
         // Ghost read: tells the prover the book's invariant.
         let _ = &self.lines;
-        pass.seen.learn(front);
-        pass.seen.commit(rt, self, front, shard, count, entry);
-        *front = pass.seen.again();
+        let mut ahead = pass.seen.joined(front);
+        if !ahead.try_commit(self, front, shard, count, entry) {
+            return false;
+        }
+        *front = ahead.again();
+        pass.seen = ahead;
         let counts = &mut pass.rest.counts;
         counts[shard] += 1;
+        true
     }
 
     /// Lets the pass and the front see one history that has exactly `count` steps of the shard. Retries until its
@@ -272,20 +280,38 @@ impl Book {
         requires front_of { self.now ≡ front.old.of }
         requires shard { shard < self.now.shards }
         ensures more { SeesMore pass.old pass.new }
-        ensures of { front.new.of ≡ self.now }
-        ensures one { front.new.seen ≡ pass.new.seen }
-        ensures both { front.new.shown ≡ pass.new.shown }
-        ensures seen { IsPrefix front.old.seen front.new.seen }
-        ensures shown { IsPrefix front.old.shown front.new.shown }
-        ensures takes { IsPrefix front.old.takes front.new.takes }
-        ensures both_takes { front.new.takes ≡ pass.new.takes }
+        ensures front { FrontGrows front.old front.new }
+        ensures same { IsSight pass.new front.new }
         ensures exact { length (part shard front.new.seen) ≡ count }
+    {
+        for _ in rt.forever() {
+            if self.exact_once(pass, front, shard, count) {
+                return;
+            }
+        }
+        unreachable!()
+    }
+
+    /// [`Book::exact`], tried once. Says whether it succeeded. If not, the pass and the front are as they were.
+    pub fn exact_once(&self, pass: &mut Pass, front: &mut Front, shard: usize, count: u64) -> bool
+        requires pass_of { self.now ≡ pass.old.of }
+        requires front_of { self.now ≡ front.old.of }
+        requires shard { shard < self.now.shards }
+        ensures more { SeesMore pass.old pass.new }
+        ensures front { FrontGrows front.old front.new }
+        ensures same { IsTrue result → IsSight pass.new front.new }
+        ensures exact { IsTrue result → length (part shard front.new.seen) ≡ count }
+        ensures lost { IsFalse result → (pass.new ≡ pass.old) × (front.new ≡ front.old) }
     {
         // Ghost read: tells the prover the book's invariant.
         let _ = &self.lines;
-        pass.seen.learn(front);
-        pass.seen.exact(rt, self, shard, count);
-        *front = pass.seen.again();
+        let mut ahead = pass.seen.joined(front);
+        if !ahead.try_exact(self, shard, count) {
+            return false;
+        }
+        *front = ahead.again();
+        pass.seen = ahead;
+        true
     }
 
     /// Notes in the log that the pass takes `many` stored steps out of a shard. The shard's take word goes from `from`
@@ -305,27 +331,54 @@ impl Book {
         requires shard { shard < self.now.shards }
         requires room { from + many < 2 ^ 64 }
         ensures took { TakesOut pass.old pass.new shard from many }
-        ensures of { front.new.of ≡ self.now }
-        ensures one { front.new.seen ≡ pass.new.seen }
-        ensures both { front.new.shown ≡ pass.new.shown }
-        ensures both_takes { front.new.takes ≡ pass.new.takes }
-        ensures seen { IsPrefix front.old.seen front.new.seen }
-        ensures shown { IsPrefix front.old.shown front.new.shown }
-        ensures takes { IsPrefix front.old.takes front.new.takes }
+        ensures front { FrontGrows front.old front.new }
+        ensures same { IsSight pass.new front.new }
         ensures exact { taken_of shard front.new.takes ≡ from + many }
+    {
+        for _ in rt.forever() {
+            if self.take_once(pass, front, shard, from, many) {
+                return;
+            }
+        }
+        unreachable!()
+    }
+
+    /// [`Book::take`], tried once. Says whether it succeeded. If not, the shard's take word is not `from` and never will
+    /// be again, and the pass and the front are as they were.
+    pub fn take_once(
+        &self,
+        pass: &mut Pass,
+        front: &mut Front,
+        shard: usize,
+        from: u64,
+        many: u64,
+    ) -> bool
+        requires pass_of { self.now ≡ pass.old.of }
+        requires front_of { self.now ≡ front.old.of }
+        requires shard { shard < self.now.shards }
+        requires room { from + many < 2 ^ 64 }
+        ensures took { IsTrue result → TakesOut pass.old pass.new shard from many }
+        ensures front { FrontGrows front.old front.new }
+        ensures same { IsTrue result → IsSight pass.new front.new }
+        ensures exact { IsTrue result → taken_of shard front.new.takes ≡ from + many }
+        ensures lost { IsFalse result → (pass.new ≡ pass.old) × (front.new ≡ front.old) }
     {
         // Ghost read: tells the prover the book's invariant.
         let _ = &self.lines;
-        pass.seen.learn(front);
+        let mut ahead = pass.seen.joined(front);
         let take = Take {
             pass: pass.number,
             shard,
             many,
         };
-        pass.seen.take(rt, self, from, &take);
-        *front = pass.seen.again();
+        if !ahead.try_take(self, from, &take) {
+            return false;
+        }
+        *front = ahead.again();
+        pass.seen = ahead;
         let taken = &mut pass.rest.taken;
         taken[shard] += many;
+        true
     }
 
     /// Lets the pass and the front see one log in which exactly `count` steps of the shard were taken out. Retries
@@ -342,88 +395,105 @@ impl Book {
         requires front_of { self.now ≡ front.old.of }
         requires shard { shard < self.now.shards }
         ensures more { SeesMore pass.old pass.new }
-        ensures of { front.new.of ≡ self.now }
-        ensures one { front.new.seen ≡ pass.new.seen }
-        ensures both { front.new.shown ≡ pass.new.shown }
-        ensures both_takes { front.new.takes ≡ pass.new.takes }
-        ensures seen { IsPrefix front.old.seen front.new.seen }
-        ensures shown { IsPrefix front.old.shown front.new.shown }
-        ensures takes { IsPrefix front.old.takes front.new.takes }
+        ensures front { FrontGrows front.old front.new }
+        ensures same { IsSight pass.new front.new }
         ensures exact { taken_of shard front.new.takes ≡ count }
+    {
+        for _ in rt.forever() {
+            if self.taken_once(pass, front, shard, count) {
+                return;
+            }
+        }
+        unreachable!()
+    }
+
+    /// [`Book::taken`], tried once. Says whether it succeeded. If not, the pass and the front are as they were.
+    pub fn taken_once(&self, pass: &mut Pass, front: &mut Front, shard: usize, count: u64) -> bool
+        requires pass_of { self.now ≡ pass.old.of }
+        requires front_of { self.now ≡ front.old.of }
+        requires shard { shard < self.now.shards }
+        ensures more { SeesMore pass.old pass.new }
+        ensures front { FrontGrows front.old front.new }
+        ensures same { IsTrue result → IsSight pass.new front.new }
+        ensures exact { IsTrue result → taken_of shard front.new.takes ≡ count }
+        ensures lost { IsFalse result → (pass.new ≡ pass.old) × (front.new ≡ front.old) }
     {
         // Ghost read: tells the prover the book's invariant.
         let _ = &self.lines;
-        pass.seen.learn(front);
-        pass.seen.taken(rt, self, shard, count);
-        *front = pass.seen.again();
+        let mut ahead = pass.seen.joined(front);
+        if !ahead.try_taken(self, shard, count) {
+            return false;
+        }
+        *front = ahead.again();
+        pass.seen = ahead;
+        true
     }
 
     /// Shows a let, which `pass` has seen, to the pass that waits. Afterwards that pass's status word is at or
-    /// above the ticket. If it already is, nothing is written; otherwise the call retries until its exchange
-    /// succeeds. So the status word of a pass never falls.
+    /// above the ticket. If it already is, nothing is written. So the status word of a pass never falls. Never blocks.
     ///
     /// If the caller of the waiting pass sleeps, the next [`Book::wake`] of `pass` wakes it at the latest.
-    pub fn signal<R: Wait>(&self, rt: &R, pass: &mut Pass, to_pass: u32, ticket: Ticket)
+    pub fn signal(&self, pass: &mut Pass, to_pass: u32, ticket: Ticket)
         requires of { self.now ≡ pass.old.of }
         requires low { 0 < to_pass }
         requires high { to_pass ≤ self.now.passes }
         requires through { LetIn pass.old.seen to_pass ticket }
         ensures shown { IsShown pass.new.shown to_pass ticket }
-        ensures more { SeesMore pass.old pass.new }
+        ensures more { SeesMore (record pass.old { wakes = pass.new.wakes }) pass.new }
+        ensures noted { NotesLet pass.old.wakes (record { pass = to_pass; ticket = ticket }) pass.new.wakes }
     {
-        self.show(rt, pass, to_pass, ticket);
-        self.note(
-            pass,
-            Through {
-                pass: to_pass,
-                ticket,
-            },
-        );
+        let owed = self.show(pass, to_pass, ticket);
+        self.note_sleeper(pass, &owed);
+        pass.note(owed);
     }
 
-    fn show<R: Wait>(&self, rt: &R, pass: &mut Pass, to_pass: u32, ticket: Ticket)
+    /// Shows the let. Then its waker has still to be called, and its caller to be woken.
+    fn show(&self, pass: &mut Pass, to_pass: u32, ticket: Ticket) -> OwedLet
         requires of { self.now ≡ pass.old.of }
         requires low { 0 < to_pass }
         requires high { to_pass ≤ self.now.passes }
         requires through { LetIn pass.old.seen to_pass ticket }
         ensures shown { IsShown pass.new.shown to_pass ticket }
+        ensures owed { result ≡ record { pass = to_pass; ticket = ticket } }
         ensures more { SeesMore pass.old pass.new }
     {
-        pass.seen.signal(rt, self, to_pass, ticket);
+        pass.seen.signal(self, to_pass, ticket);
+        OwedLet::of(Through {
+            pass: to_pass,
+            ticket,
+        })
     }
 
-    /// Notes for [`Book::wake`] whom it has to wake, and the let itself if a waker is to be called for each.
-    fn note(&self, pass: &mut Pass, through: Through)
-        ensures { pass.new ≡ pass.old }
+    /// Notes for [`Book::wake`] that the caller of the let, which was shown, sleeps, if it does.
+    fn note_sleeper(&self, pass: &mut Pass, shown: &OwedLet)
+        ensures more { pass.old.wakes.sleepers ≤ pass.new.wakes.sleepers }
+        ensures same { pass.new ≡ record pass.old { wakes = record pass.old.wakes { sleepers = pass.new.wakes.sleepers } } }
     {
-        if let Some(line) = self.lines.get(through.pass as usize + 128) {
-            if line.parking.is_taken() {
-                pass.note_sleeper(through.pass);
+        let to_pass = shown.pass();
+        if let Some(line) = self.lines.get(to_pass as usize + 128) {
+            if let Some(sleeper) = line.parking.sleeper(to_pass) {
+                pass.note_sleeper(sleeper);
             }
         }
-        pass.note(through);
     }
 
     /// Wakes the sleeping callers that the pass's latest step has let through, and calls the waker for each let
     /// that was noted. Call it once no lock is held.
     pub fn wake<W: Waker>(&self, pass: &mut Pass, waker: &W)
-        ensures { pass.new ≡ pass.old }
+        ensures { pass.new ≡ awoken pass.old }
     {
         if !pass.rest.sleepers.is_empty() {
             self.wake_sleepers(pass);
         }
-        if pass.rest.noted.is_empty() {
-            return;
+        while let Some(owed) = pass.next_owed() {
+            owed.hand_to(waker);
         }
-        for through in &pass.rest.noted {
-            waker.wake(through.pass, through.ticket);
-        }
-        pass.rest.noted.clear();
     }
 
+    /// Wakes the sleeping callers alone.
     #[inline(never)]
     fn wake_sleepers(&self, pass: &mut Pass)
-        ensures { pass.new ≡ pass.old }
+        ensures { pass.new ≡ record pass.old { wakes = record pass.old.wakes { sleepers = 0 } } }
     {
         pass.rest.sleepers.take_each(|number| {
             if let Some(line) = self.lines.get(number as usize + 128) {

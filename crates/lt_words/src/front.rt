@@ -1,10 +1,9 @@
 //! How does a seen prefix grow? Here are all loads and exchanges of a book's words: each gives its caller a longer
 //! prefix of the log, in which the word had the value that was found.
 //!
-//! A function named `try_..` makes one exchange and says whether it succeeded; the function of the same name
-//! without `try_` retries. Read next `src/law.rt` and `specs/Rules.antt`, which say what each access tells its
+//! A function named `try_..` makes one exchange and says whether it succeeded. Read next `src/law.rt` and `specs/Rules.antt`, which say what each access tells its
 //! caller.
-ghost use Rattle.std.specs.Prelude.{◌≡◌, ◌+◌, ◌<◌, ◌≤◌, ◌^◌, ◌∷◌, ◌++◌, List, [], length, MatchBool, IfSome, IfNone, IsTrue};
+ghost use Rattle.std.specs.Prelude.{◌≡◌, ◌≢◌, ◌+◌, ◌<◌, ◌≤◌, ◌^◌, ◌∷◌, ◌++◌, List, [], length, MatchBool, IfSome, IfNone, IsTrue};
 ghost use mathlib.Core.List.{IsPrefix};
 ghost use Rattle.lt_ids.specs.Ids.{Wait, value_of};
 ghost use Rattle.lt_words.specs.declared.event.Event.{Event};
@@ -14,7 +13,7 @@ ghost use Rattle.lt_words.specs.Shown.{word_of, IsShown, AreLet};
 ghost use Rattle.lt_words.specs.Takes.{taken_of, AppendsTake};
 ghost use Rattle.lt_words.specs.declared.event.Take.{Take};
 ghost use Rattle.lt_words.specs.Rules.{IsOpenLog, history_of};
-ghost use Rattle.lt_words.specs.Row.{Appends, AppendsIf, FrontGrows, HasSteps, IsNextDraw, front_state};
+ghost use Rattle.lt_words.specs.Row.{AppendsIf, FrontGrows, HasSteps, IsNextDraw, front_state};
 
 use crate::book::Book;
 use crate::entry_parts::EntryParts;
@@ -27,7 +26,6 @@ use logbook::{Offer, Seen};
 use lt_ids::{Through, Ticket};
 use std::marker::Model;
 use std::snapshot::Snapshot;
-use std::sync::Wait;
 
 /// A prefix of a book's log that was seen. Contracts see the book, the table history in it, the lets that were shown,
 /// and the steps that were taken out.
@@ -88,6 +86,17 @@ impl Front {
         self.seen.learn(&other.seen);
     }
 
+    /// A front that has seen what both have seen.
+    pub(crate) fn joined(&self, other: &Front) -> Front
+        requires { other.now.of ≡ self.now.of }
+        ensures this { FrontGrows self.now result }
+        ensures that { FrontGrows other.now result }
+    {
+        let mut both = self.again();
+        both.learn(other);
+        both
+    }
+
     /// The number of draws in the history that the front has then seen.
     pub(crate) fn drawn(&mut self, book: &Book) -> u64
         requires { book.now ≡ self.old.of }
@@ -107,6 +116,7 @@ impl Front {
         requires room { old + 1 < 2 ^ 64 }
         ensures more { FrontGrows self.old self.new }
         ensures went { AppendsIf result self.old.seen (λ h. draws_of h ≡ old) (Draw pass (old + 1)) self.new.seen }
+        ensures other { MatchBool result (Unit {0}) (draws_of self.new.seen ≢ old) }
     {
         let number = old + 1;
         let mut offer: Offer<Logged, u64, BookRule, Nothing> = self
@@ -258,7 +268,7 @@ impl Front {
         requires below { old < value_of ticket }
         requires through { LetIn self.old.seen pass ticket }
         ensures more { FrontGrows self.old self.new }
-        ensures shown { MatchBool result (IsShown self.new.shown pass ticket) (Unit {0}) }
+        ensures shown { MatchBool result (IsShown self.new.shown pass ticket) (word_of pass self.new.shown ≢ old) }
     {
         let mut offer: Offer<Logged, u64, BookRule, Nothing> = self
             .seen
@@ -277,105 +287,28 @@ impl Front {
         found == old
     }
 
-    /// Draws the next number, up to `max`. Retries until its exchange succeeds.
+    /// Draws the next number, up to `max`. An exchange that fails found a greater number, so the loop ends.
     #[tactic(auto, using(crate::proofs::Passes::grows_on, crate::proofs::Passes::grows_self))]
-    pub(crate) fn draw<R: Wait>(&mut self, rt: &R, book: &Book, pass: u32, max: u64) -> Option<u64>
+    pub(crate) fn draw(&mut self, book: &Book, pass: u32, max: u64) -> Option<u64>
         requires of { book.now ≡ self.old.of }
         ensures more { FrontGrows self.old self.new }
         ensures some { IfSome result (λ n. IsNextDraw self.old.seen pass max n self.new.seen) }
         ensures none { IfNone result (max ≤ draws_of self.new.seen) }
     {
-        for _ in rt.forever() {
-            let old = self.drawn(book);
-            if old >= max {
-                return None;
-            }
+        let mut old = self.drawn(book);
+        while old < max {
             if self.try_draw(book, pass, old) {
                 return Some(old + 1);
             }
+            old = self.drawn(book);
         }
-        unreachable!()
+        None
     }
 
-    /// Commits a step. `from` has seen `count` steps of the shard. Retries until its exchange succeeds.
+    /// Raises the status word of a pass to a ticket that was let through, unless it is already at or above it. An
+    /// exchange that fails found a greater word, so the loop ends.
     #[tactic(auto, using(crate::proofs::Passes::grows_on, crate::proofs::Passes::grows_self))]
-    pub(crate) fn commit<R: Wait>(
-        &mut self,
-        rt: &R,
-        book: &Book,
-        from: &Front,
-        shard: usize,
-        count: u64,
-        entry: &EntryParts,
-    )
-        requires of { book.now ≡ self.old.of }
-        requires begins { IsPrefix from.now.seen self.old.seen }
-        requires count { length (part shard from.now.seen) ≡ count }
-        requires home { shard ≡ shard_of entry.now.key self.old.of.shards }
-        requires next { MayFollow (part shard from.now.seen) entry.now }
-        ensures more { FrontGrows self.old self.new }
-        ensures step { Appends self.old.seen (HasSteps shard count) (Step shard entry.now) self.new.seen }
-        ensures room { count + 1 < 2 ^ 64 }
-    {
-        for _ in rt.forever() {
-            if self.try_commit(book, from, shard, count, entry) {
-                break;
-            }
-        }
-    }
-
-    /// Sees a history that has exactly `count` steps of the shard. Retries until its exchange succeeds.
-    #[tactic(auto, using(crate::proofs::Passes::grows_on, crate::proofs::Passes::grows_self))]
-    pub(crate) fn exact<R: Wait>(&mut self, rt: &R, book: &Book, shard: usize, count: u64)
-        requires of { book.now ≡ self.old.of }
-        requires shard { shard < 64 }
-        ensures more { FrontGrows self.old self.new }
-        ensures met { length (part shard self.new.seen) ≡ count }
-    {
-        for _ in rt.forever() {
-            if self.try_exact(book, shard, count) {
-                break;
-            }
-        }
-    }
-
-    /// Notes a take in the log. Before it, `from` steps of its shard had been taken out. Retries until its exchange
-    /// succeeds.
-    #[tactic(auto, using(crate::proofs::Passes::grows_on, crate::proofs::Passes::grows_self))]
-    pub(crate) fn take<R: Wait>(&mut self, rt: &R, book: &Book, from: u64, take: &Take)
-        requires of { book.now ≡ self.old.of }
-        requires shard { take.now.shard < 64 }
-        requires room { from + take.now.many < 2 ^ 64 }
-        ensures more { FrontGrows self.old self.new }
-        ensures took { AppendsTake self.old.takes from take.now self.new.takes }
-        ensures exact { taken_of take.now.shard self.new.takes ≡ from + take.now.many }
-    {
-        for _ in rt.forever() {
-            if self.try_take(book, from, take) {
-                break;
-            }
-        }
-    }
-
-    /// Sees a log in which exactly `count` steps of the shard were taken out. Retries until its exchange succeeds.
-    #[tactic(auto, using(crate::proofs::Passes::grows_on, crate::proofs::Passes::grows_self))]
-    pub(crate) fn taken<R: Wait>(&mut self, rt: &R, book: &Book, shard: usize, count: u64)
-        requires of { book.now ≡ self.old.of }
-        requires shard { shard < 64 }
-        ensures more { FrontGrows self.old self.new }
-        ensures exact { taken_of shard self.new.takes ≡ count }
-    {
-        for _ in rt.forever() {
-            if self.try_taken(book, shard, count) {
-                break;
-            }
-        }
-    }
-
-    /// Raises the status word of a pass to a ticket that was let through, unless it is already at or above it.
-    /// Retries until its exchange succeeds.
-    #[tactic(auto, using(crate::proofs::Passes::grows_on, crate::proofs::Passes::grows_self))]
-    pub(crate) fn signal<R: Wait>(&mut self, rt: &R, book: &Book, pass: u32, ticket: Ticket)
+    pub(crate) fn signal(&mut self, book: &Book, pass: u32, ticket: Ticket)
         requires of { book.now ≡ self.old.of }
         requires low { 0 < pass }
         requires high { pass ≤ self.old.of.passes }
@@ -383,14 +316,12 @@ impl Front {
         ensures more { FrontGrows self.old self.new }
         ensures shown { IsShown self.new.shown pass ticket }
     {
-        for _ in rt.forever() {
-            let old = self.read(book, pass);
-            if old >= ticket.value() {
-                break;
-            }
+        let mut old = self.read(book, pass);
+        while old < ticket.value() {
             if self.try_signal(book, pass, old, ticket) {
-                break;
+                return;
             }
+            old = self.read(book, pass);
         }
     }
 }

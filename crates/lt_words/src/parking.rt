@@ -1,4 +1,6 @@
 //! Where a caller sleeps until it is let through or interrupted, and why no wake-up is lost.
+ghost use Rattle.std.specs.Prelude.{◌≡◌, IfSome};
+
 use std::sync::Wait;
 use std::sync::atomic::{AtomicU64, Ordering};
 use std::time::Duration;
@@ -35,6 +37,21 @@ pub struct Announced {
 /// Such a value cannot be dropped.
 pub struct LookedAgain {
     _looked: (),
+}
+
+/// A caller was found asleep, or about to sleep. Somebody has to wake it. Such a value cannot be dropped.
+pub(crate) struct Sleeper {
+    pass: u32,
+}
+
+impl Sleeper {
+    /// The number of its pass.
+    pub fn into_pass(self) -> u32
+        ensures { result ≡ self.pass }
+    {
+        let Sleeper { pass } = self;
+        pass
+    }
 }
 
 impl Announced {
@@ -88,9 +105,15 @@ impl Parking {
         self.state.park_timeout(rt, ASLEEP as u32, time);
     }
 
-    /// Whether the caller sleeps or is about to.
-    pub fn is_taken(&self) -> bool {
-        self.state.load(Ordering::SeqCst) == ASLEEP
+    /// The caller of the pass with this number, which this parking is of, if it sleeps or is about to.
+    pub fn sleeper(&self, pass: u32) -> Option<Sleeper>
+        ensures { IfSome result (λ s. s.pass ≡ pass) }
+    {
+        if self.state.load(Ordering::SeqCst) == ASLEEP {
+            Some(Sleeper { pass })
+        } else {
+            None
+        }
     }
 
     /// Wakes the caller if it sleeps or is about to.

@@ -3,16 +3,18 @@
 //!
 //! Read next `src/book.rt`, the calls that a pass makes, and `PassState` in `specs/Row.antt`, what contracts see of
 //! a pass.
-ghost use Rattle.std.specs.Prelude.{◌≡◌, ◌+◌, ◌<◌, ◌≤◌, [], length, slice_index, IfOk};
+ghost use Rattle.std.specs.Prelude.{◌≡◌, ◌+◌, ◌<◌, ◌≤◌, ◌∷◌, ◌++◌, [], length, slice_index, IfOk, IfSome, IfNone, OnOk, OnErr};
 ghost use mathlib.Core.List.{IsPrefix};
 ghost use Rattle.lt_words.specs.History.{part, IsLegalHistory};
 ghost use Rattle.lt_words.specs.Shown.{AreLet};
 ghost use Rattle.lt_words.specs.Takes.{taken_of};
-ghost use Rattle.lt_words.specs.Row.{SeesMore, fresh};
+ghost use Rattle.lt_words.specs.Row.{SeesMore, NotesLet, fresh};
 
 use crate::front::Front;
+use crate::parking::Sleeper;
 use crate::sleepers::Sleepers;
-use lt_ids::{Access, Key, Through};
+use crate::waker::OwedLet;
+use lt_ids::{Access, Key};
 use std::alloc::{AllocError, Global};
 use std::marker::Model;
 use std::mem;
@@ -29,7 +31,6 @@ pub struct Pass {
 
 /// What a pass has besides its number and its seen prefix. It is allocated with the book, so that a pass is small: a
 /// request's guard moves its pass several times.
-#[derive(Drop)]
 pub(crate) struct PassRest {
     /// How many steps the pass made at each shard.
     pub counts: Vec<u64>,
@@ -37,22 +38,40 @@ pub(crate) struct PassRest {
     pub taken: Vec<u64>,
     /// The passes whose callers `Book::wake` wakes once no lock is held.
     pub sleepers: Sleepers,
-    /// The lets of the pass's latest step, if a waker is to be called for each of them.
-    pub noted: Vec<Through>,
-    /// Whether a waker is to be called for each let.
-    pub notes_each: bool,
+    /// The lets of the pass's latest step, as far as there is room. There is none, unless a waker is to be called for each.
+    pub noted: Vec<OwedLet>,
     /// The key list of the latest request, emptied: room for that of the next one.
     pub list: Vec<(Key, Access)>,
 }
 
+impl PassRest {
+    /// Gives it up, with the lets for which no waker was called.
+    fn end(self) {
+        let PassRest {
+            counts: _,
+            taken: _,
+            sleepers: _,
+            mut noted,
+            list: _,
+        } = self;
+        while let Some(owed) = noted.pop() {
+            owed.end();
+        }
+        noted.destroy_empty();
+    }
+}
+
 impl Model for Pass {
-    ghost use Rattle.lt_words.specs.Row.{PassState, IsPass, pass_state};
+    ghost use Rattle.std.specs.Prelude.{vec_capacity};
+    ghost use Rattle.lt_words.specs.Row.{PassState, IsPass, pass_state, wake_ups};
 
     ghost Value = { PassState };
 
-    ghost view = { λ p. pass_state p.number p.seen p.rest.value.counts.items p.rest.value.taken.items };
+    ghost view = { λ p. pass_state p.number p.seen p.rest.value.counts.items p.rest.value.taken.items
+        (wake_ups (vec_capacity p.rest.value.noted) p.rest.value.noted.items p.rest.value.sleepers.many) };
 
-    ghost invariant = { λ p. IsPass (pass_state p.number p.seen p.rest.value.counts.items p.rest.value.taken.items) };
+    ghost invariant = { λ p. IsPass (pass_state p.number p.seen p.rest.value.counts.items p.rest.value.taken.items
+        (wake_ups (vec_capacity p.rest.value.noted) p.rest.value.noted.items p.rest.value.sleepers.many)) };
 }
 
 impl Pass {
@@ -71,22 +90,26 @@ impl Pass {
         requires few { start.now.of.passes ≤ 1024 }
         ensures { IfOk result (λ p. p ≡ fresh start.now.of (index + 1)) }
     {
+        let counts = vec![in alloc; 0; shards]?;
+        let taken = vec![in alloc; 0; shards]?;
         let rest = PassRest {
-            counts: vec![in alloc; 0; shards]?,
-            taken: vec![in alloc; 0; shards]?,
+            counts,
+            taken,
             sleepers: Sleepers::none(),
             noted: Vec::new(alloc),
-            notes_each: false,
             list: Vec::new(alloc),
         };
-        let Ok(rest) = Box::new(alloc, rest) else {
-            return Err(AllocError);
-        };
-        Ok(Pass {
-            number: index as u32 + 1,
-            seen: start.again(),
-            rest,
-        })
+        match Box::new(alloc, rest) {
+            Ok(rest) => Ok(Pass {
+                number: index as u32 + 1,
+                seen: start.again(),
+                rest,
+            }),
+            Err(failed) => {
+                failed.value.end();
+                Err(AllocError)
+            }
+        }
     }
 
     /// The pass's number: 1 to the number of the book's passes, which is at most 1024.
@@ -145,11 +168,11 @@ impl Pass {
     /// lets of one step. As many as there are passes are enough: a pass has one request, which is queued at a key
     /// at most once.
     pub fn note_each_let(&mut self, room: usize) -> Result<(), AllocError>
-        ensures same { self.new ≡ self.old }
+        ensures room { OnOk result (length self.old.wakes.lets + room ≤ self.new.wakes.room) }
+        ensures same { self.new ≡ record self.old { wakes = record self.old.wakes { room = self.new.wakes.room } } }
+        ensures err { OnErr result (self.new ≡ self.old) }
     {
-        self.rest.noted.reserve(room)?;
-        self.rest.notes_each = true;
-        Ok(())
+        self.rest.noted.reserve(room)
     }
 
     /// Takes out the room for the key list of a request: an empty list. It has the room of the list that was put back
@@ -171,21 +194,34 @@ impl Pass {
         self.rest.list = list;
     }
 
-    /// Notes that the caller of the pass with this number sleeps, and has to be woken.
-    pub(crate) fn note_sleeper(&mut self, pass: u32)
-        ensures { self.new ≡ self.old }
+    /// Notes that this caller has to be woken.
+    pub(crate) fn note_sleeper(&mut self, sleeper: Sleeper)
+        ensures more { self.old.wakes.sleepers ≤ self.new.wakes.sleepers }
+        ensures same { self.new ≡ record self.old { wakes = record self.old.wakes { sleepers = self.new.wakes.sleepers } } }
     {
-        self.rest.sleepers.add(pass);
+        self.rest.sleepers.add(sleeper);
     }
 
-    /// Notes a let for the waker, if one is to be called for each let. There is room for it, by `note_each_let`.
-    pub(crate) fn note(&mut self, through: Through)
-        ensures { self.new ≡ self.old }
+    /// Notes a let for the waker, if there is room. There is none if no waker is to be called.
+    pub(crate) fn note(&mut self, owed: OwedLet)
+        ensures noted { NotesLet self.old.wakes owed self.new.wakes }
+        ensures same { self.new ≡ record self.old { wakes = self.new.wakes } }
     {
         let rest = &mut self.rest;
-        if rest.notes_each && rest.noted.len() < rest.noted.capacity() {
-            rest.noted.push_reserved(through);
+        if rest.noted.len() < rest.noted.capacity() {
+            rest.noted.push_reserved(owed);
+        } else {
+            owed.end();
         }
+    }
+
+    /// Takes a let out that was noted for the waker.
+    pub(crate) fn next_owed(&mut self) -> Option<OwedLet>
+        ensures some { IfSome result (λ o. self.old.wakes.lets ≡ self.new.wakes.lets ++ o ∷ []) }
+        ensures none { IfNone result ((self.old.wakes.lets ≡ []) × (self.new ≡ self.old)) }
+        ensures same { self.new ≡ record self.old { wakes = record self.old.wakes { lets = self.new.wakes.lets } } }
+    {
+        self.rest.noted.pop()
     }
 
     /// Ghost call: tells the prover that what the pass has seen is legal, and that each let that was shown had been
@@ -203,8 +239,10 @@ impl Pass {
         let Pass {
             number: _,
             seen: _,
-            rest: _,
+            rest,
         } = self;
+        let rest = Box::into_inner(rest);
+        rest.end();
     }
 }
 

@@ -1,4 +1,7 @@
-use lt_ids::Ticket;
+ghost use Rattle.std.specs.Prelude.{◌≡◌};
+
+use lt_ids::{Through, Ticket};
+use std::marker::Model;
 
 /// Called for each let, for stores whose callers do not sleep: an executor or an event loop that serves many
 /// requests with few threads. The code that opens a table passes in its waker; `()` is the waker that does nothing.
@@ -17,4 +20,45 @@ pub trait Waker {
 
 impl Waker for () {
     fn wake(&self, _pass: u32, _ticket: Ticket) {}
+}
+
+/// A let that was shown, and for which the waker is still to be called. Such a value cannot be dropped: it is handed to the
+/// waker, or its pass calls none.
+pub(crate) struct OwedLet {
+    through: Through,
+}
+
+impl Model for OwedLet {
+    ghost use Rattle.lt_ids.specs.declared.ticket.Through.{Through};
+
+    ghost Value = { Through };
+
+    ghost view = { λ o. o.through };
+}
+
+impl OwedLet {
+    /// For a let that was shown to the pass that waits.
+    pub fn of(through: Through) -> OwedLet
+        ensures { result ≡ through }
+    {
+        OwedLet { through }
+    }
+
+    /// The number of the pass that waits.
+    pub fn pass(&self) -> u32
+        ensures { result ≡ self.now.pass }
+    {
+        self.through.pass
+    }
+
+    /// Calls the waker.
+    pub fn hand_to<W: Waker>(self, waker: &W) {
+        let OwedLet { through } = self;
+        waker.wake(through.pass, through.ticket);
+    }
+
+    /// Its pass is given up, or calls no waker.
+    pub fn end(self) {
+        let OwedLet { through: _ } = self;
+    }
 }

@@ -77,7 +77,7 @@ fn work<R: Wait>(
     let txn = TxnId::new(8)?;
     let mut numbers = Vec::new(alloc);
     for _ in 0..draws {
-        let number = book.draw(rt, &mut seat.pass, 1 << 40)?;
+        let number = book.draw(&mut seat.pass, 1 << 40)?;
         numbers.push(number).ok()?;
     }
     for k in 0..16 {

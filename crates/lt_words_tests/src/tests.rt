@@ -59,9 +59,9 @@ fn no_number_past_the_limit_is_drawn(rt: HostRuntime) -> Result<(), Fail> {
     let pass = passes.pop();
     abandon_all(passes);
     let mut seat = DropPass::of(pass).ok_or("pass 1")?;
-    assert_eq!(rt; book.draw(&rt, &mut seat.pass, 1), Some(1));
-    assert_eq!(rt; book.draw(&rt, &mut seat.pass, 1), None);
-    assert_eq!(rt; book.draw(&rt, &mut seat.pass, 1), None);
+    assert_eq!(rt; book.draw(&mut seat.pass, 1), Some(1));
+    assert_eq!(rt; book.draw(&mut seat.pass, 1), None);
+    assert_eq!(rt; book.draw(&mut seat.pass, 1), None);
     Ok(())
 }
 

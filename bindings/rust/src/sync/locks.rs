@@ -175,7 +175,7 @@ impl Locks {
     }
 
     /// The record of a key: who holds its lock, for whom it is reserved, and who waits. It takes time in proportion to
-    /// the square of the key's queues, under the mutex of the key's shard.
+    /// the key's queues, under the mutex of the key's shard.
     ///
     /// # Errors
     ///
@@ -185,8 +185,8 @@ impl Locks {
         self.at(&key, |shard| shard.key_state(&key))
     }
 
-    /// The keys that have a record, shard after shard: they are held, reserved or waited for. It takes time in proportion
-    /// to the square of a shard's keys, under the mutex of that shard.
+    /// The keys that have a record, shard after shard, in the order of their bytes in each: they are held, reserved or
+    /// waited for. It sorts the keys of a shard under the mutex of that shard.
     ///
     /// # Errors
     ///

@@ -74,7 +74,7 @@ fn come<N: Name, T: KeyTable, R: Wait>(
     number: u64,
 ) -> Option<Caller<N>> {
     let Caller { seat, txn } = caller;
-    let mut guard = enter(rt, alloc, table, seat, (&post.key, Access::Write), txn)?;
+    let mut guard = enter(alloc, table, seat, (&post.key, Access::Write), txn)?;
     let is_through = wait_at(rt, table, &mut guard, post, number);
     let is_taken = table
         .acquire_in(rt, &mut guard, &post.key, txn, TIME)

@@ -66,8 +66,7 @@ impl<N: Name> LentSeat<N> {
 }
 
 /// A request enters to write the key. If it is refused, the pass goes back into the seat.
-fn enter<N: Name, T: KeyTable, R: Wait>(
-    rt: &R,
+fn enter<N: Name, T: KeyTable>(
     alloc: Global,
     table: &Table<N, T>,
     seat: &mut LentSeat<N>,
@@ -79,7 +78,7 @@ fn enter<N: Name, T: KeyTable, R: Wait>(
     let mut accesses = Vec::new(alloc);
     accesses.push((key.copy().ok()?, Access::Write)).ok()?;
     let pass = seat.take()?;
-    match table.enter(rt, alloc, pass, Some(txn), TIME, &accesses, 0) {
+    match table.enter(alloc, pass, Some(txn), TIME, &accesses, 0) {
         Ok(guard) => Some(guard),
         Err(EnterRefused { pass, error: _ }) => {
             seat.put(pass);
@@ -107,7 +106,7 @@ fn work<N: Name, T: KeyTable, R: Wait>(
     key: &Key,
     txn: TxnId,
 ) -> Option<()> {
-    let mut guard = enter(rt, alloc, table, seat, key, txn)?;
+    let mut guard = enter(alloc, table, seat, key, txn)?;
     let is_locked = proceed(rt, table, &mut guard)
         && is_ours(table.acquire_in(rt, &mut guard, key, txn, TIME));
     let mut pass = leave(rt, table, guard)?;

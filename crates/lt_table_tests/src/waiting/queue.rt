@@ -6,10 +6,10 @@ ghost use Rattle.std.specs.Prelude.{◌≡◌, ◌<◌};
 use lt_ids::{Access, Key, TxnId};
 use lt_rules::KeyTable;
 use lt_table::{Config, Guard, Poll, Ready, Scan, Table, open, prepare};
-use lt_test_kit::request::{TIME, enter, hold, leave};
+use lt_test_kit::request::{TIME, await_queued, enter, hold, leave};
 use lt_test_kit::run::{close_all, seated};
 use lt_test_kit::seat::Seat;
-use lt_words::{Name, Pass};
+use lt_words::Name;
 use std::alloc::Global;
 use std::marker::Brand;
 use std::sync::{Mutex, Wait};
@@ -89,7 +89,7 @@ fn turn<N: Name, T: KeyTable, R: Wait>(
     numbers: &Mutex<Vec<u64>>,
 ) -> Option<Seat<N>> {
     let Caller { seat, txn } = caller;
-    let mut guard = enter(rt, alloc, table, seat, (key, Access::Write), txn)?;
+    let mut guard = enter(alloc, table, seat, (key, Access::Write), txn)?;
     let is_well = proceed(rt, table, &mut guard) && take(rt, table, &mut guard, key, txn, numbers);
     let mut pass = leave(rt, table, guard)?;
     let is_freed = table.finish(rt, &mut pass, key, txn).is_ok();
@@ -99,31 +99,6 @@ fn turn<N: Name, T: KeyTable, R: Wait>(
     } else {
         None
     }
-}
-
-/// Waits until `many` requests are queued to write the key. False if a check fails, or after 10,000 checks.
-fn await_writers<N: Name, T: KeyTable, R: Wait + Clock>(
-    rt: &R,
-    table: &Table<N, T>,
-    pass: &mut Pass,
-    key: &Key,
-    many: usize,
-) -> bool
-    requires { pass.old.of ≡ N.of }
-    ensures { pass.new.of ≡ N.of }
-{
-    for _ in 0..10_000 {
-        match table.inspect(rt, pass, key) {
-            Ok(state) => {
-                if state.writers.len() == many {
-                    return true;
-                }
-            }
-            Err(_) => return false,
-        }
-        sleep(rt, Duration::from_millis(1));
-    }
-    false
 }
 
 /// Frees the lock once `many` requests wait. Returns how much processor time the process used while they waited.
@@ -136,7 +111,7 @@ fn free_when<N: Name, T: KeyTable, R: Wait + Clock + CpuClock>(
     many: usize,
 ) -> Option<(Seat<N>, Duration)> {
     let mut pass = seat.into_pass()?;
-    let has_come = await_writers(rt, table, &mut pass, key, many);
+    let has_come = await_queued(rt, table, &mut pass, (key, Access::Write), many);
     sleep(rt, Duration::from_millis(20));
     let before = rt.process_cpu_time();
     sleep(rt, Duration::from_millis(HELD));

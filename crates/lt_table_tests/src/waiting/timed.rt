@@ -75,7 +75,7 @@ fn timed_on<N: Name, T: KeyTable, R: Wait + Clock>(
     let txn = TxnId::new(1)?;
     let other = TxnId::new(2)?;
     let holder = hold(rt, table, seats.pop()?, &key, txn)?;
-    let mut guard = enter(rt, alloc, table, seats.pop()?, (&key, Access::Write), other)?;
+    let mut guard = enter(alloc, table, seats.pop()?, (&key, Access::Write), other)?;
     let Some(mut pass) = holder.into_pass() else {
         guard.abandon();
         return None;

@@ -94,7 +94,7 @@ fn come<N: Name, T: KeyTable, W: Waker, R: Wait>(
     let mut accesses = Vec::new(alloc);
     accesses.push((asked.0.copy().ok()?, asked.1)).ok()?;
     let pass = seat.into_pass()?;
-    let mut guard = match table.enter(rt, alloc, pass, Some(txn), TIME, &accesses, 0) {
+    let mut guard = match table.enter(alloc, pass, Some(txn), TIME, &accesses, 0) {
         Ok(guard) => guard,
         Err(EnterRefused { pass, error: _ }) => {
             pass.abandon();

@@ -12,9 +12,8 @@ use lt_ids::{Access, Key, Ticket, Timestamp, TxnId};
 use lt_plain::PlainTable;
 use lt_rules::{Call, KeyTable};
 use lt_shard::{Answer, Shard, StepError};
-use lt_words::{Book, Name, Pass, abandon_all, shard_of};
+use lt_words::{Book, Pass, abandon_all, shard_of};
 use std::alloc::Global;
-use std::marker::Brand;
 use std::sync::Wait;
 
 /// The answer of a step, and whether its first attempt ran out of memory.
@@ -89,21 +88,22 @@ fn make_calls() -> Option<Calls>
 
 /// Makes a step, and makes it again if it runs out of memory. The failed attempt must have left the history and
 /// the pass's count unchanged; otherwise the result is an error.
-fn make<N: Name, T: KeyTable, R: Wait>(
+fn make<T: KeyTable, R: Wait>(
     rt: &R,
     book: &Book,
-    shard: &mut Shard<N, T>,
+    shard: &mut Shard<T>,
     pass: &mut Pass,
     key: &Key,
     call: &Call,
 ) -> Result<StepTried, StepError>
-    requires book { book.now ≡ N.of }
-    requires pass { pass.old.of ≡ N.of }
-    requires home { shard.old.index ≡ shard_of key.now N.of.shards }
-    requires index { shard.old.index < N.of.shards }
+    requires book { book.now ≡ shard.old.front.of }
+    requires pass { pass.old.of ≡ book.now }
+    requires home { shard.old.index ≡ shard_of key.now book.now.shards }
+    requires index { shard.old.index < book.now.shards }
     requires number { NamesNumber call.now }
     ensures pass { pass.new.of ≡ pass.old.of }
     ensures index { shard.new.index ≡ shard.old.index }
+    ensures of { shard.new.front.of ≡ shard.old.front.of }
 {
     let index = shard.index();
     let stored = shard.history().len();
@@ -127,7 +127,7 @@ fn make<N: Name, T: KeyTable, R: Wait>(
     }
 }
 
-fn run_named<N: Name, T: KeyTable + Drop, R: Wait>(
+fn run_over<T: KeyTable + Drop, R: Wait>(
     rt: &R,
     alloc: Global,
     book: &Book,
@@ -138,16 +138,15 @@ fn run_named<N: Name, T: KeyTable + Drop, R: Wait>(
     key: &Key,
     calls: &Calls,
 ) -> Result<ShardRun, StepError>
-    requires book { book.now ≡ N.of }
-    requires shards { N.of.shards ≡ shards }
+    requires shards { book.now.shards ≡ shards }
     requires some { 0 < shards }
     requires empty { T.records table ≡ finmap.empty }
-    requires one { one.old.of ≡ N.of }
-    requires two { two.old.of ≡ N.of }
+    requires one { one.old.of ≡ book.now }
+    requires two { two.old.of ≡ book.now }
     requires calls { NamesNumber calls.now.acquire × NamesNumber calls.now.visit × NamesNumber calls.now.finish }
 {
     let index = shard_of(key, shards);
-    let mut shard = Shard::<N, T>::new(alloc, table, book, index, 3);
+    let mut shard = Shard::new(alloc, table, book, index, 3);
     let taken = make(rt, book, &mut shard, one, key, &calls.acquire)?;
     let waits = make(rt, book, &mut shard, two, key, &calls.visit)?;
     let freed = make(rt, book, &mut shard, one, key, &calls.finish)?;
@@ -195,15 +194,13 @@ pub fn run<R: Wait>(rt: &R, alloc: Global) -> Option<ShardRun> {
     let calls = make_calls()?;
     let (book, mut one, mut two) = open_two(alloc, 2)?;
     let table = PlainTable::new(alloc);
-    let ran = run_named::<Brand, PlainTable, R>(
-        rt, alloc, &book, table, 2, &mut one, &mut two, &key, &calls,
-    );
+    let ran = run_over(rt, alloc, &book, table, 2, &mut one, &mut two, &key, &calls);
     one.abandon();
     two.abandon();
     ran.ok()
 }
 
-fn let_two_named<N: Name, T: KeyTable + Drop, R: Wait>(
+fn let_two_over<T: KeyTable + Drop, R: Wait>(
     rt: &R,
     alloc: Global,
     book: &Book,
@@ -214,16 +211,15 @@ fn let_two_named<N: Name, T: KeyTable + Drop, R: Wait>(
     calls: &Calls,
     visits: (&Call, &Call),
 ) -> Result<(u64, u64), StepError>
-    requires book { book.now ≡ N.of }
-    requires shards { N.of.shards ≡ 1 }
+    requires shards { book.now.shards ≡ 1 }
     requires empty { T.records table ≡ finmap.empty }
-    requires one { one.old.of ≡ N.of }
-    requires two { two.old.of ≡ N.of }
+    requires one { one.old.of ≡ book.now }
+    requires two { two.old.of ≡ book.now }
     requires calls { NamesNumber calls.now.acquire × NamesNumber calls.now.finish }
     requires visits { NamesNumber visits.0.now × NamesNumber visits.1.now }
 {
     let index = shard_of(key, 1);
-    let mut shard = Shard::<N, T>::new(alloc, table, book, index, 4);
+    let mut shard = Shard::new(alloc, table, book, index, 4);
     make(rt, book, &mut shard, one, key, &calls.acquire)?;
     make(rt, book, &mut shard, two, key, visits.0)?;
     make(rt, book, &mut shard, two, key, visits.1)?;
@@ -241,7 +237,7 @@ pub fn let_two<R: Wait>(rt: &R, alloc: Global, first: u64, second: u64) -> Optio
     let visits = (visit(first)?, visit(second)?);
     let (book, mut one, mut two) = open_two(alloc, 1)?;
     let table = PlainTable::new(alloc);
-    let read = let_two_named::<Brand, PlainTable, R>(
+    let read = let_two_over(
         rt,
         alloc,
         &book,

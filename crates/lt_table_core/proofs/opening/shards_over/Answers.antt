@@ -19,10 +19,10 @@ new-requires-clause-index g c =
 pub loop-table-preserved : goal.loop-table-preserved
 loop-table-preserved g c =
     let index : c.len-index.result ≡ length c.loop-table.shards.items = omega (arith, c.len-index.ensures, c.loop-table.shards.ok.0) in
-    let new : c.new.result ≡ new_shard g.N.Name.of (length c.loop-table.shards.items) c.args.max_steps = c.new.ensures ∙ ap (λ s. new_shard g.N.Name.of s c.args.max_steps) index in
+    let new : c.new.result ≡ new_shard c.args.book.now (length c.loop-table.shards.items) c.args.max_steps = c.new.ensures ∙ ap (λ s. new_shard c.args.book.now s c.args.max_steps) index in
     let grown = c.in_ok-push.ensures.items in (
       omega (arith, ap length grown, length-append c.loop-table.shards.items (c.new.result ∷ []), length-append c.loop-table.yielded (c.in-Some.table ∷ []), c.loop-table.invariant.0),
-      subst (AreNewShards g.N.Name.of c.args.max_steps) (sym grown) (new_more g.N.Name.of c.args.max_steps c.loop-table.shards.items c.new.result c.loop-table.invariant.1 new),
+      subst (AreNewShards c.args.book.now c.args.max_steps) (sym grown) (new_more c.args.book.now c.args.max_steps c.loop-table.shards.items c.new.result c.loop-table.invariant.1 new),
     )
 
 pub returns-clause-many : goal.returns-clause-many

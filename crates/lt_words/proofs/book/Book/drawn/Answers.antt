@@ -1,5 +1,5 @@
-use Rattle.lt_words.proofs.Passes.{sight_on}
+use Rattle.lt_words.proofs.Passes.{wakes_of, sight_on}
 use Rattle.lt_words.proofs.book.Book.drawn.Goals as goal
 
 pub invariant_of-pass : goal.invariant_of-pass
-invariant_of-pass c = sight_on c.pass.inside.number c.pass.inside.seen c.drawn.new.self c.pass.inside.rest.value.counts.items c.pass.inside.rest.value.taken.items c.pass.invariant c.drawn.ensures.more
+invariant_of-pass c = sight_on c.pass.inside.number c.pass.inside.seen c.drawn.new.self c.pass.inside.rest.value.counts.items c.pass.inside.rest.value.taken.items (wakes_of c.pass.inside.rest.value) c.pass.invariant c.drawn.ensures.more

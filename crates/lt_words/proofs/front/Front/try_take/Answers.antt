@@ -1,4 +1,4 @@
-use Rattle.std.proofs.Common.{◌≡◌, ◌+◌, ◌-◌, ◌<◌, ◌==◌, ℕ, sym, subst, ◌∙◌, ap, refl, arith}
+use Rattle.std.proofs.Common.{◌≡◌, ◌+◌, ◌-◌, ◌==◌, ℕ, sym, subst, ◌∙◌, ap, refl, arith}
 use Rattle.logbook.specs.Pages.{step}
 use Rattle.lt_words.specs.declared.event.Logged.{Logged}
 use Rattle.lt_words.specs.declared.event.Logged.TheVariants.{Took}

@@ -1,8 +1,3 @@
-use Rattle.std.proofs.Common.{◌≡◌, ◌+◌, ◌<◌, sym, ◌∙◌, ap, arith}
-use Rattle.lt_words.specs.Rules.{word_at}
-use Rattle.lt_words.specs.Row.{opening_of}
-use Rattle.lt_words.proofs.Lines.{word_of}
-use Rattle.lt_words.proofs.Moving.{taken_moves}
 use Rattle.lt_words.proofs.Logs.{sight_grows}
 use Rattle.lt_words.proofs.front.Front.try_taken.Goals as goal
 

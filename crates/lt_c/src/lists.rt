@@ -1,0 +1,176 @@
+//! Which requests are queued at a key, and which keys have a record? Each function here that begins with `lt_table_` is
+//! an export. It copies what it lists into an array of the caller, in time in proportion to what there is, and changes
+//! nothing in the table.
+ghost use Rattle.std.specs.Prelude.{◌≡◌, ◌≢◌, ◌≤◌, ◌++◌, None, IfOk, IfErr, OnOk, length, map, drop};
+ghost use Rattle.std.specs.Option.{option_copied};
+ghost use Rattle.lt_rules.specs.Table.{record_at, keys_after};
+ghost use Rattle.lt_c.specs.Codes.{IsDoneUnless};
+ghost use Rattle.lt_c.specs.Lists.{ListsFirst, ListsKeys, after_key, after_refusal, keys_refusal};
+ghost use Rattle.lt_c.specs.Looks.{look_refusal};
+ghost use Rattle.lt_c.specs.Shapes.{raw_reader, raw_writer, raw_key_name};
+ghost use Rattle.lt_c.specs.Steps.{OnTable};
+
+use crate::codes::{CLOSED, DONE, MEMORY, key_code};
+use crate::handle::TableHandle;
+use crate::held::HeldTable;
+use crate::looks::state;
+use crate::shapes::{LtKeyName, LtQueued, raw_key_name, raw_reader, raw_writer};
+use lt_ids::Key;
+use lt_rules::{QueuedRequest, QueuedWriter};
+use std::alloc::Global;
+
+/// Writes these writers to the front of the array, which has room for them.
+fn write_writers(writers: &[QueuedWriter], array: &mut [LtQueued])
+    requires { length writers.now ≤ length array.old }
+    ensures { array.new ≡ map raw_writer writers.now ++ drop (length writers.now) array.old }
+{
+    for i in 0..writers.len() {
+        array[i] = raw_writer(&writers[i]);
+    }
+}
+
+/// Writes these readers to the front of the array, which has room for them.
+fn write_readers(readers: &[QueuedRequest], array: &mut [LtQueued])
+    requires { length readers.now ≤ length array.old }
+    ensures { array.new ≡ map raw_reader readers.now ++ drop (length readers.now) array.old }
+{
+    for i in 0..readers.len() {
+        array[i] = raw_reader(&readers[i]);
+    }
+}
+
+/// Writes these keys to the front of the array, which has room for them.
+fn write_keys(keys: &[Key], array: &mut [LtKeyName])
+    requires { length keys.now ≤ length array.old }
+    ensures { array.new ≡ map raw_key_name keys.now ++ drop (length keys.now) array.old }
+{
+    for i in 0..keys.len() {
+        array[i] = raw_key_name(&keys[i]);
+    }
+}
+
+/// The writers of the key, in the order of the queue: as many of the first as fit into the array. `count` is set to how
+/// many there are.
+#[unsafe(no_mangle)]
+pub extern "C" fn lt_table_writers(
+    alloc: Global,
+    handle: &mut TableHandle,
+    key: &[u8],
+    array: &mut [LtQueued],
+    count: &mut usize,
+) -> u32
+    ensures refused { IsDoneUnless (look_refusal handle.old.slot.held key.now) result }
+    ensures listed { result ≡ DONE → OnTable (λ h.
+        ListsFirst raw_writer (record_at h.records key.now).writers array.old array.new count.new) handle.old.slot.held }
+    ensures array_kept { result ≢ DONE → array.new ≡ array.old }
+    ensures count_kept { result ≢ DONE → count.new ≡ count.old }
+    ensures table_kept { handle.new.slot.held ≡ handle.old.slot.held }
+{
+    match state(alloc, handle, key) {
+        Ok(state) => {
+            let fit = state.writers.len().min(array.len());
+            write_writers(&state.writers[..fit], array);
+            *count = state.writers.len();
+            DONE
+        }
+        Err(code) => code,
+    }
+}
+
+/// The readers of the key, the latest first: as many of these as fit into the array. `count` is set to how many there
+/// are.
+#[unsafe(no_mangle)]
+pub extern "C" fn lt_table_readers(
+    alloc: Global,
+    handle: &mut TableHandle,
+    key: &[u8],
+    array: &mut [LtQueued],
+    count: &mut usize,
+) -> u32
+    ensures refused { IsDoneUnless (look_refusal handle.old.slot.held key.now) result }
+    ensures listed { result ≡ DONE → OnTable (λ h.
+        ListsFirst raw_reader (record_at h.records key.now).readers array.old array.new count.new) handle.old.slot.held }
+    ensures array_kept { result ≢ DONE → array.new ≡ array.old }
+    ensures count_kept { result ≢ DONE → count.new ≡ count.old }
+    ensures table_kept { handle.new.slot.held ≡ handle.old.slot.held }
+{
+    match state(alloc, handle, key) {
+        Ok(state) => {
+            let fit = state.readers.len().min(array.len());
+            write_readers(&state.readers[..fit], array);
+            *count = state.readers.len();
+            DONE
+        }
+        Err(code) => code,
+    }
+}
+
+/// Copies of the first keys of the table that come after this key, or after none: at most `at_most`. It fails only when
+/// an allocation fails.
+fn keys_behind(
+    table: &HeldTable,
+    alloc: Global,
+    after: Option<&Key>,
+    at_most: usize,
+) -> Result<Vec<Key>, u32>
+    ensures keys { IfOk result (λ all. all.items ≡ keys_after table.now.records (option_copied after.entry) at_most) }
+    ensures refused { IfErr result (λ code. code ≡ MEMORY) }
+{
+    match table.keys_after(alloc, after, at_most) {
+        Ok(keys) => Ok(keys),
+        Err(_) => Err(MEMORY),
+    }
+}
+
+/// Copies of the first keys of the table that come after the key with these bytes, or of its first keys if there are
+/// none: at most `at_most`. Otherwise the code of what went wrong.
+fn next_keys(
+    table: &HeldTable,
+    alloc: Global,
+    after: &[u8],
+    at_most: usize,
+) -> Result<Vec<Key>, u32>
+    ensures keys { IfOk result (λ all. all.items ≡ keys_after table.now.records (after_key after.now) at_most) }
+    ensures refused { IfErr result (λ code. IsDoneUnless (after_refusal after.now) code × (code ≢ DONE)) }
+    ensures sound { OnOk result (after_refusal after.now ≡ None) }
+{
+    if after.is_empty() {
+        return keys_behind(table, alloc, None, at_most);
+    }
+    match Key::from_bytes(alloc, after) {
+        Ok(key) => keys_behind(table, alloc, Some(&key), at_most),
+        Err(error) => Err(key_code(&error)),
+    }
+}
+
+/// The first keys that have a record and come after the key with these bytes, or the first of all if there are none:
+/// as many as fit into the array, in byte order. `count` is set to how many were written. If the array has room left, no
+/// key comes after them.
+#[unsafe(no_mangle)]
+pub extern "C" fn lt_table_keys(
+    alloc: Global,
+    handle: &mut TableHandle,
+    after: &[u8],
+    array: &mut [LtKeyName],
+    count: &mut usize,
+) -> u32
+    ensures refused { IsDoneUnless (keys_refusal handle.old.slot.held after.now) result }
+    ensures listed { result ≡ DONE → OnTable (λ h. ListsKeys h after.now array.old array.new count.new) handle.old.slot.held }
+    ensures array_kept { result ≢ DONE → array.new ≡ array.old }
+    ensures count_kept { result ≢ DONE → count.new ≡ count.old }
+    ensures table_kept { handle.new.slot.held ≡ handle.old.slot.held }
+{
+    let Some(table) = handle.take(alloc) else {
+        return CLOSED;
+    };
+    let found = next_keys(&table, alloc, after, array.len());
+    handle.put(table);
+    match found {
+        Ok(keys) => {
+            write_keys(&keys, array);
+            *count = keys.len();
+            DONE
+        }
+        Err(code) => code,
+    }
+}
