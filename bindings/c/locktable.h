@@ -319,8 +319,8 @@ uint32_t lt_table_readers(struct lt_table *table, const uint8_t *key, size_t key
  * The keys that have a record: they are held, reserved or waited for. Lists them in byte order, from the first one that
  * comes after the key `after`, or from the very first if `after_len` is 0: as many as fit into the `room` places of the
  * array. Sets `count` to how many were written. If these are fewer than `room`, no key comes after them. `after` need not
- * have a record, so a caller lists all keys by giving the last key of a call to the next one. The call copies no more than
- * `room` keys and one, and looks at all keys once.
+ * have a record, so a caller lists all keys by giving the last key of a call to the next one. The call looks at all keys, and
+ * keeps copies of no more than `room` of them and one at a time.
  *
  * Answers LT_DONE, or refuses, in this order: LT_CLOSED, LT_BAD_KEY_LONG, LT_BAD_KEY_BYTE, LT_MEMORY; then the array and
  * the count are as they were.
