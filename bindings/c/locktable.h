@@ -277,7 +277,7 @@ uint32_t lt_table_leave(struct lt_table *table, const uint8_t *key, size_t key_l
 uint32_t lt_table_lets(struct lt_table *table, struct lt_through *lets, size_t room, size_t *count);
 
 /*
- * THE QUERIES: look, key, writer, reader, keys, key_at.
+ * THE QUERIES: look, key, writers, readers, keys.
  *
  * A query changes nothing in the table. It answers also while lets are left.
  */

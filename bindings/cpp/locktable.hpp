@@ -32,8 +32,8 @@
  *
  * WHAT STANDS BEHIND IT. A key has one shard, chosen by a hash with a random start. A shard is a table of locktable.h
  * behind a mutex. That table is proved: who waits, who is let through, and in which order. This header is not: it wakes
- * those who were let through. It is tested, and a run can be judged by the proved check: give the histories of a Trace to
- * lt_check, or the lines of a StepSink to `locktrace sort`.
+ * those who were let through. It is tested. The proved check judges the key steps of a run, and not whether everybody was
+ * woken: give the histories of a Trace to lt_check, or the lines of a StepSink to `locktrace sort`.
  *
  * THE PROTOCOL is that of the Rust module locktable::sync, whose head tells its six rules. Here: a visit and its acquire are
  * one critical section (Txn::visit_and_acquire); whoever is let through visits again (Txn::drive); whoever gives up
@@ -221,6 +221,111 @@ private:
     }
 
     /// Of shards with one index modulo their number. Steps of the other shards do not wait for each other here.
+    std::array<Part, 64> parts_;
+};
+
+/// The waits at one key, or at all keys. A transaction that is let through and has to wait again begins another wait.
+struct Waits {
+    std::uint64_t begun = 0;       ///< How many have begun.
+    std::uint64_t let_through = 0; ///< How many ended because a step let the transaction through.
+    std::uint64_t given_up = 0;    ///< How many ended because the transaction gave up: at its deadline, or doomed.
+    Clock::duration waited{};      ///< How long those that have ended took, all together.
+    Clock::duration longest{};     ///< The longest of those that have ended.
+};
+
+/// Counts the waits of a table, and keeps an entry for each key at which a transaction has waited. It serves one table, which it
+/// must outlive. A wait is measured from the step that told the transaction to wait to the step that ended the wait.
+///
+///     locktable::Statistics statistics;
+///     locktable::Locks locks({}, statistics.sink());
+class Statistics {
+public:
+    Statistics() = default;
+    Statistics(const Statistics &) = delete;
+    Statistics &operator=(const Statistics &) = delete;
+
+    StepSink sink() {
+        return [this](const Step &step) { add(step); };
+    }
+
+    /// How many locks were taken.
+    std::uint64_t taken() const {
+        std::uint64_t many = 0;
+        for (const Part &part : parts_) {
+            const std::lock_guard<std::mutex> hold(part.mutex);
+            many += part.taken;
+        }
+        return many;
+    }
+
+    /// The waits at all keys. The shards are asked one after the other.
+    Waits total() const {
+        Waits total;
+        for (const Part &part : parts_) {
+            const std::lock_guard<std::mutex> hold(part.mutex);
+            for (const auto &[key, waits] : part.at) {
+                total.begun += waits.begun;
+                total.let_through += waits.let_through;
+                total.given_up += waits.given_up;
+                total.waited += waits.waited;
+                total.longest = std::max(total.longest, waits.longest);
+            }
+        }
+        return total;
+    }
+
+    /// At most so many keys, as the table has them, from the one with the most waits on.
+    std::vector<std::pair<std::string, Waits>> hottest(std::size_t most) const {
+        std::vector<std::pair<std::string, Waits>> keys;
+        for (const Part &part : parts_) {
+            const std::lock_guard<std::mutex> hold(part.mutex);
+            keys.insert(keys.end(), part.at.begin(), part.at.end());
+        }
+        std::sort(keys.begin(), keys.end(), [](const auto &one, const auto &other) {
+            return one.second.begun != other.second.begun ? one.second.begun > other.second.begun : one.first < other.first;
+        });
+        keys.resize(std::min(most, keys.size()));
+        return keys;
+    }
+
+private:
+    struct Part {
+        mutable std::mutex mutex;
+        std::uint64_t taken = 0;
+        std::map<std::string, Waits, std::less<>> at;
+        /// Where and since when a transaction waits, by its number.
+        std::unordered_map<std::uint64_t, std::pair<std::string, Clock::time_point>> waiting;
+    };
+
+    void add(const Step &step) {
+        Part &part = parts_[step.shard % parts_.size()];
+        const std::lock_guard<std::mutex> hold(part.mutex);
+        if (step.reply == LT_TAKEN) part.taken++;
+        if (step.reply == LT_MUST_WAIT) {
+            const std::string key(step.key);
+            part.at[key].begun++;
+            part.waiting.insert_or_assign(number_of(step.call), std::make_pair(key, Clock::now()));
+        }
+        if (step.call.rfind("leave ", 0) == 0) end(part, step.key, number_of(step.call), &Waits::given_up);
+        for (const lt_through &it : step.lets) end(part, step.key, it.number, &Waits::let_through);
+    }
+
+    /// Ends the wait of the request, if it waits at this key. A request also leaves keys at which it does not wait.
+    static void end(Part &part, std::string_view key, std::uint64_t number, std::uint64_t Waits::*how) {
+        const auto found = part.waiting.find(number);
+        if (found == part.waiting.end() || found->second.first != key) return;
+        const Clock::duration took = Clock::now() - found->second.second;
+        Waits &waits = part.at[found->second.first];
+        waits.*how += 1;
+        waits.waited += took;
+        waits.longest = std::max(waits.longest, took);
+        part.waiting.erase(found);
+    }
+
+    /// The number of the request that visits or leaves: it follows the word for the call.
+    static std::uint64_t number_of(const std::string &call) { return std::stoull(call.substr(call.find(' ') + 1)); }
+
+    /// Of shards with one index modulo their number.
     std::array<Part, 64> parts_;
 };
 
@@ -1016,6 +1121,18 @@ public:
     lt_key inspect(std::string_view key) const {
         const std::string name = table_key(key);
         return inner_->at(name, [&](detail::Shard &shard) { return shard.key_state(name); });
+    }
+
+    /// The record of each key that has one, with the key of the table. The records of one shard are of one moment.
+    std::vector<std::pair<std::string, lt_key>> inspect_all() const {
+        std::vector<std::pair<std::string, lt_key>> all;
+        for (const auto &shard : inner_->shards) {
+            const std::lock_guard<std::mutex> hold(shard->mutex);
+            std::vector<std::string> keys;
+            shard->put_keys(keys);
+            for (const std::string &key : keys) all.emplace_back(key, shard->key_state(key));
+        }
+        return all;
     }
 
     /// The keys that are held, reserved or waited for, in the order of their bytes in each shard. It sorts the keys of a shard

@@ -143,6 +143,11 @@ static void rows() {
     for (int at = 0; at < 200; at++) all.push_back("k" + std::to_string(1000 + at));
     for (const std::string &key : all) expect(many.lock(key) == Status::locked, "many keys", "keys");
     expect(one_shard.keys() == all, "all keys are listed, in order", "keys");
+    const auto records = one_shard.inspect_all();
+    expect(records.size() == all.size(), "each key has a record", "keys");
+    for (std::size_t at = 0; at < all.size(); at++) {
+        expect(records[at].first == all[at] && records[at].second.holder == many.id(), "who holds each key", "keys");
+    }
     Txn first = locks.begin();
     expect(first.lock_all({{"b", Access::write}, {"c", Access::read}, {"a", Access::write}, {"b", Access::read}}) == Status::locked,
            "lock_all", "several keys");
@@ -150,6 +155,32 @@ static void rows() {
     Txn second = locks.begin();
     expect(second.lock_all({{"0", Access::write}, {"a", Access::write}}, Clock::now()) == Status::timed_out, "lock_all", "several keys");
     expect(second.locked().empty() && locks.begin().try_lock("0"), "nothing is kept", "several keys");
+}
+
+/* ---- waits that are counted */
+
+static void statistics() {
+    const char *const name = "statistics";
+    Statistics told;
+    const Locks locks(Options{2, 0, WaitSink()}, told.sink());
+    Txn first = locks.begin(), second = locks.begin(), third = locks.begin();
+    expect(first.lock("a b") == Status::locked && first.lock("c") == Status::locked, "they are free", name);
+    std::thread waits([&] { expect(second.lock("a b") == Status::locked, "it came free", name); });
+    while (!locks.edge_of(second.id())) std::this_thread::yield();
+    expect(!third.try_lock("a b") && !third.try_lock("c"), "they are locked", name);
+    const milliseconds slept(20);
+    std::this_thread::sleep_for(slept);
+    const Waits before = told.total();
+    expect(before.begun == 3 && before.let_through == 0 && before.given_up == 2, "two have given up", name);
+    first.release();
+    waits.join();
+    const Waits total = told.total();
+    expect(total.begun == 3 && total.let_through == 1 && total.given_up == 2, "one was let through", name);
+    expect(total.longest >= slept && total.waited >= total.longest, "how long they took", name);
+    expect(told.taken() == 3, "the locks that were taken", name);
+    const auto hot = told.hottest(2);
+    expect(hot.size() == 2 && hot[0].first == "a%20b" && hot[0].second.begun == 2 && hot[1].first == "c", "the hot keys", name);
+    expect(told.hottest(1).size() == 1, "the hottest key", name);
 }
 
 /* ---- deadlocks */
@@ -357,7 +388,12 @@ static void worker(const Mode &mode, const Locks &locks, std::array<long, accoun
 
 static void stress(const Mode &mode, milliseconds time) {
     Trace trace;
-    Locks locks(Options{2, 0, mode.searches ? WaitSink(doom_youngest) : WaitSink()}, trace.sink());
+    Statistics waits;
+    const StepSink sinks[] = {trace.sink(), waits.sink()};
+    const auto tell_both = [&](const Step &step) {
+        for (const StepSink &sink : sinks) sink(step);
+    };
+    Locks locks(Options{2, 0, mode.searches ? WaitSink(doom_youngest) : WaitSink()}, tell_both);
     std::array<long, accounts> money{};
     std::atomic<bool> is_over{false};
     std::atomic<long> ended{0};
@@ -396,12 +432,17 @@ static void stress(const Mode &mode, milliseconds time) {
     for (long it : money) total += it;
     expect(total == 0, "money is lost", mode.name);
     expect_nothing_left(locks, trace, mode.name);
-    std::printf("%s: %ld transactions, %zu steps\n", mode.name, ended.load(), trace.steps());
+    for (const auto &[key, told] : waits.hottest(accounts)) {
+        expect(told.begun == told.let_through + told.given_up, "a wait has no end", key.c_str());
+    }
+    std::printf("%s: %ld transactions, %zu steps, %ju waits\n", mode.name, ended.load(), trace.steps(),
+                static_cast<std::uintmax_t>(waits.total().begun));
 }
 
 int main(int argc, char **argv) {
     const milliseconds time(argc > 1 ? std::atol(argv[1]) : 500);
     rows();
+    statistics();
     deadlocks();
     memory();
     const Mode modes[] = {

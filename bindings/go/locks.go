@@ -8,7 +8,8 @@
 //
 // A key has one shard, chosen by a hash with a random seed. A shard is a table of bindings/c/locktable.h behind a mutex.
 // That table is proved: who waits, who is let through, and in which order. This package is not: it wakes those who were let
-// through. It is tested, and a run can be judged by the proved check (Options.Sink, Check).
+// through. It is tested. The proved check judges the key steps of a run (Options.Sink, Check), and not whether everybody
+// was woken.
 //
 // # The protocol
 //

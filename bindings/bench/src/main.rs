@@ -17,7 +17,7 @@
 //!
 //! This program compares the library for C and Rust, a table of one thread, with the rules that the tests of
 //! `bindings/rust` use. `bench/plain`, in the top folder, is the whole table in plain Rust, with shards, threads and
-//! histories: `tools/compare_plain` times `lockbench load` beside it.
+//! histories: `tools/hand/compare_plain` times `lockbench load` beside it.
 
 #[path = "../../rust/tests/rules/mod.rs"]
 mod rules;

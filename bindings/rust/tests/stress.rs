@@ -1,15 +1,19 @@
 //! Does a wake-up, a lock or money get lost while threads and tasks meet at a few keys? Each mode moves money between four
 //! accounts for two seconds, or as many as `LOCKTABLE_STRESS_SECONDS` says. At the end no money is lost, no key is locked,
-//! nobody waits, the proved check accepts the steps, and no ticket has begun two waits. If no transaction ends in 20
-//! seconds, a watchdog ends the process with status 3.
+//! nobody waits, the proved check accepts the steps, no ticket has begun two waits, and [`Statistics`] has counted the end of
+//! each wait. If no transaction ends in 20 seconds, a watchdog ends the process with status 3.
+//!
+//! If `LOCKTABLE_STRESS_TRACES` names a folder, each mode writes its histories there, for `locktrace check`.
 
 mod tasks;
 
-use locktable::sync::{LockError, Locks, Options, Trace, Txn};
-use locktable::{check, Access, Timestamp};
+use locktable::sync::{LockError, Locks, Options, Statistics, StepSink, Trace, Txn};
+use locktable::{check, Access, Step, Timestamp};
 use std::collections::HashSet;
+use std::fs;
 use std::io::{self, Write};
 use std::num::NonZeroUsize;
+use std::path::Path;
 use std::sync::atomic::{AtomicBool, AtomicI64, AtomicU64, Ordering::Relaxed};
 use std::sync::Arc;
 use std::thread;
@@ -222,13 +226,18 @@ fn waits_of(histories: &str) -> usize {
     tickets.len()
 }
 
-fn stress(mode: Mode) {
+fn stress(name: &str, mode: Mode) {
     let seconds = std::env::var("LOCKTABLE_STRESS_SECONDS").map_or(2, |it| it.parse().unwrap());
-    let trace = Arc::new(Trace::default());
+    let (trace, statistics) = (Arc::new(Trace::default()), Arc::new(Statistics::default()));
+    let both = (trace.clone(), statistics.clone());
+    let sink = move |shard: usize, step: &Step<'_>| {
+        both.0.step(shard, step);
+        both.1.step(shard, step);
+    };
     let options = Options::new().shards(NonZeroUsize::new(3).unwrap());
     let run = Run {
         mode,
-        locks: Locks::open_traced(options, trace.clone()).unwrap(),
+        locks: Locks::open_traced(options, Arc::new(sink)).unwrap(),
         accounts: (0..ACCOUNTS).map(|_| AtomicI64::new(OPENING)).collect(),
         ended: AtomicU64::new(0),
         at_work: AtomicU64::new(THREADS),
@@ -253,8 +262,15 @@ fn stress(mode: Mode) {
     assert_eq!(run.locks.keys().unwrap(), [], "the keys that are left");
     assert_eq!(run.locks.edges().unwrap(), [], "the waits that are left");
     let histories = trace.histories();
+    if let Some(folder) = std::env::var_os("LOCKTABLE_STRESS_TRACES") {
+        fs::write(Path::new(&folder).join(name), &histories).unwrap();
+    }
     let report = check(histories.as_bytes()).unwrap();
-    let waits = waits_of(&histories);
+    let (waits, counted) = (waits_of(&histories), statistics.hottest(usize::MAX));
+    assert_eq!(counted.iter().map(|(_, it)| it.begun).sum::<u64>(), waits as u64, "the waits that were counted");
+    for (key, it) in &counted {
+        assert_eq!(it.begun, it.let_through + it.given_up, "the waits at {key}");
+    }
     let [ended, gave_up, doomed] = [&run.ended, &run.gave_up, &run.doomed].map(|it| it.load(Relaxed));
     println!("{ended} transactions, {} steps, {waits} waits, {gave_up} gave up, {doomed} dooms", report.steps);
     assert!(report.keys == ACCOUNTS as usize && waits > 0);
@@ -264,30 +280,36 @@ fn stress(mode: Mode) {
 
 #[test]
 fn in_random_order_with_deadlines() {
-    stress(Mode { at_once: false, in_order: false, patience: Patience::Micros(500), dooms: false });
+    let mode = Mode { at_once: false, in_order: false, patience: Patience::Micros(500), dooms: false };
+    stress("in_random_order_with_deadlines", mode);
 }
 
 #[test]
 fn in_order_for_ever() {
-    stress(Mode { at_once: false, in_order: true, patience: Patience::ForEver, dooms: false });
+    let mode = Mode { at_once: false, in_order: true, patience: Patience::ForEver, dooms: false };
+    stress("in_order_for_ever", mode);
 }
 
 #[test]
 fn in_order_for_ever_or_with_hardly_any_time() {
-    stress(Mode { at_once: false, in_order: true, patience: Patience::HalfMicros(30), dooms: false });
+    let mode = Mode { at_once: false, in_order: true, patience: Patience::HalfMicros(30), dooms: false };
+    stress("in_order_for_ever_or_with_hardly_any_time", mode);
 }
 
 #[test]
 fn all_at_once_for_ever() {
-    stress(Mode { at_once: true, in_order: false, patience: Patience::ForEver, dooms: false });
+    let mode = Mode { at_once: true, in_order: false, patience: Patience::ForEver, dooms: false };
+    stress("all_at_once_for_ever", mode);
 }
 
 #[test]
 fn all_at_once_with_deadlines() {
-    stress(Mode { at_once: true, in_order: false, patience: Patience::Micros(300), dooms: false });
+    let mode = Mode { at_once: true, in_order: false, patience: Patience::Micros(300), dooms: false };
+    stress("all_at_once_with_deadlines", mode);
 }
 
 #[test]
 fn in_random_order_until_doomed() {
-    stress(Mode { at_once: false, in_order: false, patience: Patience::ForEver, dooms: true });
+    let mode = Mode { at_once: false, in_order: false, patience: Patience::ForEver, dooms: true };
+    stress("in_random_order_until_doomed", mode);
 }

@@ -3,7 +3,7 @@
 
 mod tasks;
 
-use locktable::sync::{LockError, LockFuture, Locks, Options, StepSink, Trace, Txn};
+use locktable::sync::{LockError, LockFuture, Locks, Options, Statistics, StepSink, Trace, Txn};
 use locktable::{check, Access, Reply, Step, Timestamp, TxnId};
 use std::collections::BTreeMap;
 use std::future::Future;
@@ -443,4 +443,62 @@ fn keys_and_records_are_told() {
     assert_eq!((holder.txn, holder.ts), (TxnId::MIN, ts));
     assert_eq!(locks.inspect(b"a").unwrap().holder, None);
     assert!(format!("{txn:?}").contains("a%20b"));
+}
+
+struct Nobody;
+
+impl Wake for Nobody {
+    fn wake(self: Arc<Self>) {}
+}
+
+/// Polls the future, and lets nobody know when it can go on.
+fn poll(future: &mut LockFuture<'_>) -> Poll<Result<(), LockError>> {
+    let waker = Waker::from(Arc::new(Nobody));
+    Pin::new(future).poll(&mut Context::from_waker(&waker))
+}
+
+#[test]
+fn all_records_are_told_with_those_who_wait() {
+    let locks = Locks::open(Options::new().shards(NonZeroUsize::MIN)).unwrap();
+    let [mut first, mut second, mut third] = [(); 3].map(|()| locks.begin(Timestamp::default()).unwrap());
+    first.lock(b"a b").unwrap();
+    second.lock(b"c").unwrap();
+    let mut waiting = third.lock_async(b"a b");
+    assert!(poll(&mut waiting).is_pending());
+    let states = locks.inspect_all().unwrap();
+    let told: Vec<_> = states
+        .iter()
+        .map(|(key, state)| (key.to_string(), state.holder.map(|it| it.txn.get()), state.writers.len()))
+        .collect();
+    assert_eq!(told, [("a%20b".into(), Some(1), 1), ("c".into(), Some(2), 0)]);
+    assert_eq!(states[0].1, locks.inspect(b"a b").unwrap());
+    drop(waiting);
+    drop((first, second, third));
+    assert_eq!(locks.inspect_all().unwrap(), []);
+}
+
+#[test]
+fn waits_are_counted_with_their_keys_and_times() {
+    let statistics = Arc::new(Statistics::default());
+    let locks = Locks::open_traced(Options::new().shards(NonZeroUsize::new(2).unwrap()), statistics.clone()).unwrap();
+    let [mut first, mut second, mut third] = [(); 3].map(|()| locks.begin(Timestamp::default()).unwrap());
+    first.lock(b"a b").unwrap();
+    first.lock(b"c").unwrap();
+    let mut waiting = second.lock_async(b"a b");
+    assert!(poll(&mut waiting).is_pending());
+    assert!(third.lock_until(b"a b", Instant::now()).is_err());
+    assert!(third.lock_until(b"c", Instant::now()).is_err());
+    let slept = Duration::from_millis(20);
+    thread::sleep(slept);
+    let before = statistics.total();
+    assert_eq!((before.begun, before.let_through, before.given_up), (3, 0, 2));
+    drop(first);
+    assert_eq!(poll(&mut waiting), Poll::Ready(Ok(())));
+    let total = statistics.total();
+    assert_eq!((total.begun, total.let_through, total.given_up), (3, 1, 2));
+    assert!(total.longest >= slept && total.waited >= total.longest);
+    assert_eq!(statistics.taken(), 3);
+    let hot: Vec<_> = statistics.hottest(2).iter().map(|(key, waits)| (key.to_string(), waits.begun)).collect();
+    assert_eq!(hot, [("a%20b".into(), 2), ("c".into(), 1)]);
+    assert_eq!(statistics.hottest(1).len(), 1);
 }

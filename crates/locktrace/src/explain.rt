@@ -239,8 +239,10 @@ fn put_second_reading<F: Files>(
     if !is_regular(files, name) {
         return out.extend_from_slice(NEEDS_A_FILE);
     }
-    let Ok(mut reader) = open_reader(files, alloc, name) else {
-        return out.extend_from_slice(HAS_CHANGED);
+    let mut reader = match open_reader(files, alloc, name) {
+        Ok(reader) => reader,
+        Err(TraceFailure::Memory) => return Err(AllocError),
+        Err(_) => return out.extend_from_slice(HAS_CHANGED),
     };
     let mut text = Vec::new(alloc);
     let found = if faulty.line == 1 {

@@ -1,12 +1,15 @@
 //! Which calls of a table that records no steps take no memory? Each test makes calls of each kind on one key, and
-//! prints a line after each kind. `tools/count_requests` runs the tests and counts the requests for memory between two
-//! lines. One test has a key that is stored without an allocation, and the other has one that takes an allocation.
+//! prints a line after each kind. `tools/gate/count_requests` runs the tests and counts the requests for memory
+//! between two lines. One test has a key that is stored without an allocation, and another has one that takes an
+//! allocation. A third test is about a table that streams its steps: the vector that a take hands in is where the next
+//! steps are stored.
 //!
 //! One transaction holds the key. Ten requests wait to read below the timestamp to which the lock is raised later, ten
 //! wait to read above it, and ten wait to write. One more reads below the lock's first timestamp, and passes.
-ghost use Rattle.std.specs.Prelude.{◌≡◌};
+ghost use Rattle.std.specs.Prelude.{◌≡◌, ◌≢◌, []};
 
 use crate::giving_up::{is_freed, leave_all};
+use lt_entry::Entry;
 use lt_ids::{Access, Key, Timestamp, TxnId};
 use lt_rules::{KeyTable, Reply};
 use lt_table::{
@@ -387,5 +390,96 @@ fn each_kind_of_call_at_a_short_key(rt: HostRuntime) -> Result<(), Fail> {
 fn each_kind_of_call_at_a_long_key(rt: HostRuntime) -> Result<(), Fail> {
     let counted = run(&rt, rt.alloc(), b'A').ok_or("the run")?;
     assert_eq!(rt; counted, EXPECTED);
+    Ok(())
+}
+
+// ---- room for the steps of a streamed table
+
+/// How many steps are made after each take.
+const STEPS: usize = 32;
+
+/// Finishes at a key that nobody holds, by the free pass in the seat. Returns how many of [`STEPS`] finishes are answered
+/// `Other`.
+fn finish_again<N: Name, T: KeyTable, R: Wait>(
+    rt: &R,
+    table: &Table<N, T>,
+    seat: &mut Seat<N>,
+    key: &Key,
+) -> usize {
+    let txn = TxnId::new(HOLDER).unwrap();
+    let mut count: usize = 0;
+    for _ in 0..STEPS {
+        let Holds::Free(pass) = &mut seat.holds else {
+            break;
+        };
+        count = count.saturating_add(usize::from(has_reply(
+            table.finish(rt, pass, key, txn),
+            &Reply::Other,
+        )));
+    }
+    count
+}
+
+/// Takes the steps of the key's shard out into this vector. Returns how many they are. None if the seat has no free pass.
+fn take_out<N: Name, T: KeyTable, R: Wait>(
+    rt: &R,
+    table: &Table<N, T>,
+    seat: &mut Seat<N>,
+    key: &Key,
+    room: Vec<Entry>,
+) -> Option<usize>
+    requires streamed { N.of.keeping ≢ Keeping.Whole }
+    requires empty { room.items ≡ [] }
+{
+    let mut room = room;
+    let Holds::Free(pass) = &mut seat.holds else {
+        return None;
+    };
+    table.take_history(rt, pass, table.shard_of(key), &mut room);
+    Some(room.len())
+}
+
+/// Makes steps after a take that handed in room for them, and after one that handed in none. Returns how many steps were
+/// made each time, and how many the second take gave.
+fn make_in_room<N: Name, R: Wait + Runtime>(
+    rt: &R,
+    alloc: Global,
+    ready: Ready,
+    key: &Key,
+) -> Option<(usize, usize, usize)>
+    requires of { ready.of ≡ N.of }
+    requires streamed { N.of.keeping ≢ Keeping.Whole }
+{
+    let (table, passes) = open::<N>(alloc, ready, 0).ok()?;
+    let mut seats = seated::<N>(alloc, passes)?;
+    let mut seat = seats.pop()?;
+    finish_again(rt, &table, &mut seat, key);
+    let room = Vec::with_capacity(alloc, STEPS).ok()?;
+    take_out(rt, &table, &mut seat, key, room)?;
+    tell(rt, "a beginning");
+    let within = finish_again(rt, &table, &mut seat, key);
+    tell(rt, "steps after a take that handed in room for them");
+    let taken = take_out(rt, &table, &mut seat, key, Vec::new(alloc))?;
+    tell(rt, "a take");
+    let without = finish_again(rt, &table, &mut seat, key);
+    tell(rt, "steps after a take that handed in no room");
+    Some((within, taken, without))
+}
+
+/// The same on a new table that streams its steps.
+fn run_in_room<R: Wait + Runtime>(rt: &R, alloc: Global) -> Option<(usize, usize, usize)> {
+    let key = key_of(alloc, b'a')?;
+    let limits = Config {
+        max_steps: 1000,
+        ..LIMITS
+    };
+    let ready = prepare_with(alloc, limits, Keeping::Streamed).ok()?;
+    make_in_room::<Brand, R>(rt, alloc, ready, &key)
+}
+
+#[test]
+fn a_take_hands_in_the_room_of_the_next_steps(rt: HostRuntime) -> Result<(), Fail> {
+    let made = run_in_room(&rt, rt.alloc()).ok_or("the run")?;
+    assert_eq!(rt; made, (STEPS, STEPS, STEPS));
     Ok(())
 }

@@ -197,6 +197,33 @@ impl Locks {
         Ok(keys)
     }
 
+    /// The record of each key that has one: who holds its lock, for whom it is reserved, and who waits. The records of one
+    /// shard are of one moment. The call takes time in proportion to what it lists and to the logarithm of the number of
+    /// keys, under the mutex of one shard after the other.
+    ///
+    /// # Errors
+    ///
+    /// [`Refused::Memory`]: an allocation failed.
+    ///
+    /// ```
+    /// use locktable::sync::{Locks, Options};
+    /// use locktable::Timestamp;
+    /// # fn main() -> Result<(), Box<dyn std::error::Error>> {
+    /// let locks = Locks::open(Options::new())?;
+    /// let mut txn = locks.begin(Timestamp::default())?;
+    /// txn.lock(b"orders/7")?;
+    /// for (key, state) in locks.inspect_all()? {
+    ///     println!("{key}: held by {:?}, {} wait", state.holder, state.writers.len() + state.readers.len());
+    /// }
+    /// # Ok(())
+    /// # }
+    /// ```
+    pub fn inspect_all(&self) -> Result<Vec<(TableKey, KeyState)>, Refused> {
+        let mut states = Vec::new();
+        self.for_each(|shard| shard.put_states(&mut states))?;
+        Ok(states)
+    }
+
     /// The key of the table that stands for this byte string: the one that edges, [`Locks::keys`] and traces name.
     #[must_use]
     pub fn table_key(&self, key: &[u8]) -> TableKey {

@@ -37,8 +37,8 @@
 //!
 //! A key has one shard, chosen by a hash with a random start. A shard is a [`LockTable`](crate::LockTable) behind a mutex.
 //! The table is proved: who waits, who is let through, and in which order. This module is not: it wakes those who were
-//! let through. It is tested (`tests/waiting.rs`, `tests/stress.rs`), and a run can be judged by the proved check
-//! ([`Trace`]).
+//! let through. It is tested (`tests/waiting.rs`, `tests/stress.rs`). The proved check judges the key steps of a run
+//! ([`Trace`]), and not whether everybody was woken.
 //!
 //! Allocations of this module itself end the process if they fail, as those of the standard library do.
 //!
@@ -70,6 +70,7 @@ mod future;
 mod job;
 mod locks;
 mod shard;
+mod statistics;
 mod table_key;
 mod trace;
 mod txn;
@@ -79,6 +80,7 @@ pub use error::{LockError, NumbersOut};
 pub use future::LockFuture;
 pub use locks::{Locks, Options};
 pub use shard::{Edge, StepSink};
+pub use statistics::{Statistics, Waits};
 pub use table_key::TableKey;
 pub use trace::Trace;
 pub use txn::Txn;

@@ -170,6 +170,13 @@ impl Shard {
         Ok(())
     }
 
+    pub(super) fn put_states(&mut self, states: &mut Vec<(TableKey, KeyState)>) -> Result<(), Refused> {
+        for key in self.table.keys()? {
+            states.push((TableKey::of_table(&key), self.table.key_state(&key)?));
+        }
+        Ok(())
+    }
+
     /// Makes a step, notes whom it lets through, and tells the sink.
     fn step(&mut self, key: &TableKey, pass: u32, call: Call) -> Result<Reply, Refused> {
         let (table, lets, key) = (&mut self.table, &mut self.lets, key.as_bytes());

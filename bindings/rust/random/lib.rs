@@ -1,0 +1,1 @@
+//! This package has tests alone: `tests/transactions.rs`.

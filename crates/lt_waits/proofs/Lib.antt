@@ -1,0 +1,5 @@
+mod ToldToWait
+mod Latest
+mod Callers
+mod Lost
+mod Example
