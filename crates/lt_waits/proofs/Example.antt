@@ -1,10 +1,15 @@
 -- The premises of the laws hold together in the example.
-use Rattle.std.proofs.Common.{◌≡◌, ◌≢◌, ℕ, zero, suc, ◌<◌, Bool, true, false, cond, inl, inr, [], ◌∷◌, map, get_or, refl, ap, arith, append-nil}
+use Rattle.std.proofs.Common.{◌≡◌, ◌≢◌, ℕ, zero, suc, ◌+◌, ◌<◌, ◌≤◌, Bool, true, false, cond, inl, inr, Some, List, [], ◌∷◌, length, map, slice_get, get_or, refl, ap, arith}
 use Rattle.std.specs.Prelude.{slice_index, IsTrue}
 use Rattle.std.specs.Str.{bytes_eq}
 use Rattle.std.specs.List.{AllByRecursion}
 use mathlib.Core.List.{IsPrefix}
 use Rattle.lt_ids.specs.Ids.{Wait, value_of}
+use Rattle.lt_ids.specs.declared.ticket.Through.{Through as Letting}
+use Rattle.lt_rules.specs.declared.call.Call.{Call}
+use Rattle.lt_rules.specs.declared.call.Reply.{Reply}
+use Rattle.lt_rules.specs.declared.call.Reply.TheVariants.{Taken, MustWait, Freed}
+use Rattle.lt_words.specs.declared.event.Event.{Event}
 use Rattle.lt_rules.specs.Step.{IsLegal}
 use Rattle.lt_entry.specs.Legal.{event_of, AreLegalKeys}
 use Rattle.lt_ids.specs.Key.{IsKey, is_key_byte}
@@ -16,8 +21,9 @@ use Rattle.lt_table_core.specs.Closed.{IsFinal}
 use Rattle.lt_table_core.specs.Reported.{Reported, IsPoll}
 use Rattle.lt_table_core.specs.declared.scan_results.Poll.TheVariants.{Through}
 use Rattle.lt_table_core.specs.Theorem.{AreHeard, IsEnd}
+use Rattle.lt_table_core.proofs.Lives.{sees_same}
 use Rattle.lt_waits.specs.Waits.{TellsOfWait, IsNoLater}
-use Rattle.lt_waits.specs.Example.{waited_key, first_wait, first_let, lock_taken, request_waits, lock_freed, waited_history, waited_table, one_took, one_freed, two_entered, two_waits, two_learned, told_step, told_one, told_two, waited_finals, before_poll, after_poll, SomePollHears}
+use Rattle.lt_waits.specs.Example.{waited_step, pass_after, waited_key, first_wait, first_let, lock_taken, request_waits, lock_freed, waited_history, waited_table, one_took, one_freed, two_entered, two_waits, two_learned, told_step, told_one, told_two, waited_finals, before_poll, after_poll, SomePollHears}
 
 -- the steps at a key: all of them, or none
 legal_at : (b : Bool) → IsLegal (map event_of (cond b (lock_taken ∷ cond b (request_waits ∷ cond b (lock_freed ∷ []) []) (cond b (lock_freed ∷ []) [])) (cond b (request_waits ∷ cond b (lock_freed ∷ []) []) (cond b (lock_freed ∷ []) []))))
@@ -38,81 +44,44 @@ no_other : (s a b : ℕ) → s ≢ 0 → slice_index (a ∷ []) s ≡ slice_inde
 no_other zero a b other = absurd (other refl)
 no_other (suc s) a b other = refl
 
-took : Reported (fresh waited_table 1) one_took (told_step lock_taken 0)
-took = record {
-  entry = lock_taken;
+-- A step at the key that a pass makes and reports, if it stands at this index after all that the pass had seen, and each of
+-- its lets was shown.
+abbrev reported : (number made at : ℕ) (seen seen' : List Event) (shown shown' lets : List Letting) (call : Call) (reply : Reply) → let e = waited_step number call reply lets in
+    slice_get (part 0 seen') at ≡ Some e → length (part 0 seen) ≤ at → IsPrefix seen seen' → IsPrefix shown shown' → AreShown shown' lets → Reported (pass_after number seen shown made) (pass_after number seen' shown' (made + 1)) (told_step e at)
+reported number made at seen seen' shown shown' lets call reply stands later begins also_shown lets_shown = record {
+  entry = waited_step number call reply lets;
   key_is = refl;
   call_is = refl;
   reply_is = refl;
   reports = record {
     own = refl;
-    stands = refl;
-    later = omega arith;
-    seen = (_, refl);
-    shown = (_, refl);
+    stands = stands;
+    later = later;
+    seen = begins;
+    shown = also_shown;
     takes = (_, refl);
-    lets_shown = tt;
+    lets_shown = lets_shown;
     counted = refl;
-    others = λ s other. no_other s 1 0 other;
+    others = λ s other. no_other s (made + 1) made other;
     taken = refl;
     of = refl;
     number = refl;
   };
   woken = (refl, refl);
 }
+
+took : Reported (fresh waited_table 1) one_took (told_step lock_taken 0)
+took = reported 1 0 0 [] one_took.seen [] [] [] lock_taken.call Taken refl (omega arith) (_, refl) (_, refl) tt
 
 waits : Reported two_entered two_waits (told_step request_waits 1)
-waits = record {
-  entry = request_waits;
-  key_is = refl;
-  call_is = refl;
-  reply_is = refl;
-  reports = record {
-    own = refl;
-    stands = refl;
-    later = omega arith;
-    seen = (_, refl);
-    shown = (_, refl);
-    takes = (_, refl);
-    lets_shown = tt;
-    counted = refl;
-    others = λ s other. no_other s 1 0 other;
-    taken = refl;
-    of = refl;
-    number = refl;
-  };
-  woken = (refl, refl);
-}
+waits = reported 2 0 1 two_entered.seen two_waits.seen [] [] [] request_waits.call MustWait refl (omega arith) (_, refl) (_, refl) tt
 
 abbrev freed : Reported one_took one_freed (told_step lock_freed 2)
-freed = record {
-  entry = lock_freed;
-  key_is = refl;
-  call_is = refl;
-  reply_is = refl;
-  reports = record {
-    own = refl;
-    stands = refl;
-    later = omega arith;
-    seen = (_, refl);
-    shown = (_, refl);
-    takes = (_, refl);
-    lets_shown = (omega arith, tt);
-    counted = refl;
-    others = λ s other. no_other s 2 1 other;
-    taken = refl;
-    of = refl;
-    number = refl;
-  };
-  woken = (refl, refl);
-}
-
-same : (p : PassState) → MakesNoStep p p
-same p = sees_more p p refl refl refl (_, append-nil p.seen) (_, append-nil p.shown) (_, append-nil p.takes)
+freed = reported 1 1 2 one_took.seen waited_history [] (first_let ∷ []) (first_let ∷ []) lock_freed.call Freed refl (omega arith) (_, refl) (_, refl) (omega arith, tt)
 
 heard : AreHeard waited_table (told_one ∷ told_two ∷ []) (one_freed ∷ two_learned ∷ [])
 heard = (
-  (fresh waited_table 1, one_took, same (fresh waited_table 1), took, (one_took, one_freed, same one_took, freed, same one_freed)),
+  (fresh waited_table 1, one_took, sees_same (fresh waited_table 1), took, (one_took, one_freed, sees_same one_took, freed, sees_same one_freed)),
   ((λ one. absurd (omega (arith, one))), tt),
   ((two_entered, two_waits, sees_more (fresh waited_table 2) two_entered refl refl refl (_, refl) (_, refl) (_, refl), waits, sees_more two_waits two_learned refl refl refl (_, refl) (_, refl) (_, refl)), tt, tt),
 )
@@ -184,7 +153,7 @@ some_poll_hears = (
   omega arith,
   end,
   heard,
-  record { index = 1; pass = two_learned; after = []; is_pass = refl; is_told = refl; later = same two_learned },
+  record { index = 1; pass = two_learned; after = []; is_pass = refl; is_told = refl; later = sees_same two_learned },
   record { drawn = omega arith; latest = (only_wait, tt) },
   freed,
   inl (refl, refl),

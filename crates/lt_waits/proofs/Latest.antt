@@ -25,23 +25,21 @@ use Rattle.lt_table_core.specs.Machine.{Asked, after_status, scan_start_in, scan
 use Rattle.lt_table_core.specs.Reported.{AreReported, GuardState, IsScan, IsPoll, StoppedLeaving, current_wait}
 use Rattle.lt_table_core.specs.Theorem.{Told, steps_told}
 use Rattle.lt_table_core.specs.Theorem.Told.{Made, WasLet}
+use Rattle.lt_table_core.proofs.Lives.{sees_same}
 use Rattle.lt_waits.specs.Waits.{TellsOfWait, IsNoLater, AreNoLater, AreOfDraws, IsInLatestWait, AreNoVisits}
 use Rattle.lt_waits.specs.Laws.{LaterBegins, NoWaitIsToldWithoutRequest, EnteredIsInLatestWait, LatestWaitStaysLatest, LeftIsOfDraws}
 
 -- ---- what was told
 
-prefix_self : {A : Type 0} (xs : List A) → IsPrefix xs xs
-prefix_self xs = ([], append-nil xs)
-
 pub later_begins : LaterBegins
-later_begins p = record { of = refl; number = refl; counts = refl; seen = prefix_self p.seen; shown = prefix_self p.shown; takes = prefix_self p.takes }
+later_begins p = sees_same p
 
 pub told_then : (a b : List Told) → steps_told (a ++ b) ≡ steps_told a ++ steps_told b
 told_then [] b = refl
 told_then (Made x ∷ a) b = ap (λ l. x ∷ l) (told_then a b)
 told_then (WasLet t ∷ a) b = told_then a b
 
-pub told_made : (steps : List Step) → steps_told (map Made steps) ≡ steps
+told_made : (steps : List Step) → steps_told (map Made steps) ≡ steps
 told_made [] = refl
 told_made (x ∷ steps) = ap (λ l. x ∷ l) (told_made steps)
 
@@ -114,7 +112,7 @@ met_waits p false false = (omega arith, λ e. absurd (let never : false ≡ true
 same_ticket : (t u : Wait) (txn txn' : Option ℕ) (ts ts' : Timestamp) (access access' : Access) (longest longest' : ℕ) → Visit t txn ts access longest ≡ Visit u txn' ts' access' longest' → t ≡ u
 same_ticket t u txn txn' ts ts' access access' longest longest' is = cc is
 
-same_item : {A : Type 0} (x y : A) → Some x ≡ Some y → x ≡ y
+pub same_item : {A : Type 0} (x y : A) → Some x ≡ Some y → x ≡ y
 same_item x y is = cc is
 
 -- the call of the visit that comes next, if one does

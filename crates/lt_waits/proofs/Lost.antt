@@ -1,5 +1,5 @@
 -- No later wait of a request's pass was let through, so no wake-up is lost.
-use Rattle.std.proofs.Common.{◌≡◌, ℕ, zero, suc, ◌^◌, ◌<◌, ◌≤◌, ◌⊎◌, Bool, true, false, nat_lt, inl, inr, ⊎_elim, Option, Some, None, Result, Ok, Err, List, [], ◌∷◌, ◌++◌, map, length, slice_get, refl, sym, ◌∙◌, ap, subst, arith, append-nil}
+use Rattle.std.proofs.Common.{◌≡◌, ℕ, ◌^◌, ◌<◌, ◌≤◌, ◌⊎◌, Bool, true, false, nat_lt, inl, inr, ⊎_elim, Option, Some, None, Result, Ok, Err, List, [], ◌++◌, map, length, slice_get, refl, sym, ◌∙◌, ap, subst, arith, append-nil}
 use mathlib.Core.List.{IsPrefix}
 use Rattle.lt_ids.specs.Ids.{Wait, value_of}
 use Rattle.lt_rules.specs.declared.call.Call.{Call}
@@ -21,24 +21,18 @@ use Rattle.lt_table_core.specs.declared.scan_results.Scan.TheVariants.{Proceed, 
 use Rattle.lt_table_core.specs.declared.scan_results.ScanError.{ScanError}
 use Rattle.lt_table_core.specs.declared.scan_results.ScanError.TheVariants.{StillWaiting, WaitsOut}
 use Rattle.lt_table_core.specs.Machine.{Step, WalkState, after_status, scan_start, scan_end, is_awaiting, is_stopped, next_visit, of_step, Ends, IsScanBegun}
-use Rattle.lt_table_core.specs.Reported.{shard_at, AreReported, current_wait}
+use Rattle.lt_table_core.specs.Reported.{shard_at, current_wait}
 use Rattle.lt_table_core.specs.Closed.{IsFinal}
 use Rattle.lt_table_core.specs.Laws.{LaterLet, ShownIsThrough, ShownGoesOn, NoWakeUpIsLost, at_index_of}
 use Rattle.lt_table_core.specs.Theorem.Told.{Made}
 use Rattle.lt_table_core.specs.Theorem.{Told, AreHeard, steps_told, ShardHistories, IsInFinal, TheMainTheorem, MainTheorem}
 use Rattle.lt_waits.specs.Waits.{TellsOfWait, IsNoLater, HadHeard, WasToldToWait}
 use Rattle.lt_waits.specs.Laws.{NoLaterWaitIsLet, ShownIsAlwaysThrough, ShownAlwaysGoesOn, NoWakeUpIsEverLost}
-use Rattle.lt_waits.proofs.Latest.{told_then}
+use Rattle.lt_table_core.proofs.InPlace.{inside_length}
+use Rattle.lt_table_core.proofs.WentOn.{reported_stays}
+use Rattle.lt_waits.proofs.Latest.{told_then, same_item}
 use Rattle.lt_waits.proofs.Callers.{heard_grows, IsLaterThan, all_later, IsAmong, among_both, holds_among, IsCallerOf, caller_of, item_of, one_index, of_table}
 use Rattle.lt_waits.proofs.ToldToWait.{let_was_told_to_wait}
-
-inside : {A : Type 0} (xs : List A) (k : ℕ) (x : A) → slice_get xs k ≡ Some x → k < length xs
-inside [] k x is = absurd cc
-inside (y ∷ xs) zero x is = omega arith
-inside (y ∷ xs) (suc k) x is = omega (arith, inside xs k x is)
-
-same_item : {A : Type 0} (x y : A) → Some x ≡ Some y → x ≡ y
-same_item x y is = cc is
 
 -- a wait that is no later has no greater value
 no_greater : (t u : Wait) → t.wait < 2 ^ 24 → IsNoLater t u → value_of t ≤ value_of u
@@ -67,7 +61,7 @@ not_later : (of : Opening) (now : PassState) (x : Step) (s k : ℕ) (e : Entry) 
 not_later of now x s k e same shard index at later =
     let place : shard_at now x ≡ s = ap (λ (o : Opening). shard_of x.key o.shards) same ∙ shard in
     let low : length (part s now.seen) ≤ x.answer.at = subst (λ j. length (part j now.seen) ≤ x.answer.at) place later in
-    let high : k < length (part s now.seen) = inside (part s now.seen) k e at in
+    let high : k < length (part s now.seen) = inside_length (part s now.seen) k e at in
     omega (arith, low, high, index)
 
 pub no_later_wait_is_let : LetsEndWaits → PartsAreLegal → PrefixesAreLegal → TheMainTheorem → NoLaterWaitIsLet
@@ -83,7 +77,7 @@ no_later_wait_is_let ends legal_parts legal_prefixes main of ps finals all told 
     let stands : slice_get (finals w.shard w.below) w.index ≡ Some w.entry =
     prefix_get (part w.shard now.seen) (finals w.shard w.below) w.index w.entry (prefix_trans (part w.shard now.seen) (part w.shard p.seen) (finals w.shard w.below) (part_prefix w.shard now.seen p.seen grows.0) seen) w.at in
     let theorem : MainTheorem of ps finals end all heard = main of ps finals end all heard in
-    let once : at_index_of of.shards w.shard w.index (map steps_told all) ≡ 1 = theorem.once w.shard w.index w.below (inside (finals w.shard w.below) w.index w.entry stands) in
+    let once : at_index_of of.shards w.shard w.index (map steps_told all) ≡ 1 = theorem.once w.shard w.index w.below (inside_length (finals w.shard w.below) w.index w.entry stands) in
     let c : IsCallerOf of finals w.shard w.index all ps = caller_of of finals w.shard w.index all ps heard theorem.stands (omega (arith, once)) in
     let x : Step = c.tells.step in
     let st : IsInFinal of finals c.pass.number x = c.tells.stands in
@@ -119,10 +113,6 @@ pub no_wake_up_is_ever_lost : NoLaterWaitIsLet → NoWakeUpIsLost → NoWakeUpIs
 no_wake_up_is_ever_lost none law of ps finals all told before after x old new result some end heard had was step among told_of waits poll =
     ⊎_elim (λ is. is) (λ later. absurd (none of ps finals all told old new.pass some end heard had was (to_pass new.pass.seen new.pass.number old.pass.number (current_wait old.walk) poll.reads.number later))) (law before after x old new result step among told_of waits poll)
 
-reported_number : (p : PassState) (steps : List Step) (q : PassState) → AreReported p steps q → q.number ≡ p.number
-reported_number p [] q same = ap (λ (s : PassState). s.number) same
-reported_number p (x ∷ steps) q r = reported_number r.0 steps q r.2 ∙ r.1.reports.number
-
 not_at_end : (waits stops inside waited : Bool) (p : Progress) (keys : ℕ) → is_awaiting p.mode ≡ waits → is_stopped p.mode ≡ stops → nat_lt p.index keys ≡ inside → p.waited ≡ waited → (scan_end keys p).result ≡ Err StillWaiting → ⊥
 not_at_end true stops inside waited p keys a b c d is = let r : (scan_end keys p).result ≡ Ok (Waiting p.index) = rw a refl in cc
 not_at_end false true inside waited p keys a b c d is = let r : (scan_end keys p).result ≡ Ok (TooLong p.index) = rw (a, b) refl in cc
@@ -147,7 +137,7 @@ pub shown_always_goes_on : NoLaterWaitIsLet → ShownGoesOn → ShownAlwaysGoesO
 shown_always_goes_on none law of ps finals all told old new max_waits result scan some end heard had was waits shown is =
     let nothing : scan.steps ≡ [] = none_made (scan_start (after_status old.walk.asked.number old.walk.progress scan.word)) max_waits old.walk scan.steps result new.walk scan.scan is in
     let same : told ++ map Made scan.steps ≡ told = ap (λ l. told ++ map Made l) nothing ∙ append-nil told in
-    let number : new.pass.number ≡ old.pass.number = reported_number scan.read scan.steps new.pass scan.reported ∙ scan.reads.number in
+    let number : new.pass.number ≡ old.pass.number = (reported_stays scan.read scan.steps new.pass scan.reported).number ∙ scan.reads.number in
     ⊎_elim (λ not. not is)
     (λ later. none of ps finals all told old new.pass some end heard (subst (λ l. HadHeard ps all l new.pass) same had) was (to_pass new.pass.seen new.pass.number old.pass.number (current_wait old.walk) number later))
     (law max_waits old new result scan waits shown)

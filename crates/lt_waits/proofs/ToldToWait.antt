@@ -1,5 +1,5 @@
 -- Who is let through had been told to wait.
-use Rattle.std.proofs.Common.{◌≡◌, ℕ, zero, suc, ◌<◌, ◌==◌, Bool, true, false, cond, inl, inr, Some, List, [], ◌∷◌, ◌++◌, map, slice_get, refl, sym, ◌∙◌, ap, subst, eq-eqb}
+use Rattle.std.proofs.Common.{◌≡◌, ℕ, suc, ◌<◌, ◌==◌, Bool, true, false, cond, inl, inr, Some, List, [], ◌∷◌, ◌++◌, map, slice_get, refl, sym, ◌∙◌, ap, subst, eq-eqb}
 use Rattle.std.proofs.lemmas.List.{map-append}
 use Rattle.std.proofs.lemmas.List.Elements.{filter-append}
 use Rattle.std.proofs.lemmas.Slice.Eq.{bytes_eq-Decides}
@@ -17,6 +17,7 @@ use Rattle.lt_words.specs.declared.event.Event.{Event}
 use Rattle.lt_words.specs.declared.event.Event.TheVariants.{Opened, Draw, Step}
 use Rattle.lt_words.specs.History.{part, shard_of, StepsAreInTheirShards, IsLetAmong, LetIn}
 use Rattle.lt_words.specs.Laws.{PartsAreLegal}
+use Rattle.lt_words.proofs.Prefixes.{prefix_more, prefix_get}
 use Rattle.lt_waits.specs.Laws.{LetWasToldToWait}
 
 -- ---- the step that lets a ticket through, in its shard's part
@@ -85,11 +86,6 @@ event_at key [] [] e since is = absurd cc
 event_at key [] (x ∷ before) e since is = absurd cc
 event_at key (f ∷ es) before e since is = event_here (bytes_eq f.key key) f es (key_part key es) before e since (λ rest found. event_at key es rest e since found) is
 
-at_front : (front back : List Entry) (k : ℕ) (f : Entry) → slice_get front k ≡ Some f → slice_get (front ++ back) k ≡ Some f
-at_front [] back k f is = absurd cc
-at_front (x ∷ front) back zero f is = is
-at_front (x ∷ front) back (suc k) f is = at_front front back k f is
-
 -- the history of the key of one of these steps
 key_split : (front back : List Entry) (e : Entry) → map event_of (key_part e.key (front ++ e ∷ back)) ≡ map event_of (key_part e.key front) ++ event_of e ∷ map event_of (key_part e.key back)
 key_split front back e =
@@ -114,7 +110,7 @@ let_was_told_to_wait ends legal_parts shards h p t some legal was =
       below = subst (λ s. s < shards) (sym found.home) (mod-lt _ some);
       index = told.0;
       entry = told.1;
-      at = subst (λ l. slice_get l told.0 ≡ Some told.1) (sym found.split) (at_front found.front (found.entry ∷ found.back) told.0 told.1 told.2);
+      at = subst (λ l. slice_get l told.0 ≡ Some told.1) (sym found.split) (prefix_get found.front (found.front ++ found.entry ∷ found.back) told.0 told.1 (prefix_more found.front (found.entry ∷ found.back)) told.2);
       pass = ap (λ (e : KeyEvent). e.pass) told.3 ∙ (w.tells.pass ∙ waited.2);
       txn = w.tells.txn;
       ts = w.tells.ts;

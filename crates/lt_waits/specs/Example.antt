@@ -5,7 +5,9 @@ use Rattle.lt_ids.specs.Ids.{Wait}
 use Rattle.lt_ids.specs.declared.ticket.Through.{Through as Letting}
 use Rattle.lt_ids.specs.declared.timestamp.Timestamp.{Timestamp}
 use Rattle.lt_ids.specs.declared.request.Access.TheVariants.{Write}
+use Rattle.lt_rules.specs.declared.call.Call.{Call}
 use Rattle.lt_rules.specs.declared.call.Call.TheVariants.{Visit, Acquire, Finish}
+use Rattle.lt_rules.specs.declared.call.Reply.{Reply}
 use Rattle.lt_rules.specs.declared.call.Reply.TheVariants.{Taken, MustWait, Freed}
 use Rattle.lt_entry.specs.declared.entry.Entry.{Entry}
 use Rattle.lt_words.specs.declared.event.Event.{Event}
@@ -35,15 +37,19 @@ first_wait = record { number = 1; wait = 1 }
 abbrev pub first_let : Letting
 first_let = record { pass = 2; ticket = first_wait }
 
+-- a step at the key
+abbrev pub waited_step : ℕ → Call → Reply → List Letting → Entry
+waited_step pass call reply lets = record { key = waited_key; pass = pass; call = call; reply = reply; lets = lets }
+
 -- transaction 1 takes the lock by pass 1; request 1 has to wait by pass 2, for transaction 2; the lock is freed for it
 abbrev pub lock_taken : Entry
-lock_taken = record { key = waited_key; pass = 1; call = Acquire 1 waited_time; reply = Taken; lets = [] }
+lock_taken = waited_step 1 (Acquire 1 waited_time) Taken []
 
 abbrev pub request_waits : Entry
-request_waits = record { key = waited_key; pass = 2; call = Visit first_wait (Some 2) waited_time Write 0; reply = MustWait; lets = [] }
+request_waits = waited_step 2 (Visit first_wait (Some 2) waited_time Write 0) MustWait []
 
 abbrev pub lock_freed : Entry
-lock_freed = record { key = waited_key; pass = 1; call = Finish 1; reply = Freed; lets = first_let ∷ [] }
+lock_freed = waited_step 1 (Finish 1) Freed (first_let ∷ [])
 
 abbrev pub waited_history : List Event
 waited_history = Step 0 lock_taken ∷ Draw 2 1 ∷ Step 0 request_waits ∷ Step 0 lock_freed ∷ []
