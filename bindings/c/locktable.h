@@ -121,8 +121,17 @@ enum lt_code {
     LT_WAIT_OWN = 49        /* look: the lock is reserved for another request of its own transaction */
 };
 
+/* The version of this header: the first number of the version times 1,000,000, the second times 1,000, and the third. */
+#define LT_VERSION 1000
+
 /* A table. All zero is a closed one. */
 struct lt_table {
+    bool is_open;
+    void *at;
+};
+
+/* The check of a text that comes in pieces. All zero is a closed one. */
+struct lt_text_check {
     bool is_open;
     void *at;
 };
@@ -344,6 +353,40 @@ size_t lt_shard_of(const uint8_t *key, size_t key_len, size_t shards);
  * have any length.
  */
 uint32_t lt_check(const uint8_t *text, size_t len, struct lt_report *report);
+
+/*
+ * THE CHECK OF A TEXT IN PIECES, for texts that do not fit into memory, or that are still being written. A caller begins a
+ * check, gives it the pieces of the text in order, and ends it. Where the text is cut does not matter. The check keeps a
+ * line that is not whole yet, and the record of one key. What a caller owes a table, he owes a check too.
+ */
+
+/*
+ * Begins a check.
+ *
+ * Answers LT_DONE, or refuses: LT_OPEN_ALREADY, LT_MEMORY.
+ */
+uint32_t lt_check_begin(struct lt_text_check *check);
+
+/*
+ * Checks the next piece of the text. Answers LT_DONE if no fault was found so far. Once there is a fault, it answers this
+ * fault, and every later piece is answered so too: whatever comes after does not change it. The fault of a line is found
+ * at the latest with the piece that ends the line. If an allocation fails, the check is over: it answers LT_MEMORY from then
+ * on.
+ *
+ * Refuses: LT_CLOSED.
+ */
+uint32_t lt_check_piece(struct lt_text_check *check, const uint8_t *piece, size_t len);
+
+/*
+ * Ends the check, which is then closed, and says of the whole text what lt_check says: the same code and the same report.
+ * After LT_MEMORY the report is as it was. Texts of 2^64 bytes are not spoken of.
+ *
+ * Refuses: LT_CLOSED.
+ */
+uint32_t lt_check_end(struct lt_text_check *check, struct lt_report *report);
+
+/* The version of the library, counted as LT_VERSION is. */
+uint32_t lt_version(void);
 
 #ifdef __cplusplus
 }

@@ -4,7 +4,8 @@
  *   worked      plays the texts of ../worked, most of them worked examples of docs/RULES.md and docs/FORMATS.md, call by
  *               call: with short and long keys, with arrays of 0 to 3 lets, and with each allocation refused in turn
  *   refusals    each code, in the order in which it is tested, and at both ends of each range
- *   checks      lt_check on the worked texts and on the faulty ones of docs/FORMATS.md
+ *   checks      lt_check on the worked texts and on the faulty ones of docs/FORMATS.md, these whole and cut into pieces of
+ *               every length
  *   random      CALLS random calls, 1,000,000 by default, beside the rules in plain C (rules.c), in which every case of
  *               the rules must occur (cases.h)
  *
@@ -543,6 +544,47 @@ static const struct {
     {"a-scan-over-three-keys", "c 1 1", "A 1 1", LT_FAULT_KEY_ORDER, 8},
 };
 
+/* The verdict on the text if it comes in pieces of so many bytes. A fault is told from the piece on that ends its line. */
+static uint32_t in_pieces(const uint8_t *text, size_t len, size_t piece, struct lt_report *report) {
+    struct lt_text_check check = {0};
+    uint32_t so_far = LT_DONE;
+    WANT(note(lt_check_begin(&check)) == LT_DONE && note(lt_check_begin(&check)) == LT_OPEN_ALREADY);
+    for (size_t at = 0; at < len; at += piece) {
+        uint32_t code = note(lt_check_piece(&check, text + at, piece < len - at ? piece : len - at));
+        WANT(so_far == LT_DONE || code == so_far);
+        so_far = code;
+    }
+    WANT(so_far == LT_DONE || report->line == 9);
+    uint32_t code = note(lt_check_end(&check, report));
+    WANT(so_far == LT_DONE || code == so_far);
+    WANT(!check.is_open && lt_check_end(&check, report) == LT_CLOSED && lt_check_piece(&check, text, 0) == LT_CLOSED);
+    return code;
+}
+
+/* Each allocation of a check in pieces fails in turn. The check is then over, and says so until its end. */
+static void refused_in_pieces(const uint8_t *text, size_t len, size_t piece) {
+    for (size_t refused = 1;; refused++) {
+        struct lt_text_check check = {0};
+        struct lt_report report = {9, 9, 9, 9};
+        bool failed = false;
+        refuse_in = refused;
+        if (lt_check_begin(&check) == LT_MEMORY) {
+            WANT(!check.is_open);
+            continue;
+        }
+        for (size_t at = 0; at < len; at += piece) {
+            uint32_t code = lt_check_piece(&check, text + at, piece < len - at ? piece : len - at);
+            WANT(!failed || code == LT_MEMORY);
+            failed |= code == LT_MEMORY;
+        }
+        failed |= lt_check_end(&check, &report) == LT_MEMORY;
+        WANT(!failed || report.line == 9);
+        bool was_asked = refuse_in == 0;
+        refuse_in = 0;
+        if (!failed && !was_asked) return;
+    }
+}
+
 static void checks(const char *folder) {
     for (size_t i = 0; i < sizeof changes / sizeof *changes; i++) {
         char *text = text_of(folder, changes[i].name), *changed = malloc(4096);
@@ -557,6 +599,12 @@ static void checks(const char *folder) {
             fprintf(stderr, "change %zu: code %u, line %zu\n", i, code, report.line);
             exit(1);
         }
+        for (size_t piece = 1; piece <= strlen(changed); piece++) {
+            struct lt_report pieces = {9, 9, 9, 9};
+            WANT(in_pieces(bytes, strlen(changed), piece, &pieces) == code && pieces.line == report.line);
+            WANT(pieces.version == report.version && pieces.keys == report.keys && pieces.steps == report.steps);
+        }
+        refused_in_pieces(bytes, strlen(changed), 17);
         if (code == LT_DONE)
             WANT(report.keys == 1 && report.steps == lines_of(changed) - 1 && report.version == changed[6] - '0');
         else
@@ -567,6 +615,17 @@ static void checks(const char *folder) {
     struct lt_report report = {9, 9, 9, 9};
     WANT(lt_check((const uint8_t *)"", 0, &report) == LT_FAULT_HEADER && report.line == 1);
     WANT(lt_check((const uint8_t *)"locks 1\n", 8, &report) == LT_DONE && report.version == 1 && report.keys == 0);
+    struct lt_report pieces = {9, 9, 9, 9};
+    WANT(in_pieces((const uint8_t *)"", 0, 1, &pieces) == LT_FAULT_HEADER && pieces.line == 1);
+    struct lt_table table = {0};
+    WANT(lt_table_open(&table, START) == LT_DONE);
+    WANT(lt_check_piece((struct lt_text_check *)&table, (const uint8_t *)"", 0) == LT_CLOSED && table.is_open);
+    WANT(lt_check_end((struct lt_text_check *)&table, &pieces) == LT_CLOSED && table.is_open);
+    WANT(lt_table_close(&table) == LT_DONE);
+    struct lt_text_check check = {0};
+    WANT(lt_check_begin(&check) == LT_DONE && lt_table_close((struct lt_table *)&check) == LT_CLOSED && check.is_open);
+    WANT(lt_check_end(&check, &pieces) == LT_FAULT_HEADER);
+    WANT(lt_version() == LT_VERSION);
 }
 
 /* RANDOM CALLS. */

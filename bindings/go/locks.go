@@ -221,6 +221,64 @@ func (l *Locks) Edges() ([]Edge, error) {
 	return all, err
 }
 
+// Deadlocks finds who waits for one another in a cycle. A cycle has the edge of each of its transactions, from the youngest on,
+// which is the one with the greatest number: Edge.WaitsFor is the Edge.Waiter of the next, and that of the last the youngest.
+// The call asks for the edges twice, and answers the cycles whose waits went on in between. Call it from time to time and doom
+// the youngest of each cycle: a deadlock ends once that transaction is restarted or released.
+func (l *Locks) Deadlocks() ([][]Edge, error) {
+	before, err := l.waits()
+	if err != nil {
+		return nil, err
+	}
+	now, err := l.waits()
+	if err != nil {
+		return nil, err
+	}
+	var all [][]Edge
+	for txn := range before {
+		if cycle := cycleFrom(txn, before); cycle != nil && goOn(cycle, now) {
+			all = append(all, cycle)
+		}
+	}
+	return all, nil
+}
+
+// waits has the edge of each transaction that waits, by its number. A transaction waits at one key at a time.
+func (l *Locks) waits() (map[uint64]Edge, error) {
+	edges, err := l.Edges()
+	waits := make(map[uint64]Edge, len(edges))
+	for _, edge := range edges {
+		waits[edge.Waiter] = edge
+	}
+	return waits, err
+}
+
+// cycleFrom is the cycle whose youngest transaction is this one, or nil.
+func cycleFrom(youngest uint64, waits map[uint64]Edge) (cycle []Edge) {
+	for next := youngest; len(cycle) < len(waits); {
+		edge, isWaiting := waits[next]
+		if !isWaiting || next > youngest {
+			return nil
+		}
+		cycle, next = append(cycle, edge), edge.WaitsFor
+		if next == youngest {
+			return cycle
+		}
+	}
+	return nil
+}
+
+// goOn tells whether each wait of the cycle is among these, and is for the same transaction.
+func goOn(cycle []Edge, waits map[uint64]Edge) bool {
+	for _, edge := range cycle {
+		now, isWaiting := waits[edge.Waiter]
+		if !isWaiting || now.Wait != edge.Wait || now.WaitsFor != edge.WaitsFor {
+			return false
+		}
+	}
+	return true
+}
+
 // Keys are those of the table that are held, reserved or waited for, in the order of their bytes in each shard. The call
 // sorts the keys of a shard under the mutex of that shard.
 func (l *Locks) Keys() ([]string, error) {

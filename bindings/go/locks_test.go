@@ -102,6 +102,103 @@ func answer(ended <-chan error) error {
 	}
 }
 
+// Each of so many transactions holds a key and waits for the next one's. They begin to wait in the order of their numbers, or
+// against it, so any of them may close the cycle. A further transaction waits beside them.
+func TestTheYoungestOfADeadlockIsFoundFirst(t *testing.T) {
+	for _, many := range []int{2, 3, 7} {
+		for _, upwards := range []bool{true, false} {
+			t.Run(fmt.Sprint(many, " upwards ", upwards), func(t *testing.T) {
+				locks := open(t, Options{})
+				key := func(i int) string { return fmt.Sprint("key", i%many) }
+				txns := make([]*Txn, many)
+				for i := range txns {
+					txns[i] = begin(t, locks, 0)
+					if err := txns[i].Lock(forEver, key(i)); err != nil {
+						t.Fatal(err)
+					}
+				}
+				beside := begin(t, locks, 0)
+				ended := make([]<-chan error, many)
+				wait := func(i int) {
+					ended[i] = launch(func() error { return txns[i].Lock(forEver, key(i+1)) })
+					waitsAt(txns[i], key(i+1))
+				}
+				expect := func(want ...uint64) {
+					t.Helper()
+					cycles, err := locks.Deadlocks()
+					var found []uint64
+					for _, cycle := range cycles {
+						for i, edge := range cycle {
+							found = append(found, edge.Waiter)
+							if next := cycle[(i+1)%len(cycle)].Waiter; edge.WaitsFor != next {
+								t.Errorf("%d waits for %d, and next is %d", edge.Waiter, edge.WaitsFor, next)
+							}
+						}
+					}
+					if !reflect.DeepEqual(found, want) || err != nil {
+						t.Errorf("found %v %v, want %v", found, err, want)
+					}
+				}
+				for i := 0; i < many; i++ {
+					expect()
+					if upwards {
+						wait(i)
+					} else {
+						wait(many - 1 - i)
+					}
+				}
+				besideEnded := launch(func() error { return beside.Lock(forEver, key(0)) })
+				waitsAt(beside, key(0))
+
+				// The transactions have the numbers 1 to many, and the last waits for the first.
+				want := []uint64{uint64(many)}
+				for number := 1; number < many; number++ {
+					want = append(want, uint64(number))
+				}
+				expect(want...)
+				locks.Doom(want[0])
+				if err := answer(ended[many-1]); err != ErrDoomed {
+					t.Error("the youngest:", err)
+				}
+				expect()
+				for i := many - 1; i >= 0; i-- {
+					if i < many-1 {
+						if err := answer(ended[i]); err != nil {
+							t.Error("an older one:", err)
+						}
+					}
+					txns[i].Release()
+				}
+				if err := answer(besideEnded); err != nil {
+					t.Error("beside:", err)
+				}
+			})
+		}
+	}
+}
+
+func TestOnlyWaitsThatGoOnAreADeadlock(t *testing.T) {
+	first, second := Edge{Waiter: 1, Wait: 4, WaitsFor: 2}, Edge{Waiter: 2, Wait: 5, WaitsFor: 1, Held: true}
+	for name, it := range map[string]struct {
+		now  []Edge
+		want bool
+	}{
+		"both wait":                 {[]Edge{first, second}, true},
+		"the lock has become free":  {[]Edge{first, {Waiter: 2, Wait: 5, WaitsFor: 1}}, true},
+		"one does not wait":         {[]Edge{first}, false},
+		"one waits anew":            {[]Edge{first, {Waiter: 2, Wait: 6, WaitsFor: 1, Held: true}}, false},
+		"one waits for another one": {[]Edge{first, {Waiter: 2, Wait: 5, WaitsFor: 3, Held: true}}, false},
+	} {
+		waits := map[uint64]Edge{}
+		for _, edge := range it.now {
+			waits[edge.Waiter] = edge
+		}
+		if goOn([]Edge{second, first}, waits) != it.want {
+			t.Error(name)
+		}
+	}
+}
+
 func TestEachRowOfCallsIsAnsweredAsTheRulesSay(t *testing.T) {
 	type row struct {
 		txn  int // 0 to 2: each is at the timestamp of its index
@@ -278,8 +375,9 @@ func TestACloseEndsEachWaitAndCall(t *testing.T) {
 	_, begun := locks.Begin(Timestamp{})
 	_, keys := locks.Keys()
 	_, edges := locks.Edges()
+	_, cycles := locks.Deadlocks()
 	_, tried := second.TryLock("b")
-	for i, err := range append(failed, begun, keys, edges, tried) {
+	for i, err := range append(failed, begun, keys, edges, cycles, tried) {
 		if err != ErrClosed && (i > 0 || err != nil) {
 			t.Errorf("%d: %v", i, err)
 		}

@@ -128,6 +128,7 @@ func TestACallThatGetsNoMemoryChangesNothing(t *testing.T) {
 		{"Read", always, nil, func(s *scene) error { return s.other.Read(forEver, free) }},
 		{"LockAll", always, nil, func(s *scene) error { return s.first.LockAll(forEver, all) }},
 		{"Edges", always, nil, func(s *scene) error { _, err := s.locks.Edges(); return err }},
+		{"Deadlocks", always, nil, func(s *scene) error { _, err := s.locks.Deadlocks(); return err }},
 		{"Keys", always, nil, func(s *scene) error { _, err := s.locks.Keys(); return err }},
 		{"Doom", never, nil, func(s *scene) error { return isTrue(s.locks.Doom(s.other.ID()), nil) }},
 		{"Raise", never, nil, func(s *scene) error { s.first.Raise(Timestamp{Wall: 9}); return nil }},

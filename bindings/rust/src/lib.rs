@@ -5,8 +5,8 @@
 //! - [`sync::Locks`] is for threads and tasks: they lock keys, wait with deadlines or as futures, and free what they locked
 //!   by a drop.
 //! - [`LockTable`] serves one thread at a time, and leaves waiting and waking to its caller. It is `Send` and not `Sync`:
-//!   several threads share one behind a lock, for example a `Mutex`. No contract of the archive says that it is `Send`:
-//!   `bindings/c/locktable.h`, THREADS, says on what that rests.
+//!   several threads share one behind a lock, for example a `Mutex`. That it is `Send` is proved: `bindings/c/locktable.h`,
+//!   THREADS.
 //! - [`check`] says whether a trace follows the rules.
 //!
 //! ```

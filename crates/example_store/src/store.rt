@@ -15,7 +15,7 @@
 //! Read next `src/request.rt`, the way of one request through the table, and `src/cell.rt`.
 ghost use Rattle.std.specs.Prelude.{◌≡◌, Some, IfOk, OnErr, IsSomeAnd, slice_get};
 ghost use Rattle.lt_rules.specs.declared.call.Call.TheVariants.{Finish};
-ghost use Rattle.lt_table_core.specs.Reported.{ReportsCall};
+ghost use Rattle.lt_walk.specs.Reported.{ReportsCall};
 ghost use Rattle.example_store.specs.Values.{KnowsInstall};
 
 use crate::cell::{Intent, Reading, ValueCell};

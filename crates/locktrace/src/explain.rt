@@ -5,14 +5,14 @@ use crate::failure::TraceFailure;
 use crate::follow::{follow_steps, write_text};
 use crate::gather::Gatherer;
 use crate::input::{is_regular, open_reader};
-use lt_audit::{
-    AuditError, BadWord, Explained, LineReason, bad_word, explain, read_first_line, rule_of,
-};
 use lt_checker::{Expected, Line};
 use lt_ids::Ticket;
-use lt_picture::{put_printable, put_state};
 use lt_rules::KeyState;
 use lt_text::put::{put_number_word, put_reply, put_ticket, put_word};
+use lt_trace_check::{
+    AuditError, BadWord, Explained, LineReason, bad_word, explain, read_first_line, rule_of,
+};
+use lt_trace_picture::{put_printable, put_state};
 use std::alloc::{AllocError, Global};
 use std::fs::Files;
 use std::io::{BufRead, Write};

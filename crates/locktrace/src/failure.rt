@@ -2,10 +2,10 @@
 ghost use Rattle.std.specs.Prelude.{◌≡◌};
 ghost use Rattle.locktrace.specs.declared.failure.TraceFailure.TheVariants.{Memory};
 
-use lt_audit::AuditError;
 use lt_checker::{CheckError, HistoryLineError};
-use lt_picture::PictureError;
 use lt_trace::{SortError, TraceFault};
+use lt_trace_check::AuditError;
+use lt_trace_picture::PictureError;
 use std::alloc::{AllocError, AllocFailed};
 use std::io::ErrorKind;
 use thiserror::Error;

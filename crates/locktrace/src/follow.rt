@@ -3,7 +3,7 @@
 use crate::failure::{TraceFailure, fault_of, of_check, of_line};
 use lt_checker::{Checker, Fault, Line, Report, read_line};
 use lt_ids::Key;
-use lt_picture::ShownStep;
+use lt_trace_picture::ShownStep;
 use std::alloc::Global;
 use std::io::{BufRead, ErrorKind, Write};
 

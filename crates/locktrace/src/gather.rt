@@ -4,8 +4,8 @@ use crate::failure::TraceFailure;
 use crate::follow::StepTaker;
 use lt_checker::Report;
 use lt_ids::Key;
-use lt_picture::ShownStep;
-use lt_statistics::{
+use lt_trace_picture::ShownStep;
+use lt_trace_statistics::{
     HotKey, LongestQueue, LongestWait, Statistics, StepCounts, StepFacts, TextSummary,
 };
 use std::alloc::{AllocError, Global};

@@ -2,8 +2,8 @@
 //! [`layout_of`] has the [`Terminal`] decide what they leave open.
 ghost use Rattle.std.specs.Prelude.{◌≤◌, IfSome};
 
-use lt_picture::{ColourChoice, Layout, Terminal};
 use lt_text::number::number;
+use lt_trace_picture::{ColourChoice, Layout, Terminal};
 
 /// The least width of a table.
 const LEAST_WIDTH: u16 = 40;

@@ -7,7 +7,7 @@
 //! - `locktrace picture [FILE] --key KEY` draws the steps of a key.
 //!
 //! Every function here is proved to be safe. What the commands promise beyond that, the libraries promise: `lt_trace`
-//! sorts, `lt_audit` and `lt_checker` check, `lt_statistics` counts, and `lt_picture` draws.
+//! sorts, `lt_trace_check` and `lt_checker` check, `lt_trace_statistics` counts, and `lt_trace_picture` draws.
 //!
 //! Read next: `src/task.rt` for what each command does, `src/words.rt` for the command line.
 #![tactic(auto)]
@@ -31,7 +31,7 @@ use crate::layout::width_of;
 use crate::progress_line::ProgressLine;
 use crate::task::{STREAMS, TaskNames, names_of, perform};
 use crate::words::{Task, TaskError, read_task};
-use lt_picture::Terminal;
+use lt_trace_picture::Terminal;
 use std::env::{self, VarError};
 use std::io::{ErrorKind, IsTerminal};
 use std::process::ExitCode;

@@ -1,7 +1,7 @@
 //! How does a check show how far it is? If standard error is a terminal, a [`ProgressLine`] writes one line there, and
 //! overwrites it while the check goes on.
-use lt_audit::CheckProgress;
 use lt_checker::Report;
+use lt_trace_check::CheckProgress;
 use std::io::IsTerminal;
 use std::time::{Duration, Instant};
 

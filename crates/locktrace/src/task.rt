@@ -8,9 +8,11 @@ use crate::output::{Output, ending_of};
 use crate::progress_line::ProgressLine;
 use crate::words::{PictureWords, SortWords, Task, WantedSteps};
 use lt_ids::Key;
-use lt_picture::{Layout, ShownRange, ShownStep, html, picture, put_heading, put_key, put_shown};
 use lt_rules::KeyState;
 use lt_trace::{SortOptions, TraceForm, sort_trace};
+use lt_trace_picture::{
+    Layout, ShownRange, ShownStep, html, picture, put_heading, put_key, put_shown,
+};
 use std::alloc::Global;
 use std::fs::{File, Files};
 use std::io::{BufRead, BufWriter, Read, Write};
@@ -78,7 +80,7 @@ struct Collector<'a> {
 impl<'a> StepTaker for Collector<'a> {
     // The step before the first wanted one is wanted for the state after it.
     fn wants(&mut self, key: &Key, index: u64) -> bool {
-        if !is_of_key(&self.wanted, key) || lt_picture::MOST_STEPS < self.range.steps.len() {
+        if !is_of_key(&self.wanted, key) || lt_trace_picture::MOST_STEPS < self.range.steps.len() {
             return false;
         }
         if self.wanted.to < index {

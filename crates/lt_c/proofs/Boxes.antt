@@ -12,8 +12,8 @@ use Rattle.std_alloc.proofs.BoxSteps.Form.{Bx}
 use Rattle.std_heap.specs.contracts.Global as Heap
 use Rattle.std_heap.specs.contracts.GlobalAllocator.TheImpl.{ghosts, dict}
 use Rattle.std_heap.proofs.Global.TheLaws as heap
-use Rattle.lt_c.specs.contracts.held.HeldTable as Table
-use Rattle.lt_c.proofs.held.HeldTable.TheLaws as table
+use Rattle.lt_c.specs.contracts.content.Content as Content
+use Rattle.lt_c.proofs.content.Content.TheLaws as content
 
 abbrev heap_ty : Ty
 heap_ty = bare (layout Heap.the_row)
@@ -33,6 +33,6 @@ allocator = record {
 abbrev pub box_of : (T : RattleType) → Laws T → Bx
 box_of T laws = record { row = T; laws = laws; al = allocator }
 
--- a box of a table, where the code names its type
+-- a box of what a handle holds, where the code names its type
 abbrev pub E : Bx
-E = box_of (arg (bare (layout Table.the_row)) no Table.the_row) (arg_laws (bare (layout Table.the_row)) no Table.the_row table.the_row_laws refl)
+E = box_of (arg (bare (layout Content.the_row)) no Content.the_row) (arg_laws (bare (layout Content.the_row)) no Content.the_row content.the_row_laws refl)

@@ -1,4 +1,5 @@
-pub mod Held
+pub mod OneTable
+pub mod Content
 pub mod Blocks
 pub mod Slots
 pub mod Codes
@@ -9,3 +10,4 @@ pub mod Lists
 pub mod Looks
 pub mod Shard
 pub mod Checks
+pub mod CheckPieces

@@ -1,11 +1,11 @@
-//! What does an open handle hold? [`HeldTable`] has a lock table, and the lets of its last step until C has taken
+//! What does a handle of a table hold? [`HeldTable`] has a lock table, and the lets of its last step until C has taken
 //! them all. Its methods make a step and give its lets, or look at a key, and answer a code.
 ghost use Rattle.std.specs.Prelude.{◌≡◌, ◌≢◌, ◌≤◌, ◌<◌, ◌++◌, [], IfOk, OnErr, IsOk, length, map, drop};
 ghost use Rattle.std.specs.Option.{option_copied};
 ghost use Rattle.lt_rules.specs.Rules.{TakesNoMemory};
 ghost use Rattle.lt_rules.specs.Step.{look};
 ghost use Rattle.lt_rules.specs.Table.{record_at, keys_after};
-ghost use Rattle.lt_c.specs.Held.{new_table};
+ghost use Rattle.lt_c.specs.OneTable.{new_table};
 ghost use Rattle.lt_c.specs.Shapes.{raw_let};
 ghost use Rattle.lt_c.specs.Steps.{StepsHeld, GivesLets, KeepsOut, MakesStep, AllocatesNothing, GivesUp, held_refusal};
 ghost use Rattle.lt_c.specs.Calls.{act_of};
@@ -33,11 +33,11 @@ pub struct HeldTable {
 
 impl Model for HeldTable {
     ghost use Rattle.std.specs.Prelude.{◌≤◌, drop, length};
-    ghost use Rattle.lt_c.specs.Held.{Held, held_code};
+    ghost use Rattle.lt_c.specs.OneTable.{TableState, table_state_code};
 
-    ghost Value = { Held };
+    ghost Value = { TableState };
 
-    ghost coded = { held_code };
+    ghost coded = { table_state_code };
 
     ghost view = { λ t. record { records = t.table; lets = drop t.given t.lets.items } };
 

@@ -1,7 +1,7 @@
 //! The check of histories and the lock table of one thread, for C and for Rust.
 //!
 //! This static library has an export for each call. [`lt_check`](check::lt_check) decides whether a text is the text of
-//! legal histories. `lt_table_open` puts an empty table behind a handle, and the other calls that begin with
+//! legal histories, and `lt_check_begin` begins a check of a text in pieces. `lt_table_open` puts an empty table behind a handle, and the other calls that begin with
 //! `lt_table_` make its steps, give the lets of a step, look into the table and close it. A store keeps the handle
 //! behind a lock of its own, because two calls at once must not have one handle.
 //!
@@ -21,15 +21,17 @@
 //!
 //! Read next: `steps.rt`, `looks.rt`, `lists.rt`, `check.rt` and `shard.rt` have the exports, and `codes.rt` has what they
 //! answer.
-//! `handle.rt` and `slot.rt` have the handle, `held.rt` what an open one holds, and `calls.rt` the visit that C
-//! asks for. In `specs/`, `Steps`, `Looks` and `Lists` define what the contracts of the exports say.
+//! `handle.rt` and `slot.rt` have the handle, `content.rt` says what an open one holds, and `calls.rt` has the visit that C
+//! asks for. In `specs/`, `Steps`, `Looks`, `Lists` and `CheckPieces` define what the contracts of the exports say.
 #![tactic(auto)]
 
 mod calls;
 mod check;
 mod codes;
+mod content;
 mod handle;
 mod held;
+mod held_check;
 mod lists;
 mod looks;
 mod pass_call;
@@ -37,3 +39,4 @@ mod shapes;
 mod shard;
 mod slot;
 mod steps;
+mod version;

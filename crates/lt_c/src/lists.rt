@@ -1,9 +1,10 @@
 //! Which requests are queued at a key, and which keys have a record? Each function here that begins with `lt_table_` is
 //! an export. It copies what it lists into an array of the caller, in time in proportion to what there is, and changes
 //! nothing in the table.
-ghost use Rattle.std.specs.Prelude.{◌≡◌, ◌≢◌, ◌≤◌, ◌++◌, None, IfOk, IfErr, OnOk, length, map, drop};
+ghost use Rattle.std.specs.Prelude.{◌≡◌, ◌≢◌, ◌≤◌, ◌++◌, Some, None, IfOk, IfErr, OnOk, length, map, drop};
 ghost use Rattle.std.specs.Option.{option_copied};
 ghost use Rattle.lt_rules.specs.Table.{record_at, keys_after};
+ghost use Rattle.lt_c.specs.Content.{table_in};
 ghost use Rattle.lt_c.specs.Codes.{IsDoneUnless};
 ghost use Rattle.lt_c.specs.Lists.{ListsFirst, ListsKeys, after_key, after_refusal, keys_refusal};
 ghost use Rattle.lt_c.specs.Looks.{look_refusal};
@@ -11,7 +12,8 @@ ghost use Rattle.lt_c.specs.Shapes.{raw_reader, raw_writer, raw_key_name};
 ghost use Rattle.lt_c.specs.Steps.{OnTable};
 
 use crate::codes::{CLOSED, DONE, MEMORY, key_code};
-use crate::handle::TableHandle;
+use crate::content::Content;
+use crate::handle::Handle;
 use crate::held::HeldTable;
 use crate::looks::state;
 use crate::shapes::{LtKeyName, LtQueued, raw_key_name, raw_reader, raw_writer};
@@ -54,14 +56,14 @@ fn write_keys(keys: &[Key], array: &mut [LtKeyName])
 #[unsafe(no_mangle)]
 pub extern "C" fn lt_table_writers(
     alloc: Global,
-    handle: &mut TableHandle,
+    handle: &mut Handle,
     key: &[u8],
     array: &mut [LtQueued],
     count: &mut usize,
 ) -> u32
-    ensures refused { IsDoneUnless (look_refusal handle.old.slot.held key.now) result }
+    ensures refused { IsDoneUnless (look_refusal (table_in handle.old.slot.held) key.now) result }
     ensures listed { result ≡ DONE → OnTable (λ h.
-        ListsFirst raw_writer (record_at h.records key.now).writers array.old array.new count.new) handle.old.slot.held }
+        ListsFirst raw_writer (record_at h.records key.now).writers array.old array.new count.new) (table_in handle.old.slot.held) }
     ensures array_kept { result ≢ DONE → array.new ≡ array.old }
     ensures count_kept { result ≢ DONE → count.new ≡ count.old }
     ensures table_kept { handle.new.slot.held ≡ handle.old.slot.held }
@@ -82,14 +84,14 @@ pub extern "C" fn lt_table_writers(
 #[unsafe(no_mangle)]
 pub extern "C" fn lt_table_readers(
     alloc: Global,
-    handle: &mut TableHandle,
+    handle: &mut Handle,
     key: &[u8],
     array: &mut [LtQueued],
     count: &mut usize,
 ) -> u32
-    ensures refused { IsDoneUnless (look_refusal handle.old.slot.held key.now) result }
+    ensures refused { IsDoneUnless (look_refusal (table_in handle.old.slot.held) key.now) result }
     ensures listed { result ≡ DONE → OnTable (λ h.
-        ListsFirst raw_reader (record_at h.records key.now).readers array.old array.new count.new) handle.old.slot.held }
+        ListsFirst raw_reader (record_at h.records key.now).readers array.old array.new count.new) (table_in handle.old.slot.held) }
     ensures array_kept { result ≢ DONE → array.new ≡ array.old }
     ensures count_kept { result ≢ DONE → count.new ≡ count.old }
     ensures table_kept { handle.new.slot.held ≡ handle.old.slot.held }
@@ -143,28 +145,41 @@ fn next_keys(
     }
 }
 
+/// The same, if the content is a table.
+fn keys_of(content: &Content, alloc: Global, after: &[u8], at_most: usize) -> Result<Vec<Key>, u32>
+    ensures keys { IfOk result (λ all. OnTable (λ h. all.items ≡ keys_after h.records (after_key after.now) at_most) (table_in (Some content.now))) }
+    ensures refused { IfErr result (λ code.
+        IsDoneUnless (keys_refusal (table_in (Some content.now)) after.now) code × (code ≢ DONE)) }
+    ensures sound { OnOk result (keys_refusal (table_in (Some content.now)) after.now ≡ None) }
+{
+    match content {
+        Content::Table(table) => next_keys(table, alloc, after, at_most),
+        Content::Check(_) => Err(CLOSED),
+    }
+}
+
 /// The first keys that have a record and come after the key with these bytes, or the first of all if there are none:
 /// as many as fit into the array, in byte order. `count` is set to how many were written. If the array has room left, no
 /// key comes after them.
 #[unsafe(no_mangle)]
 pub extern "C" fn lt_table_keys(
     alloc: Global,
-    handle: &mut TableHandle,
+    handle: &mut Handle,
     after: &[u8],
     array: &mut [LtKeyName],
     count: &mut usize,
 ) -> u32
-    ensures refused { IsDoneUnless (keys_refusal handle.old.slot.held after.now) result }
-    ensures listed { result ≡ DONE → OnTable (λ h. ListsKeys h after.now array.old array.new count.new) handle.old.slot.held }
+    ensures refused { IsDoneUnless (keys_refusal (table_in handle.old.slot.held) after.now) result }
+    ensures listed { result ≡ DONE → OnTable (λ h. ListsKeys h after.now array.old array.new count.new) (table_in handle.old.slot.held) }
     ensures array_kept { result ≢ DONE → array.new ≡ array.old }
     ensures count_kept { result ≢ DONE → count.new ≡ count.old }
     ensures table_kept { handle.new.slot.held ≡ handle.old.slot.held }
 {
-    let Some(table) = handle.take(alloc) else {
+    let Some(content) = handle.take(alloc) else {
         return CLOSED;
     };
-    let found = next_keys(&table, alloc, after, array.len());
-    handle.put(table);
+    let found = keys_of(&content, alloc, after, array.len());
+    handle.put(content);
     match found {
         Ok(keys) => {
             write_keys(&keys, array);

@@ -1,13 +1,15 @@
 //! What does C see of a key? Each function here that begins with `lt_table_` is an export. It looks at one key, and
 //! changes nothing in the table. Lets that are left do not keep C from looking. Read next `lists.rt`.
-ghost use Rattle.std.specs.Prelude.{◌≡◌, ◌≢◌, ◌≤◌, ◌<◌, None, IfOk, IfErr, OnOk, length};
+ghost use Rattle.std.specs.Prelude.{◌≡◌, ◌≢◌, ◌≤◌, ◌<◌, Some, None, IfOk, IfErr, OnOk, length};
 ghost use Rattle.lt_rules.specs.Table.{record_at};
+ghost use Rattle.lt_c.specs.Content.{table_in};
 ghost use Rattle.lt_c.specs.Codes.{IsReplyUnless, IsDoneUnless};
 ghost use Rattle.lt_c.specs.Looks.{bytes_refusal, look_refusal, Looks, ShowsKey};
 ghost use Rattle.lt_c.specs.Steps.{OnTable};
 
 use crate::codes::{CLOSED, DONE, FIRST_REPLY, MEMORY, key_code, reply_code, reply_txn};
-use crate::handle::TableHandle;
+use crate::content::Content;
+use crate::handle::Handle;
 use crate::held::HeldTable;
 use crate::shapes::{LtKey, raw_key};
 use lt_ids::Key;
@@ -43,20 +45,46 @@ fn copied_state(table: &HeldTable, alloc: Global, key: &[u8]) -> Result<KeyState
     }
 }
 
-/// The same of the table that a handle holds.
-pub(crate) fn state(alloc: Global, handle: &mut TableHandle, key: &[u8]) -> Result<KeyState, u32>
-    ensures state { IfOk result (λ state. OnTable (λ h. state ≡ record_at h.records key.now) handle.old.slot.held) }
+/// The same, if the content is a table.
+fn state_of(content: &Content, alloc: Global, key: &[u8]) -> Result<KeyState, u32>
+    ensures state { IfOk result (λ state. OnTable (λ h. state ≡ record_at h.records key.now) (table_in (Some content.now))) }
     ensures refused { IfErr result (λ code.
-        IsDoneUnless (look_refusal handle.old.slot.held key.now) code × (code ≢ DONE)) }
-    ensures sound { OnOk result (look_refusal handle.old.slot.held key.now ≡ None) }
+        IsDoneUnless (look_refusal (table_in (Some content.now)) key.now) code × (code ≢ DONE)) }
+    ensures sound { OnOk result (look_refusal (table_in (Some content.now)) key.now ≡ None) }
+{
+    match content {
+        Content::Table(table) => copied_state(table, alloc, key),
+        Content::Check(_) => Err(CLOSED),
+    }
+}
+
+/// The same of what a handle holds.
+pub(crate) fn state(alloc: Global, handle: &mut Handle, key: &[u8]) -> Result<KeyState, u32>
+    ensures state { IfOk result (λ state. OnTable (λ h. state ≡ record_at h.records key.now) (table_in handle.old.slot.held)) }
+    ensures refused { IfErr result (λ code.
+        IsDoneUnless (look_refusal (table_in handle.old.slot.held) key.now) code × (code ≢ DONE)) }
+    ensures sound { OnOk result (look_refusal (table_in handle.old.slot.held) key.now ≡ None) }
     ensures table_kept { handle.new.slot.held ≡ handle.old.slot.held }
 {
-    let Some(table) = handle.take(alloc) else {
+    let Some(content) = handle.take(alloc) else {
         return Err(CLOSED);
     };
-    let found = copied_state(&table, alloc, key);
-    handle.put(table);
+    let found = state_of(&content, alloc, key);
+    handle.put(content);
     found
+}
+
+/// The same, if the content is a table.
+fn look_in(content: &Content, alloc: Global, key: &[u8], number: u64, txn: &mut u64) -> u32
+    ensures refused { IsReplyUnless (look_refusal (table_in (Some content.now)) key.now) result }
+    ensures looked { FIRST_REPLY ≤ result → OnTable (Looks key.now number result txn.new) (table_in (Some content.now)) }
+    ensures out_kept { result < FIRST_REPLY → txn.new ≡ txn.old }
+    ensures short_key { length key.now ≤ 22 → result ≢ MEMORY }
+{
+    match content {
+        Content::Table(table) => look(table, alloc, key, number, txn),
+        Content::Check(_) => CLOSED,
+    }
 }
 
 /// The answer to a look by the request with this number. `txn` is set to the transaction that the answer names, or
@@ -64,22 +92,22 @@ pub(crate) fn state(alloc: Global, handle: &mut TableHandle, key: &[u8]) -> Resu
 #[unsafe(no_mangle)]
 pub extern "C" fn lt_table_look(
     alloc: Global,
-    handle: &mut TableHandle,
+    handle: &mut Handle,
     key: &[u8],
     number: u64,
     txn: &mut u64,
 ) -> u32
-    ensures refused { IsReplyUnless (look_refusal handle.old.slot.held key.now) result }
-    ensures looked { FIRST_REPLY ≤ result → OnTable (Looks key.now number result txn.new) handle.old.slot.held }
+    ensures refused { IsReplyUnless (look_refusal (table_in handle.old.slot.held) key.now) result }
+    ensures looked { FIRST_REPLY ≤ result → OnTable (Looks key.now number result txn.new) (table_in handle.old.slot.held) }
     ensures out_kept { result < FIRST_REPLY → txn.new ≡ txn.old }
     ensures short_key { length key.now ≤ 22 → result ≢ MEMORY }
     ensures table_kept { handle.new.slot.held ≡ handle.old.slot.held }
 {
-    let Some(table) = handle.take(alloc) else {
+    let Some(content) = handle.take(alloc) else {
         return CLOSED;
     };
-    let code = look(&table, alloc, key, number, txn);
-    handle.put(table);
+    let code = look_in(&content, alloc, key, number, txn);
+    handle.put(content);
     code
 }
 
@@ -87,12 +115,12 @@ pub extern "C" fn lt_table_look(
 #[unsafe(no_mangle)]
 pub extern "C" fn lt_table_key(
     alloc: Global,
-    handle: &mut TableHandle,
+    handle: &mut Handle,
     key: &[u8],
     out: &mut LtKey,
 ) -> u32
-    ensures refused { IsDoneUnless (look_refusal handle.old.slot.held key.now) result }
-    ensures shown { result ≡ DONE → OnTable (ShowsKey key.now out.new) handle.old.slot.held }
+    ensures refused { IsDoneUnless (look_refusal (table_in handle.old.slot.held) key.now) result }
+    ensures shown { result ≡ DONE → OnTable (ShowsKey key.now out.new) (table_in handle.old.slot.held) }
     ensures out_kept { result ≢ DONE → out.new ≡ out.old }
     ensures table_kept { handle.new.slot.held ≡ handle.old.slot.held }
 {

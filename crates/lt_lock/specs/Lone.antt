@@ -59,7 +59,7 @@ abbrev pub StepsAlone : Option LoneLock → Option LoneLock → List ℕ → Cal
 StepsAlone lone after key call reply =
     (pass : ℕ) → StepsWithLone lone after finmap.empty finmap.empty key (λ r. step r pass call) [] reply
 
--- If there is a lone lock, the call at the key needs a row: it takes a second lock, or has to wait.
+-- If there is a lone lock, the call at the key needs a row: it is one that may need memory.
 abbrev pub NeedsRows : Option LoneLock → List ℕ → Call → Type 0
 NeedsRows lone key call =
     IsSome lone → ((pass : ℕ) → TakesNoMemory (record_at (with_lone lone finmap.empty) key) (step (record_at (with_lone lone finmap.empty) key) pass call) → ⊥)

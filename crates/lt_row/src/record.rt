@@ -1,6 +1,6 @@
 //! How does a caller keep the record of one key, without a table? [`LinkedRecord`] is a row with links of its own,
 //! and makes a call that is given as a value. Read `one_call.rt` next, which makes a call on a row.
-ghost use Rattle.std.specs.Prelude.{◌≡◌, ◌≤◌, [], false, IfOk, OnErr, IsOk, IsTrue};
+ghost use Rattle.std.specs.Prelude.{◌≡◌, ◌≤◌, [], false, length, IfOk, OnErr, IsOk, IsTrue};
 ghost use Rattle.lt_rules.specs.Rules.{empty, IsOutcome, TakesNoMemory};
 ghost use Rattle.lt_rules.specs.Step.{step};
 ghost use Rattle.lt_row.specs.Row.{record_of};
@@ -9,10 +9,10 @@ ghost use Rattle.lt_ids.specs.declared.limits.TheConstants.{MAX_PASS};
 
 use crate::copy::state;
 use crate::one_call::step;
-use crate::row::{Row, has_nobody};
+use crate::row::{Row, has_nobody, lengths};
 use lt_ids::Through;
 use lt_links::Links;
-use lt_rules::{Call, KeyState, Reply};
+use lt_rules::{Call, KeyState, QueueLengths, Reply};
 use std::alloc::{AllocError, Global};
 use std::marker::Model;
 
@@ -96,6 +96,14 @@ impl LinkedRecord {
         ensures no_memory { TakesNoMemory self.old (step self.old pass call.now) → IsOk result }
     {
         step(&mut self.links, &mut self.row, pass, call, lets)
+    }
+
+    /// How many requests are queued at the key. Copies nothing, unlike [`state`](LinkedRecord::state).
+    pub fn lengths(&self) -> QueueLengths
+        ensures writers { result.writers ≡ length self.now.writers }
+        ensures readers { result.readers ≡ length self.now.readers }
+    {
+        lengths(&self.links, &self.row)
     }
 
     /// A copy of the record. It fails only when an allocation fails.

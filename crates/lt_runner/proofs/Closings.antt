@@ -20,9 +20,9 @@ use Rattle.lt_words.proofs.Draws.{draws_stay}
 use Rattle.lt_words.proofs.Prefixes.{prefix_trans}
 use Rattle.lt_words.proofs.Histories.{part_prefix}
 use Rattle.lt_script.specs.declared.command.Command.{Command}
-use Rattle.lt_table_core.specs.Reported.{GuardState, steps_at}
-use Rattle.lt_table_core.specs.Closed.{IsClosed, counts_at, passes_of}
-use Rattle.lt_table_core.proofs.Ends.{counts_append}
+use Rattle.lt_walk.specs.Reported.{GuardState, steps_at}
+use Rattle.lt_walk.specs.Closed.{IsClosed, counts_at, passes_of}
+use Rattle.lt_walk.proofs.Ends.{counts_append}
 use Rattle.lt_runner.specs.declared.answer.AnswerLine.{AnswerLine}
 use Rattle.lt_runner.specs.declared.session.Session.{Session}
 use Rattle.lt_runner.specs.declared.session.Session.TheVariants.{Free, Open}

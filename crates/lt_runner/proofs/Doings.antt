@@ -12,10 +12,10 @@ use Rattle.lt_words.specs.Row.{PassState}
 use Rattle.lt_shard.specs.declared.answer.Answer.{Answer}
 use Rattle.lt_shard.specs.declared.answer.StepError.{StepError}
 use Rattle.lt_shard.specs.declared.answer.StepError.TheVariants as steps
-use Rattle.lt_table_core.specs.declared.walk_progress.Progress.{Progress}
-use Rattle.lt_table_core.specs.Entered.{at_start}
-use Rattle.lt_table_core.specs.Machine.{WalkState, Step}
-use Rattle.lt_table_core.specs.Reported.{GuardState, Reported}
+use Rattle.lt_walk.specs.declared.walk_progress.Progress.{Progress}
+use Rattle.lt_walk.specs.Entered.{at_start}
+use Rattle.lt_walk.specs.Machine.{WalkState, Step}
+use Rattle.lt_walk.specs.Reported.{GuardState, Reported}
 use Rattle.lt_runner.specs.declared.session.Session.{Session}
 use Rattle.lt_runner.specs.declared.session.Session.TheVariants.{Free, Open}
 use Rattle.lt_runner.specs.declared.session.LineOutcome.{LineOutcome}

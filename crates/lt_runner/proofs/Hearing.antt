@@ -10,7 +10,7 @@ use Rattle.lt_words.specs.Shown.{word_of, IsShown}
 use Rattle.lt_words.proofs.Prefixes.{prefix_trans, prefix_get}
 use Rattle.lt_words.proofs.Histories.{part_prefix}
 use Rattle.lt_script.specs.declared.command.Command.{Command}
-use Rattle.lt_table_core.specs.Machine.{Step}
+use Rattle.lt_walk.specs.Machine.{Step}
 use Rattle.lt_runner.specs.Outcomes.{LetsAreShown, Hears, ComesAfter, part_of}
 use Rattle.lt_runner.specs.Machine.{ExecutedLine}
 use Rattle.lt_runner.specs.Worked.{steps_of_executed}

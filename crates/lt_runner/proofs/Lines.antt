@@ -12,7 +12,7 @@ use Rattle.lt_words.specs.declared.event.Event.{Event}
 use Rattle.lt_words.specs.History.{draws_of}
 use Rattle.lt_words.specs.Row.{Opening, PassState, FrontState}
 use Rattle.lt_script.specs.declared.command.Command.{Command}
-use Rattle.lt_table_core.specs.Machine.{WalkState, Step}
+use Rattle.lt_walk.specs.Machine.{WalkState, Step}
 use Rattle.lt_runner.specs.declared.session.Session.{Session}
 use Rattle.lt_runner.specs.declared.session.Session.TheVariants.{Free}
 use Rattle.lt_runner.specs.declared.answer.LineAnswer.{LineAnswer}

@@ -6,16 +6,16 @@ use Rattle.lt_ids.specs.declared.request.Access.{Access}
 use Rattle.lt_rules.specs.declared.call.Call.{Call}
 use Rattle.lt_rules.specs.declared.call.Call.TheVariants as calls
 use Rattle.lt_rules.specs.declared.call.Reply.{Reply}
-use Rattle.lt_table_core.specs.Machine.{Step, after_status, polled, polled_in, WalkState}
-use Rattle.lt_table_core.specs.declared.walk_progress.Mode.{Mode}
-use Rattle.lt_table_core.specs.declared.walk_progress.Mode.TheVariants as modes
-use Rattle.lt_table_core.specs.declared.scan_results.Scan.{Scan}
-use Rattle.lt_table_core.specs.declared.scan_results.Scan.TheVariants as scans
-use Rattle.lt_table_core.specs.declared.scan_results.ScanError.{ScanError}
-use Rattle.lt_table_core.specs.declared.scan_results.ScanError.TheVariants as refused
-use Rattle.lt_table_core.specs.declared.scan_results.Poll.{Poll}
-use Rattle.lt_table_core.specs.declared.scan_results.Poll.TheVariants as polls
-use Rattle.lt_table_core.specs.Reported.{current_wait}
+use Rattle.lt_walk.specs.Machine.{Step, after_status, polled, polled_in, WalkState}
+use Rattle.lt_walk.specs.declared.walk_progress.Mode.{Mode}
+use Rattle.lt_walk.specs.declared.walk_progress.Mode.TheVariants as modes
+use Rattle.lt_walk.specs.declared.scan_results.Scan.{Scan}
+use Rattle.lt_walk.specs.declared.scan_results.Scan.TheVariants as scans
+use Rattle.lt_walk.specs.declared.scan_results.ScanError.{ScanError}
+use Rattle.lt_walk.specs.declared.scan_results.ScanError.TheVariants as refused
+use Rattle.lt_walk.specs.declared.scan_results.Poll.{Poll}
+use Rattle.lt_walk.specs.declared.scan_results.Poll.TheVariants as polls
+use Rattle.lt_walk.specs.Reported.{current_wait}
 use Rattle.lt_script.specs.declared.command.Action.{Action}
 use Rattle.lt_script.specs.declared.command.Action.TheVariants as acts
 use Rattle.lt_runner.specs.declared.answer.LineAnswer.{LineAnswer}

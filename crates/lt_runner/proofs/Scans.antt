@@ -11,17 +11,17 @@ use Rattle.lt_words.specs.Row.{Opening}
 use Rattle.lt_words.proofs.Showing.{word_later}
 use Rattle.lt_shard.specs.declared.answer.StepError.{StepError}
 use Rattle.lt_shard.specs.declared.answer.StepError.TheVariants as steps
-use Rattle.lt_table_core.specs.declared.walk_progress.Mode.{Mode}
-use Rattle.lt_table_core.specs.declared.walk_progress.Mode.TheVariants.{Free, Awaiting, Let, Stopped, Leaving}
-use Rattle.lt_table_core.specs.declared.walk_progress.Progress.{Progress}
-use Rattle.lt_table_core.specs.declared.scan_results.Scan.{Scan}
-use Rattle.lt_table_core.specs.declared.scan_results.Scan.TheVariants as scans
-use Rattle.lt_table_core.specs.declared.scan_results.ScanError.{ScanError}
-use Rattle.lt_table_core.specs.declared.scan_results.ScanError.TheVariants as refused
-use Rattle.lt_table_core.specs.declared.scan_results.Poll.{Poll}
-use Rattle.lt_table_core.specs.declared.scan_results.Poll.TheVariants as polls
-use Rattle.lt_table_core.specs.Machine.{after_status, mode_after_status, polled, polled_in, scan_start_in, scan_end, is_awaiting, is_stopped, next_visit, WalkState, Step, Ends, IsScanBegun, of_step}
-use Rattle.lt_table_core.specs.Reported.{GuardState, IsScan, IsPoll, current_wait}
+use Rattle.lt_walk.specs.declared.walk_progress.Mode.{Mode}
+use Rattle.lt_walk.specs.declared.walk_progress.Mode.TheVariants.{Free, Awaiting, Let, Stopped, Leaving}
+use Rattle.lt_walk.specs.declared.walk_progress.Progress.{Progress}
+use Rattle.lt_walk.specs.declared.scan_results.Scan.{Scan}
+use Rattle.lt_walk.specs.declared.scan_results.Scan.TheVariants as scans
+use Rattle.lt_walk.specs.declared.scan_results.ScanError.{ScanError}
+use Rattle.lt_walk.specs.declared.scan_results.ScanError.TheVariants as refused
+use Rattle.lt_walk.specs.declared.scan_results.Poll.{Poll}
+use Rattle.lt_walk.specs.declared.scan_results.Poll.TheVariants as polls
+use Rattle.lt_walk.specs.Machine.{after_status, mode_after_status, polled, polled_in, scan_start_in, scan_end, is_awaiting, is_stopped, next_visit, WalkState, Step, Ends, IsScanBegun, of_step}
+use Rattle.lt_walk.specs.Reported.{GuardState, IsScan, IsPoll, current_wait}
 use Rattle.lt_runner.specs.Outcomes.{OutcomeTells, ComesAfter, Hears}
 use Rattle.lt_runner.specs.declared.answer.LineAnswer.{LineAnswer}
 use Rattle.lt_runner.specs.declared.answer.LineAnswer.TheVariants as answers

@@ -8,7 +8,7 @@ use Rattle.lt_ids.specs.declared.ticket.Through.{Through}
 use Rattle.lt_words.specs.declared.event.Event.{Event}
 use Rattle.lt_words.specs.Row.{Opening, PassState, FrontState}
 use Rattle.lt_script.specs.declared.command.Command.{Command}
-use Rattle.lt_table_core.specs.Machine.{Step}
+use Rattle.lt_walk.specs.Machine.{Step}
 use Rattle.lt_runner.specs.declared.session.Session.{Session}
 use Rattle.lt_runner.specs.declared.outcome.Work.{Work}
 use Rattle.lt_runner.specs.declared.outcome.OutOfMemory.{OutOfMemory}

@@ -13,7 +13,7 @@ use Rattle.lt_words.proofs.Draws.{draws_stay, numbers_are_of_one_pass}
 use Rattle.lt_words.proofs.Prefixes.{prefix_get}
 use Rattle.lt_words.proofs.Parts.{prefixes_are_legal}
 use Rattle.lt_script.specs.declared.command.Command.{Command}
-use Rattle.lt_table_core.specs.Machine as runs
+use Rattle.lt_walk.specs.Machine as runs
 use Rattle.lt_runner.specs.declared.outcome.Work.{Work}
 use Rattle.lt_runner.specs.Outcomes.{StandsIn, IsBefore, Ascend, IsRising, IsDrawn}
 use Rattle.lt_runner.specs.Sessions.{session_pass}

@@ -18,10 +18,10 @@ use Rattle.lt_words.proofs.Histories.{part_length, part_prefix, let_later}
 use Rattle.lt_words.proofs.Draws.{draws_stay}
 use Rattle.lt_words.proofs.Showing.{shown_later}
 use Rattle.lt_words.specs.Shown.{IsShown}
-use Rattle.lt_table_core.specs.Machine as runs
-use Rattle.lt_table_core.specs.Entered.{IsEntered}
-use Rattle.lt_table_core.specs.Reported.{GuardState, Reported, AreReported, steps_at}
-use Rattle.lt_table_core.proofs.InPlace.{all_counted}
+use Rattle.lt_walk.specs.Machine as runs
+use Rattle.lt_walk.specs.Entered.{IsEntered}
+use Rattle.lt_walk.specs.Reported.{GuardState, Reported, AreReported, steps_at}
+use Rattle.lt_walk.proofs.InPlace.{all_counted}
 use Rattle.lt_runner.specs.Outcomes.{StandsAt, StandsIn, IsSeen, LetsAreShown, ComesAfter, IsBefore, Ascend, IsRising, IsDrawn, OutcomeTells, part_of}
 
 pub all_append : {A : Type 0} (P : A → Type 0) (xs ys : List A) → AllByRecursion P xs → AllByRecursion P ys → AllByRecursion P (xs ++ ys)

@@ -6,14 +6,14 @@ use Rattle.lt_ids.specs.declared.request.Access.{Access}
 use Rattle.lt_rules.specs.declared.call.Call.{Call}
 use Rattle.lt_rules.specs.declared.call.Reply.{Reply}
 use Rattle.lt_rules.specs.declared.call.Reply.TheVariants as replies
-use Rattle.lt_table_core.specs.Machine.{Step, Asked, after_status, scan_start, scan_start_in, restarted, is_free, is_awaiting, is_stopped, may_visit, met, met_as, is_wait, is_long, visit_call, next_visit, scan_end, WalkState, Visits, Ends, IsScanBegun, of_step}
-use Rattle.lt_table_core.specs.declared.walk_progress.Mode.{Mode}
-use Rattle.lt_table_core.specs.declared.walk_progress.Mode.TheVariants.{Free, Awaiting, Let, Stopped, Leaving}
-use Rattle.lt_table_core.specs.declared.walk_progress.Progress.{Progress}
-use Rattle.lt_table_core.specs.declared.scan_results.Scan.{Scan}
-use Rattle.lt_table_core.specs.declared.scan_results.Scan.TheVariants as scans
-use Rattle.lt_table_core.specs.declared.scan_results.ScanError.{ScanError}
-use Rattle.lt_table_core.specs.declared.scan_results.ScanError.TheVariants as refused
+use Rattle.lt_walk.specs.Machine.{Step, Asked, after_status, scan_start, scan_start_in, restarted, is_free, is_awaiting, is_stopped, may_visit, met, met_as, is_wait, is_long, visit_call, next_visit, scan_end, WalkState, Visits, Ends, IsScanBegun, of_step}
+use Rattle.lt_walk.specs.declared.walk_progress.Mode.{Mode}
+use Rattle.lt_walk.specs.declared.walk_progress.Mode.TheVariants.{Free, Awaiting, Let, Stopped, Leaving}
+use Rattle.lt_walk.specs.declared.walk_progress.Progress.{Progress}
+use Rattle.lt_walk.specs.declared.scan_results.Scan.{Scan}
+use Rattle.lt_walk.specs.declared.scan_results.Scan.TheVariants as scans
+use Rattle.lt_walk.specs.declared.scan_results.ScanError.{ScanError}
+use Rattle.lt_walk.specs.declared.scan_results.ScanError.TheVariants as refused
 use Rattle.lt_runner.specs.declared.answer.LineAnswer.{LineAnswer}
 use Rattle.lt_runner.specs.declared.answer.LineAnswer.TheVariants as answers
 use mathlib.Core.Bool.{true≢false}

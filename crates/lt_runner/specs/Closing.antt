@@ -6,8 +6,8 @@ use mathlib.Core.List.{IsPrefix}
 use Rattle.lt_words.specs.declared.event.Event.{Event}
 use Rattle.lt_words.specs.History.{part, IsLegalHistory}
 use Rattle.lt_words.specs.Row.{PassState}
-use Rattle.lt_table_core.specs.Closed.{counts_at}
-use Rattle.lt_table_core.specs.Reported.{GuardState}
+use Rattle.lt_walk.specs.Closed.{counts_at}
+use Rattle.lt_walk.specs.Reported.{GuardState}
 use Rattle.lt_runner.specs.declared.session.Session.{Session}
 use Rattle.lt_runner.specs.declared.session.Session.TheVariants.{Free, Open}
 use Rattle.lt_runner.specs.declared.outcome.Finish.{Finish}

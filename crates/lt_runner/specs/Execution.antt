@@ -7,9 +7,9 @@ use Rattle.lt_words.specs.Shown.{word_of}
 use Rattle.lt_shard.specs.declared.answer.Answer.{Answer}
 use Rattle.lt_shard.specs.declared.answer.StepError.{StepError}
 use Rattle.lt_shard.specs.declared.answer.StepError.TheVariants as steps
-use Rattle.lt_table_core.specs.declared.scan_results.Poll.{Poll}
-use Rattle.lt_table_core.specs.Machine.{polled, WalkState, Step}
-use Rattle.lt_table_core.specs.Reported.{GuardState}
+use Rattle.lt_walk.specs.declared.scan_results.Poll.{Poll}
+use Rattle.lt_walk.specs.Machine.{polled, WalkState, Step}
+use Rattle.lt_walk.specs.Reported.{GuardState}
 use Rattle.lt_runner.specs.declared.session.Session.{Session}
 use Rattle.lt_runner.specs.declared.session.LineOutcome.{LineOutcome}
 use Rattle.lt_runner.specs.declared.outcome.OutOfMemory.{OutOfMemory}

@@ -3,12 +3,12 @@ use Rattle.std.specs.Prelude.{ℕ, ◌≡◌, List, [], ◌∷◌, ◌++◌, Opt
 use Rattle.lt_rules.specs.declared.call.Call.{Call}
 use Rattle.lt_rules.specs.declared.call.Call.TheVariants.{Visit}
 use Rattle.lt_rules.specs.declared.call.Reply.TheVariants.{MustWait, TooLong}
-use Rattle.lt_table_core.specs.Machine.{WalkState, Step}
+use Rattle.lt_walk.specs.Machine.{WalkState, Step}
 use Rattle.lt_script.specs.declared.command.Action.TheVariants as acts
 use Rattle.lt_runner.specs.declared.answer.LineAnswer.{LineAnswer}
 use Rattle.lt_runner.specs.declared.answer.LineAnswer.TheVariants as answers
 use Rattle.lt_runner.specs.Machine.{Rules, ExecutedLine, Runs, IsLineDone, lets_of}
-use Rattle.lt_table_core.specs.Reported.{current_wait}
+use Rattle.lt_walk.specs.Reported.{current_wait}
 use Rattle.lt_rules.specs.declared.call.Call.TheVariants as calls
 use Rattle.lt_rules.specs.declared.call.Reply.{Reply}
 use Rattle.lt_script.specs.declared.command.Action.{Action}

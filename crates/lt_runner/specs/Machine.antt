@@ -8,19 +8,19 @@ use Rattle.lt_ids.specs.declared.request.Access.{Access}
 use Rattle.lt_rules.specs.declared.call.Call.{Call}
 use Rattle.lt_rules.specs.declared.call.Call.TheVariants as calls
 use Rattle.lt_shard.specs.declared.answer.Answer.{Answer}
-use Rattle.lt_table_core.specs.declared.config.Config.{Config}
-use Rattle.lt_table_core.specs.declared.walk_progress.Mode.{Mode}
-use Rattle.lt_table_core.specs.declared.walk_progress.Mode.TheVariants.{Awaiting, Let}
-use Rattle.lt_table_core.specs.declared.scan_results.Scan.{Scan}
-use Rattle.lt_table_core.specs.declared.scan_results.Scan.TheVariants as scans
-use Rattle.lt_table_core.specs.declared.scan_results.ScanError.{ScanError}
-use Rattle.lt_table_core.specs.declared.scan_results.ScanError.TheVariants as refused
-use Rattle.lt_table_core.specs.declared.scan_results.Poll.{Poll}
-use Rattle.lt_table_core.specs.declared.scan_results.Poll.TheVariants as polls
-use Rattle.lt_table_core.specs.Keys.{IsKeyList}
-use Rattle.lt_table_core.specs.Machine.{after_status, polled, WalkState, Step, IsWalkScan, IsLeft, IsRefusedLeave}
-use Rattle.lt_table_core.specs.Entered.{at_start}
-use Rattle.lt_table_core.specs.Reported.{current_wait}
+use Rattle.lt_walk.specs.declared.config.Config.{Config}
+use Rattle.lt_walk.specs.declared.walk_progress.Mode.{Mode}
+use Rattle.lt_walk.specs.declared.walk_progress.Mode.TheVariants.{Awaiting, Let}
+use Rattle.lt_walk.specs.declared.scan_results.Scan.{Scan}
+use Rattle.lt_walk.specs.declared.scan_results.Scan.TheVariants as scans
+use Rattle.lt_walk.specs.declared.scan_results.ScanError.{ScanError}
+use Rattle.lt_walk.specs.declared.scan_results.ScanError.TheVariants as refused
+use Rattle.lt_walk.specs.declared.scan_results.Poll.{Poll}
+use Rattle.lt_walk.specs.declared.scan_results.Poll.TheVariants as polls
+use Rattle.lt_walk.specs.Keys.{IsKeyList}
+use Rattle.lt_walk.specs.Machine.{after_status, polled, WalkState, Step, IsWalkScan, IsLeft, IsRefusedLeave}
+use Rattle.lt_walk.specs.Entered.{at_start}
+use Rattle.lt_walk.specs.Reported.{current_wait}
 use Rattle.lt_script.specs.declared.command.Action.{Action}
 use Rattle.lt_script.specs.declared.command.Action.TheVariants as acts
 use Rattle.lt_script.specs.declared.command.Command.{Command}

@@ -9,8 +9,8 @@ use Rattle.lt_words.specs.declared.event.Event.{Event}
 use Rattle.lt_words.specs.History.{part, shard_of, draws_of, DrewIn, LetIn, IsStatus}
 use Rattle.lt_words.specs.Row.{PassState}
 use Rattle.lt_words.specs.Shown.{word_of, AreShown}
-use Rattle.lt_table_core.specs.Machine.{Step}
-use Rattle.lt_table_core.specs.Reported.{steps_at}
+use Rattle.lt_walk.specs.Machine.{Step}
+use Rattle.lt_walk.specs.Reported.{steps_at}
 
 -- The step is at its index among these entries of its shard, as a step of this pass.
 pub record StandsAt (pass : ℕ) (entries : List Entry) (x : Step) : Type 0 where

@@ -4,7 +4,7 @@
 use Rattle.std.specs.Prelude.{ℕ, Bool, List, Option, Result}
 use Rattle.std.specs.Global.{Vec}
 use Rattle.lt_words.specs.Row.{FrontState, PassState}
-use Rattle.lt_table_core.specs.declared.config.Config.{Config}
+use Rattle.lt_walk.specs.declared.config.Config.{Config}
 use Rattle.lt_script.specs.declared.command.Command.{Command}
 use Rattle.lt_runner.specs.declared.answer.AnswerLine.{AnswerLine}
 use Rattle.lt_runner.specs.declared.outcome.OutOfMemory.{OutOfMemory}

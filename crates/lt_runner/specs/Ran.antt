@@ -9,7 +9,7 @@ use Rattle.lt_entry.specs.Ranges.{IsInRange}
 use Rattle.lt_words.specs.declared.event.Event.{Event}
 use Rattle.lt_words.specs.History.{part, draws_of, DrewIn, IsLegalHistory}
 use Rattle.lt_script.specs.declared.command.Command.{Command}
-use Rattle.lt_table_core.specs.Machine.{WalkState}
+use Rattle.lt_walk.specs.Machine.{WalkState}
 use Rattle.lt_runner.specs.declared.answer.AnswerLine.{AnswerLine}
 use Rattle.lt_runner.specs.declared.outcome.Finish.{Finish}
 use Rattle.lt_runner.specs.declared.outcome.Ran.{Ran}

@@ -1,7 +1,7 @@
 -- The session of a pass: what it has between two of its lines.
 use Rattle.std.specs.Prelude.{Option, Some, None}
 use Rattle.lt_words.specs.Row.{PassState}
-use Rattle.lt_table_core.specs.Machine.{WalkState}
+use Rattle.lt_walk.specs.Machine.{WalkState}
 use Rattle.lt_runner.specs.declared.session.Session.{Session}
 use Rattle.lt_runner.specs.declared.session.Session.TheVariants.{Free, Open}
 

@@ -4,8 +4,8 @@ use Rattle.std.specs.List.{flat_map, AllByRecursion}
 use Rattle.lt_ids.specs.Ids.{Wait}
 use Rattle.lt_entry.specs.declared.entry.Entry.{Entry}
 use Rattle.lt_words.specs.History.{shard_of, IsLetAmong}
-use Rattle.lt_table_core.specs.Machine.{Step}
-use Rattle.lt_table_core.specs.Reported.{steps_at}
+use Rattle.lt_walk.specs.Machine.{Step}
+use Rattle.lt_walk.specs.Reported.{steps_at}
 use Rattle.lt_runner.specs.Outcomes.{StandsAt}
 use Rattle.lt_runner.specs.Machine.{ExecutedLine, numbers_of_executed, lets_of_executed}
 use Rattle.lt_runner.specs.Worked.{steps_of_executed}

@@ -4,7 +4,7 @@ use Rattle.std.specs.List.{flat_map, AllByRecursion}
 use mathlib.Core.List.{IsPrefix}
 use Rattle.lt_ids.specs.Ids.{value_of}
 use Rattle.lt_entry.specs.declared.entry.Entry.{Entry}
-use Rattle.lt_table_core.specs.Machine.{Step}
+use Rattle.lt_walk.specs.Machine.{Step}
 use Rattle.lt_words.specs.declared.event.Event.{Event}
 use Rattle.lt_words.specs.History.{IsStatus}
 use Rattle.lt_words.specs.Row.{Opening, PassState, SeesMore, FrontState}

@@ -3,7 +3,7 @@ use Rattle.std.specs.Prelude.{ℕ, ◌≡◌, ◌⊎◌, ◌==◌, Bool, true, f
 use Rattle.std.specs.List.{flat_map, AllByRecursion}
 use Rattle.lt_words.specs.History.{draws_of}
 use Rattle.lt_words.specs.Row.{PassState}
-use Rattle.lt_table_core.specs.Machine.{Step}
+use Rattle.lt_walk.specs.Machine.{Step}
 use Rattle.lt_script.specs.declared.command.Command.{Command}
 use Rattle.lt_runner.specs.declared.session.Session.{Session}
 use Rattle.lt_runner.specs.declared.session.Session.TheVariants.{Free}

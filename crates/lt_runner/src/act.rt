@@ -5,7 +5,7 @@
 //! its steps, and `specs/Execution.antt`.
 ghost use Rattle.std.specs.Prelude.{◌≡◌, ◌<◌, ℕ, IfOk, is_some, length, Ok};
 ghost use Rattle.lt_rules.specs.declared.call.Call.TheVariants.{Acquire, Update, Finish};
-ghost use Rattle.lt_table_core.specs.declared.scan_results.Scan.TheVariants.{Waiting, TooLong};
+ghost use Rattle.lt_walk.specs.declared.scan_results.Scan.TheVariants.{Waiting, TooLong};
 ghost use Rattle.lt_runner.specs.Sessions.{session_pass};
 ghost use Rattle.lt_runner.specs.Machine.{IsOpenAnswered, IsScanned, IsScanAnswer, IsAwaited, IsLooked, IsCallAnswered, IsLeaveAnswered, rules_of, let_read, let_gone_on, poll_answer};
 ghost use Rattle.lt_runner.specs.Execution.{Does, IsCallOutcome, IsLineOutcome, IsOutOnlyAfter, LineDoes, Polls, no_lets, no_word};

@@ -5,7 +5,7 @@
 ghost use Rattle.std.specs.Prelude.{◌≡◌, ◌≤◌, ◌<◌, ◌^◌, ◌⊎◌, [], IfOk, length, map, vec_capacity};
 ghost use Rattle.std.specs.List.{All, AllByRecursion};
 ghost use Rattle.std.specs.FinMap as finmap;
-ghost use Rattle.lt_table_core.specs.Closed.{passes_of};
+ghost use Rattle.lt_walk.specs.Closed.{passes_of};
 ghost use Rattle.lt_runner.specs.Sessions.{session_pass};
 ghost use Rattle.lt_runner.specs.Turns.{AreNumbered, IsAmong};
 ghost use Rattle.lt_runner.specs.Closing.{AreHanded, CountAlike, GainsAtMostOne, IsPut, finish_all, join};
@@ -217,7 +217,8 @@ fn most_passes(commands: &[Command]) -> usize
 /// Opens a table over `tables`, one for each shard, with at most `max_steps` steps for each; runs the plan's lines
 /// by the table's public calls; and closes the table. With turns, each pass runs its lines on a thread of its own,
 /// and a line `await` polls at most that often. Otherwise the lines run in their order on one thread, and `await`
-/// polls once. The gate is asked before each line.
+/// polls once. The gate is asked before each line. The histories that come back are legal, within the limit and such that
+/// they can be written, and each is a prefix of its shard's part of one legal history.
 pub fn run<T: KeyTable + Drop + Send, G: Gate + Sync, R: Threads + Wait + Sync>(
     rt: &R,
     alloc: Global,

@@ -17,63 +17,95 @@
 //!
 //! A store opens a table in two steps, because a proof knows a table by its name, which is a type. [`prepare`]
 //! allocates the table's words and passes. A function over `N: Name`, called at `Brand`, then opens the table and
-//! does everything that is done with it:
+//! does everything that is done with it. A close that is refused gives everything back:
+//!
+//! <!-- code: crates/lt_table_tests/src/waiting/lent_player.rt serve lend_to_two -->
 //!
 //! ```text
-//! fn serve<N, R>(rt: &R, alloc: Global, ready: Ready, start: u64) -> Option<Histories>
-//! where
-//!     N: Name + Send + Sync,
-//!     R: Threads + Wait + Sync,
+//! /// Opens the table that `N` names, has two threads work, and closes it.
+//! fn serve<N: Name + Send + Sync, R: Threads + Wait + Sync>(
+//!     rt: &R,
+//!     alloc: Global,
+//!     ready: Ready,
+//! ) -> Option<Histories>
 //!     requires { ready.of ≡ N.of }
 //! {
-//!     let (table, passes) = open::<N>(alloc, ready, start).ok()?;
-//!     let (passes, guards) = work_on(rt, alloc, &table, passes);           // each thread has a pass
-//!     match table.close(rt, alloc, passes, guards) {                       // all passes are back
-//!         Ok(histories) => Some(histories),
-//!         Err(refused) => { refused.abandon(); None }                      // or try again with what comes back
-//!     }
+//!     let (table, passes) = open::<N>(alloc, ready, 0).ok()?;
+//!     let (passes, guards) = work_on_two(rt, alloc, &table, passes)?;
+//!     table
+//!         .close(rt, alloc, passes, guards)
+//!         .map_err(|refused| refused.abandon())
+//!         .ok()
 //! }
 //!
-//! let start = random_start(rt).ok()?;
-//! let ready = prepare(alloc, config).ok()?;
-//! serve::<Brand, R>(rt, alloc, ready, start)
+//! /// Makes a table ready, and has it served. Returns the steps.
+//! pub fn lend_to_two<R: Threads + Wait + Sync>(rt: &R, alloc: Global) -> Option<Histories> {
+//!     let ready = prepare(alloc, LIMITS).ok()?;
+//!     serve::<Brand, R>(rt, alloc, ready)
+//! }
 //! ```
+//!
+//! The keys are hashed from the start that `open` is given. A test may choose 0, and a store draws it with
+//! [`random_start`].
 //!
 //! The prover cannot guess which name `Brand` stands for. A file beside the proofs of the calling function says it:
 //! `docs/EMBEDDING.md`, "The name of a table", shows that file.
 //!
 //! # The life of a request
 //!
-//! For each request a thread goes through this loop with its pass. The request leaves on every path, because the
-//! requests queued after it wait until it does. The thread also checks what the acquire replied:
+//! For each request a thread goes through this loop. Each scan visits the request's keys in order. `Rescan` says that
+//! the request waited on the way, and `Waiting` that it has to wait now: it sleeps until it is let through.
+//!
+//! <!-- code: crates/lt_table_tests/src/waiting/queue_player.rt reach -->
 //!
 //! ```text
-//! fn proceed(rt: &R, table: &Table<N, T>, guard: &mut Guard) -> bool {
+//! /// Scans until the request proceeds, and sleeps whenever it must wait. False if a call has any other answer.
+//! pub fn reach<N: Name, T: KeyTable, R: Wait>(rt: &R, table: &Table<N, T>, guard: &mut Guard) -> bool
+//!     requires { guard.old.pass.of ≡ N.of }
+//!     ensures { guard.new.pass.of ≡ N.of }
+//! {
 //!     for _ in rt.forever() {
-//!         match table.scan(rt, guard) {                                    // one visit of each key, in order
-//!             Ok(Scan::Proceed) => return true,                            // no conflict: evaluate now
-//!             Ok(Scan::Rescan) => {}                                       // it waited on the way: once more
-//!             Ok(Scan::Waiting(_)) => { table.wait(rt, guard); }           // it sleeps until it is let through
-//!             Ok(Scan::TooLong(_)) => return false,                        // there are as many writers as its bound
-//!             Err(_) => return false,                                      // a full history, out of memory, too many waits
+//!         match table.scan(rt, guard) {
+//!             Ok(Scan::Proceed) => return true,
+//!             Ok(Scan::Rescan) => {}
+//!             Ok(Scan::Waiting(_)) => {
+//!                 table.wait(rt, guard);
+//!             }
+//!             Ok(Scan::TooLong(_)) | Err(_) => return false,
 //!         }
 //!     }
 //!     unreachable!()
 //! }
-//!
-//! let mut guard = match table.enter(alloc, pass, Some(txn), ts, &accesses, longest) {
-//!     Ok(guard) => guard,                                                  // it has drawn a number: the smaller goes first
-//!     Err(EnterRefused { pass, error: _ }) => { seat.put(pass); return None; }
-//! };
-//! let is_locked = proceed(rt, &table, &mut guard)
-//!     && is_ours(table.acquire_in(rt, &mut guard, key, txn, ts));          // `Taken`, `Raised` or `Kept`, and not `Other`
-//! match table.leave(rt, guard) {                                           // it gives up its queue entries
-//!     Ok(Left { pass, answers: _ }) => seat.put(pass),
-//!     Err(LeaveStopped { guard, error: _ }) => ..                          // out of memory: leave again from there
-//! }
-//! // At the transaction's end, if it holds the lock: the lock comes free, and the next request proceeds.
-//! table.finish(rt, &mut pass, key, txn)
 //! ```
+//!
+//! Once the request proceeds, its transaction takes the lock. The thread checks the reply, which is `Other` if another
+//! transaction has the lock (`is_ours`). The request leaves on every path, because the requests queued after it wait
+//! until it does:
+//!
+//! <!-- code: crates/lt_table_tests/src/waiting/lent_player.rt work -->
+//!
+//! ```text
+//! fn work<N: Name, T: KeyTable, R: Wait>(
+//!     rt: &R,
+//!     alloc: Global,
+//!     table: &Table<N, T>,
+//!     seat: &mut LentSeat<N>,
+//!     key: &Key,
+//!     txn: TxnId,
+//! ) -> Option<bool> {
+//!     let mut guard = enter(alloc, table, seat, key, txn)?;
+//!     let is_locked = reach(rt, table, &mut guard)
+//!         && is_ours(table.acquire_in(rt, &mut guard, key, txn, TIME));
+//!     let mut pass = leave(rt, table, guard)?;
+//!     let is_freed = is_locked && table.finish(rt, &mut pass, key, txn).is_ok();
+//!     seat.put(pass);
+//!     Some(is_freed)
+//! }
+//! ```
+//!
+//! `enter` draws the request's number. If it is refused, the pass goes back into the seat. A leave that runs out of
+//! memory gives the guard back, and a store leaves again from there. At the transaction's end `finish` frees the lock,
+//! and the next request proceeds.
 //!
 //! # What the store adds
 //!
@@ -83,8 +115,7 @@
 //! - **Deadlock detection.** [`Table::inspect`] tells which requests wait at a key, and for which transaction.
 //! - **Timestamps.**
 //!
-//! The crate `lt_table_tests` has the threads of such a store, complete and proved, in `src/waiting/lent.rt` and
-//! `src/waiting/queue.rt`.
+//! The samples here are from the crate `lt_table_tests`, which has the threads of such a store, complete and proved.
 //!
 //! # Waiting
 //!
@@ -146,31 +177,32 @@
 //! The library's threads take only values that may be dropped. So a pass goes to a thread in a *seat*, a struct of
 //! the caller's own whose `Drop` gives the pass up:
 //!
+//! <!-- code: crates/lt_table_tests/src/waiting/lent_player.rt LentSeat Drop:LentSeat -->
+//!
 //! ```text
-//! pub struct Seat<N: Name> {
+//! /// Holds a pass of the table that `N` names, or none. A seat may be dropped.
+//! pub struct LentSeat<N: Name> {
 //!     pass: Option<Pass>,
 //!     name: PhantomData<N>,
-//!     pub ghost of: { ForSome pass (λ p. p.of ≡ N.of) },               // it is a pass of this table
+//!     pub ghost of: { ForSome pass (λ p. p.of ≡ N.of) },
 //! }
 //!
-//! impl<N: Name> Drop for Seat<N> {
+//! impl<N: Name> Drop for LentSeat<N> {
 //!     fn drop(self) {
-//!         let Seat { pass, name: _ } = self;
-//!         give_up(pass);                                               // if there is one, pass.abandon()
+//!         let LentSeat { pass, name: _ } = self;
+//!         give_up(pass);
 //!     }
 //! }
-//!
-//! // Lent: a thread takes the pass out of its seat and puts it back. `one` and `other` are `&mut Seat<N>`.
-//! join(rt, move || work(rt, &table, one), move || work(rt, &table, other));
-//! // Moved: each thread is given a seat and gives one back.
-//! let seats = map_vec(rt, seats, &|seat: Seat<N>| -> Option<Seat<N>> { turn(rt, &table, seat) })?;
 //! ```
+//!
+//! In `src/waiting` of `lt_table_tests`, `lent_player.rt` *lends* two threads their seats: each takes its pass out and
+//! puts it back. `queue_player.rt` *moves* the seats: each thread is given one and gives one back.
 //!
 //! # Read next
 //!
 //! The table itself is in `lt_table_core`, over any table of one key's rules; this crate opens it over linked
 //! queues. Read next `lt_table_core/src/lib.rt`. `docs/RULES.md`, "A request", has the rules in words.
-//! `docs/PROOFS.md` lists each promise with the contract that carries it, and `docs/LIMITS.md` says what happens at
+//! `docs/PROOFS.md` names the clauses of the public calls, and `docs/LIMITS.md` says what happens at
 //! each limit.
 #![tactic(auto)]
 

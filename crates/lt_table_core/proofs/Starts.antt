@@ -6,8 +6,8 @@ use native.Mathlib.Decide.{ℕ_discrete}
 use Rattle.std.specs.List.{All}
 use Rattle.lt_words.specs.Row.{Opening, PassState, OwesNoWakeUp, fresh, fresh_passes, quiet}
 use Rattle.lt_table_core.specs.declared.table.Label.{Label}
-use Rattle.lt_table_core.specs.Configs.{AreInPlace}
-use Rattle.lt_table_core.proofs.Ends.{at_each, all_of_both}
+use Rattle.lt_table_core.specs.Slots.{AreInPlace}
+use Rattle.lt_walk.proofs.Ends.{at_each, all_of_both}
 
 alone : {A : Type 0} (P : A → Type 0) (x : A) → P x → (k : ℕ) (d : A) → k < length (x ∷ []) → P (get_or (x ∷ []) k d)
 alone P x p zero d lt = p

@@ -2,69 +2,26 @@
 //!
 //! One pass learns what all the others had seen, and then meets each shard once. So what it has then seen is one
 //! history that extends what every pass had seen, and each shard's steps are a prefix of that history's part. Read
-//! next `IsClosed` in `specs/Closed.antt`, and then `close` and `close_rest` at the end of this file.
+//! next `IsClosed` in `specs/Closed.antt` of `lt_walk`, and then `close` and `close_rest` at the end of this file.
 ghost use Rattle.std.specs.Prelude.{◌≡◌, ◌≢◌, ◌≤◌, ◌<◌, ◌+◌, ℕ, [], true, IsTrue, IsFalse, map, length, slice_index, slice_index_or, vec_len, vec_capacity, IfOk, IfErr, IfSome, IfNone, OnErr, OnOk};
 ghost use Rattle.std.specs.List.{All, AllByRecursion};
 ghost use mathlib.Core.List.{IsPrefix};
 ghost use Rattle.lt_shard.specs.Shards.{View};
 ghost use Rattle.lt_words.specs.Row.{SeesMore};
-ghost use Rattle.lt_table_core.specs.Configs.{AreInPlace};
-ghost use Rattle.lt_table_core.specs.Closed.{tally, tallied_at, taken_at, passes_of, IsCounted, AreCounted, IsMiscount, IsEnded, AreEnded, IsClosed, IsClosedRest, AreRestsOf, AreWhole, IsRoomFor, IsUnclosed, IsGivenBack};
+ghost use Rattle.lt_table_core.specs.Slots.{AreInPlace};
+ghost use Rattle.lt_walk.specs.Closed.{tally, tallied_at, taken_at, passes_of, IsCounted, AreCounted, IsMiscount, IsEnded, AreEnded, IsClosed, IsClosedRest, AreRestsOf, AreWhole, IsRoomFor, IsUnclosed, IsGivenBack};
 
-use crate::guard::Guard;
 use crate::table::{Label, Named, Slot, Table};
 use lt_entry::Entry;
 use lt_rules::KeyTable;
 use lt_shard::Rest;
+use lt_walk::{
+    CloseError, ClosedTable, Guard, Histories, Rests, Wanted, abandon_guards, all_passes,
+    each_into, into_histories, is_counted, learn_all,
+};
 use lt_words::{Book, Keeping, Name, Pass, Waker, abandon_all};
 use std::alloc::{AllocError, Global};
 use std::sync::Wait;
-use thiserror::Error;
-
-/// What is left of a table after [`Table::close`].
-#[derive(Drop)]
-pub struct Histories {
-    /// One history for each shard: all steps that were made there, in order.
-    pub shards: Vec<Vec<Entry>>,
-    /// How many request numbers were drawn.
-    pub draws: u64,
-}
-
-/// What is left of a table after [`Table::close_rest`]. Steps may be gone: taken out, or never stored.
-#[derive(Drop)]
-pub struct Rests {
-    /// For each shard the steps that are left, and how many steps were made before them. Together these are all
-    /// steps of the shard.
-    pub shards: Vec<Rest>,
-    /// How many request numbers were drawn.
-    pub draws: u64,
-}
-
-/// Why a table was not closed.
-#[derive(Clone, Copy, Debug, PartialEq, Eq, Drop, Error)]
-pub enum CloseError {
-    /// This many passes are missing.
-    #[error("passes are missing: {0}")]
-    PassesOut(usize),
-    #[error("out of memory")]
-    Memory,
-    /// The shard at this index is another shard, may hold another number of steps, has made a number of steps that is
-    /// not the sum of the passes' counts there, or lacks other steps than those that the passes took out. `close` also
-    /// gives this error if steps of the shard are gone. It never comes from `close` of a whole table, nor from `close_rest` of any table.
-    #[error("the steps of a shard are not those of the passes: {0}")]
-    Counts(usize),
-}
-
-impl From<AllocError> for CloseError {
-    ghost use Rattle.std.specs.Prelude.{◌≡◌};
-    ghost use Rattle.lt_table_core.specs.declared.closing.CloseError.TheVariants.{Memory};
-
-    ghost from_gives = { λ _ e. e ≡ Memory };
-
-    fn from(_: AllocError) -> CloseError {
-        CloseError::Memory
-    }
-}
 
 /// A table that was not closed: the table, the passes and the guards come back as they were.
 pub struct CloseRefused<N: Name, T: KeyTable, W: Waker = ()> {
@@ -88,141 +45,6 @@ impl<N: Name, T: KeyTable + Drop, W: Waker + Drop> CloseRefused<N, T, W> {
     }
 }
 
-/// Gives up each of the guards.
-pub fn abandon_guards(mut guards: Vec<Guard>) {
-    while let Some(guard) = guards.pop() {
-        guard.abandon();
-    }
-    guards.destroy_empty();
-}
-
-/// Which steps of the passes are counted: those that they made at a shard, or those that they took out of it.
-#[derive(Clone, Copy)]
-enum PassCount {
-    Made,
-    Taken,
-}
-
-/// How many of these steps the pass counts at the shard.
-fn tallied(pass: &Pass, which: PassCount, index: usize) -> u64
-    requires { index < pass.now.of.shards }
-    ensures { result ≡ slice_index (tally which pass.now) index }
-{
-    match which {
-        PassCount::Made => pass.count(index),
-        PassCount::Taken => pass.taken(index),
-    }
-}
-
-/// How many of a shard's steps are left after subtracting those that the passes count. `None` if they count more.
-fn without_passes(steps: u64, which: PassCount, index: usize, passes: &[Pass]) -> Option<u64>
-    requires { All (λ p. index < p.of.shards) passes.now }
-    ensures some { IfSome result (λ left. left + tallied_at which index passes.now ≡ steps) }
-    ensures none { IfNone result (steps < tallied_at which index passes.now) }
-{
-    let mut left = steps;
-    for pass in passes {
-        left = left.checked_sub(tallied(pass, which, index))?;
-    }
-    Some(left)
-}
-
-/// `without_passes` for the passes of guards.
-fn without_guards(steps: u64, which: PassCount, index: usize, guards: &[Guard]) -> Option<u64>
-    requires { All (λ g. index < g.pass.of.shards) guards.now }
-    ensures some { IfSome result (λ left. left + tallied_at which index (map (λ g. g.pass) guards.now) ≡ steps) }
-    ensures none { IfNone result (steps < tallied_at which index (map (λ g. g.pass) guards.now)) }
-{
-    let mut left = steps;
-    for guard in guards {
-        left = left.checked_sub(tallied(&guard.pass, which, index))?;
-    }
-    Some(left)
-}
-
-/// Whether the passes, alone or in guards, count exactly this many steps at the shard.
-fn are_tallied(
-    steps: u64,
-    which: PassCount,
-    index: usize,
-    passes: &[Pass],
-    guards: &[Guard],
-) -> bool
-    requires passes { All (λ p. index < p.of.shards) passes.now }
-    requires guards { All (λ g. index < g.pass.of.shards) guards.now }
-    ensures yes { IsTrue result → steps ≡ tallied_at which index (passes_of passes.now guards.now) }
-    ensures no { IsFalse result → steps ≢ tallied_at which index (passes_of passes.now guards.now) }
-{
-    let Some(left) = without_passes(steps, which, index, passes) else {
-        return false;
-    };
-    let Some(rest) = without_guards(left, which, index, guards) else {
-        return false;
-    };
-    rest == 0
-}
-
-/// Whether a streamed table's shard lacks exactly the steps that the passes took out.
-fn are_taken(keeping: Keeping, before: u64, index: usize, passes: &[Pass], guards: &[Guard]) -> bool
-    requires passes { All (λ p. index < p.of.shards) passes.now }
-    requires guards { All (λ g. index < g.pass.of.shards) guards.now }
-    ensures yes { IsTrue result → keeping ≡ Keeping.Streamed → before ≡ taken_at index (passes_of passes.now guards.now) }
-    ensures no { IsFalse result → (keeping ≡ Keeping.Streamed) × (before ≢ taken_at index (passes_of passes.now guards.now)) }
-{
-    match keeping {
-        Keeping::Streamed => are_tallied(before, PassCount::Taken, index, passes, guards),
-        Keeping::Whole | Keeping::Unrecorded => true,
-    }
-}
-
-/// What each shard has to satisfy when its table is closed.
-#[derive(Clone, Copy)]
-struct Wanted {
-    /// Whether it has to hold all of its steps.
-    whole: bool,
-    /// How many steps it may hold.
-    max_steps: u64,
-    /// How its table keeps steps.
-    keeping: Keeping,
-}
-
-/// Whether steps are gone that have to be there.
-fn is_missing(whole: bool, before: u64) -> bool
-    ensures no { IsFalse result → whole ≡ true → before ≡ 0 }
-    ensures yes { IsTrue result → (whole ≡ true) × (before ≢ 0) }
-{
-    whole && before != 0
-}
-
-/// Whether the shard has this index, made as many steps as the passes made there, and is as `wanted` says.
-fn is_counted<N: Name, T: KeyTable>(
-    shard: &Named<N, T>,
-    index: usize,
-    wanted: Wanted,
-    passes: &[Pass],
-    guards: &[Guard],
-) -> bool
-    requires passes { All (λ p. index < p.of.shards) passes.now }
-    requires guards { All (λ g. index < g.pass.of.shards) guards.now }
-    ensures yes { IsTrue result → IsCounted wanted (passes_of passes.now guards.now) index shard.now }
-    ensures no { IsFalse result → IsCounted wanted (passes_of passes.now guards.now) index shard.now → ⊥ }
-{
-    let shard = &shard.shard;
-    if shard.index() != index {
-        return false;
-    }
-    if shard.max_steps() != wanted.max_steps {
-        return false;
-    }
-    if is_missing(wanted.whole, shard.before()) {
-        return false;
-    }
-    if !are_tallied(shard.count(), PassCount::Made, index, passes, guards) {
-        return false;
-    }
-    are_taken(wanted.keeping, shard.before(), index, passes, guards)
-}
-
 /// Names the first shard that is not counted in the sense of `is_counted`.
 fn count_fault<N: Name, T: KeyTable>(
     shards: &[Named<N, T>],
@@ -237,23 +59,12 @@ fn count_fault<N: Name, T: KeyTable>(
     ensures some { IfSome result (IsMiscount wanted (passes_of passes.now guards.now) shards.now) }
 {
     for index in 0..shards.len() {
-        if !is_counted(&shards[index], index, wanted, passes, guards) {
+        let named = &shards[index];
+        if !is_counted(&named.shard, index, wanted, passes, guards) {
             return Some(CloseError::Counts(index));
         }
     }
     None
-}
-
-/// Lets the pass see what each of these passes had seen.
-fn learn_all(last: &mut Pass, passes: &[Pass])
-    requires { All (λ p. p.of ≡ last.old.of) passes.now }
-    ensures more { SeesMore last.old last.new }
-    ensures all { AllByRecursion (λ p. IsPrefix p.seen last.new.seen) passes.now }
-    ensures shown { AllByRecursion (λ p. IsPrefix p.shown last.new.shown) passes.now }
-{
-    for pass in passes {
-        last.learn(&pass.seen());
-    }
 }
 
 /// Lets the pass meet the shard, and returns what is left of the shard.
@@ -294,44 +105,6 @@ fn end_shards<N: Name, T: KeyTable + Drop, R: Wait>(
         rests.push_reserved(rest);
     }
     rests
-}
-
-/// The histories of shards with nothing gone. `histories` is empty and has room for them.
-fn whole_histories(rests: Vec<Rest>, mut histories: Vec<Vec<Entry>>) -> Vec<Vec<Entry>>
-    requires empty { histories.items ≡ [] }
-    requires room { length rests.items ≤ vec_capacity histories }
-    ensures { result.items ≡ map (λ t. t.entries) rests.items }
-{
-    for rest in rests {
-        histories.push_reserved(rest.entries);
-    }
-    histories
-}
-
-/// The passes and then those of the guards. `passes` has room for them.
-fn all_passes(mut passes: Vec<Pass>, guards: Vec<Guard>) -> Vec<Pass>
-    requires { length passes.items + length guards.items ≤ vec_capacity passes }
-    ensures { result.items ≡ passes_of passes.items guards.items }
-{
-    let mut rest = guards.into_iter();
-    while let Some(guard) = rest.next() {
-        passes.push_reserved(guard.into_pass());
-    }
-    rest.destroy_empty();
-    passes
-}
-
-/// What `make` gives for each item, in order. `made` is empty and has room for the results.
-fn each_into<A: Drop, B: Drop, F: Fn(A) -> B>(items: Vec<A>, mut made: Vec<B>, make: F) -> Vec<B>
-    requires callable { F.IsAlwaysCallable make }
-    requires empty { made.items ≡ [] }
-    requires room { length items.items ≤ vec_capacity made }
-    ensures { length result.items ≡ length items.items }
-{
-    for item in items {
-        made.push_reserved(make(item));
-    }
-    made
 }
 
 /// Puts each shard back behind a lock, in order. `slots` is empty and has room for them.
@@ -420,28 +193,6 @@ fn end<N: Name, T: KeyTable + Drop, R: Wait>(
     abandon_all(passes);
     Rests {
         shards: rests,
-        draws,
-    }
-}
-
-/// What is left of a closed table, and room for its histories.
-#[derive(Drop)]
-struct ClosedTable {
-    rests: Rests,
-    histories: Vec<Vec<Entry>>,
-}
-
-/// The histories of a table with nothing gone.
-fn into_histories(ended: ClosedTable) -> Histories
-    requires empty { ended.histories.items ≡ [] }
-    requires room { length ended.rests.shards.items ≤ vec_capacity ended.histories }
-    ensures shards { result.shards.items ≡ map (λ t. t.entries) ended.rests.shards.items }
-    ensures draws { result.draws ≡ ended.rests.draws }
-{
-    let ClosedTable { rests, histories } = ended;
-    let Rests { shards, draws } = rests;
-    Histories {
-        shards: whole_histories(shards, histories),
         draws,
     }
 }

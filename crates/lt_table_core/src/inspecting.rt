@@ -4,13 +4,14 @@ ghost use Rattle.std.specs.Option.{option_copied};
 ghost use Rattle.lt_words.specs.History.{part};
 ghost use Rattle.lt_words.specs.Row.{SeesMore};
 ghost use Rattle.lt_shard.specs.Shards.{AreLockedKeys, AreLockedKeysAfter};
-ghost use Rattle.lt_table_core.specs.Inspected.{seen_record};
+ghost use Rattle.lt_walk.specs.Inspected.{seen_record};
 
-use crate::guard::Guard;
+use crate::key_steps::Blocking;
 use crate::table::Table;
 use lt_ids::Key;
 use lt_rules::KeyTable;
 use lt_shard::KeyState;
+use lt_walk::{Guard, inspect_in};
 use lt_words::{Name, Pass, Waker};
 use std::alloc::AllocError;
 use std::sync::Wait;
@@ -56,7 +57,7 @@ impl<N: Name, T: KeyTable, W: Waker> Table<N, T, W> {
         ensures walk { guard.new.walk ≡ guard.old.walk }
         ensures err { OnErr result (guard.new ≡ guard.old) }
     {
-        self.inspect(rt, &mut guard.pass, key)
+        inspect_in(&Blocking { rt, table: self }, guard, key)
     }
 
     /// The keys of the shard that are locked, reserved or waited for: each once, in byte order, after the steps of

@@ -5,13 +5,14 @@ ghost use Rattle.std.specs.Prelude.{◌≡◌, ◌≢◌, ◌<◌, true, Err, If
 ghost use Rattle.lt_rules.specs.Memory.{gives_up};
 ghost use Rattle.lt_entry.specs.Ranges.{NamesNumber};
 ghost use Rattle.lt_rules.specs.declared.call.Call.TheVariants.{Acquire, Update, Finish};
-ghost use Rattle.lt_table_core.specs.Reported.{ReportsCall, ReportsLook};
+ghost use Rattle.lt_walk.specs.Reported.{ReportsCall, ReportsLook};
 
-use crate::guard::Guard;
+use crate::key_steps::Blocking;
 use crate::table::Table;
 use lt_ids::{Key, Timestamp, TxnId};
 use lt_rules::{Call, KeyTable};
 use lt_shard::{Answer, StepError};
+use lt_walk::{Guard, look_on, step_in};
 use lt_words::{Keeping, Name, Pass, Waker};
 use std::sync::Wait;
 
@@ -91,7 +92,7 @@ impl<N: Name, T: KeyTable, W: Waker> Table<N, T, W> {
         ensures always { N.of.keeping ≡ Keeping.Unrecorded → gives_up call.now ≡ true → IsOk result }
         ensures walk { guard.new.walk ≡ guard.old.walk }
     {
-        self.step(rt, &mut guard.pass, key, call)
+        step_in(&Blocking { rt, table: self }, guard, key, call)
     }
 
     /// [`Table::acquire`] through the pass of a guard.
@@ -165,12 +166,6 @@ impl<N: Name, T: KeyTable, W: Waker> Table<N, T, W> {
         ensures always { N.of.keeping ≡ Keeping.Unrecorded → IsOk result }
         ensures walk { guard.new.walk ≡ guard.old.walk }
     {
-        let number = guard.walk.number();
-        self.step(
-            rt,
-            &mut guard.pass,
-            guard.walk.key_at(index),
-            &Call::Look { number },
-        )
+        look_on(&Blocking { rt, table: self }, guard, index)
     }
 }

@@ -5,12 +5,13 @@ ghost use Rattle.std.specs.Prelude.{◌≡◌, ◌≤◌, ◌^◌, IfOk, length,
 ghost use Rattle.std.specs.List.{All};
 ghost use Rattle.std.specs.FinMap as finmap;
 ghost use Rattle.lt_words.specs.Row.{AreFresh, AreNoting, OwesNoWakeUp, fresh_passes, quiet};
-ghost use Rattle.lt_table_core.specs.Configs.{AreNewShards, AreInPlace};
+ghost use Rattle.lt_walk.specs.Configs.{AreNewShards};
+ghost use Rattle.lt_table_core.specs.Slots.{AreInPlace};
 
-use crate::config::Ready;
 use crate::table::{Label, Slot, Table};
 use lt_rules::KeyTable;
 use lt_shard::Shard;
+use lt_walk::{Ready, ReadyParts, parts_of};
 use lt_words::{Book, Name, Pass, Waker, abandon_all};
 use std::alloc::{AllocError, Global};
 
@@ -94,11 +95,11 @@ pub fn open_with<N: Name, T: KeyTable + Drop>(
     ensures passes { IfOk result (λ r. r.1.items ≡ fresh_passes N.of N.of.passes) }
     ensures of { IfOk result (λ r. All (λ p. p.of ≡ N.of) r.1.items) }
 {
-    let Ready {
+    let ReadyParts {
         config,
         book,
         passes,
-    } = ready;
+    } = parts_of(ready);
     let Ok(shards) = slots_over(alloc, &book, tables, config.max_steps) else {
         abandon_all(passes);
         return Err(AllocError);

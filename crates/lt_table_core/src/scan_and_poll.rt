@@ -1,32 +1,17 @@
-//! How does a request visit its keys, and how does it learn that it was let through? Read next `IsScan` and
-//! `IsPoll` in `specs/Reported.antt`, and `src/waiting.rt` for waits that sleep.
+//! How does a request visit its keys, and how does it learn that it was let through? As in any table:
+//! `src/scan_and_poll.rt` of `lt_walk`. Read next `IsScan` and `IsPoll` in `specs/Reported.antt` there, and
+//! `src/waiting.rt` for waits that sleep.
 ghost use Rattle.std.specs.Prelude.{◌≡◌, ◌≢◌, ◌<◌, ℕ, length, Ok, Err};
-ghost use Rattle.lt_ids.specs.Ids.{IsNumber};
-ghost use Rattle.lt_table_core.specs.Reported.{IsScan, IsPoll, GuardStays, ProceedsOnlyIfLet, SeesLet};
-ghost use Rattle.lt_table_core.specs.declared.scan_results.Scan.TheVariants.{Waiting, TooLong};
-ghost use Rattle.lt_table_core.specs.Sound.{IsSoundWalk};
-ghost use Rattle.lt_table_core.specs.Laws.{IsTooLong};
+ghost use Rattle.lt_walk.specs.Reported.{IsScan, IsPoll, GuardStays, ProceedsOnlyIfLet, SeesLet};
+ghost use Rattle.lt_walk.specs.declared.scan_results.Scan.TheVariants.{Waiting, TooLong};
+ghost use Rattle.lt_walk.specs.Laws.{IsTooLong};
 
-use crate::guard::Guard;
-use crate::scan_results::{Poll, Scan, ScanError};
+use crate::key_steps::Blocking;
 use crate::table::Table;
-use crate::walk_progress::Mode;
 use lt_rules::KeyTable;
-use lt_words::{Book, Keeping, Name, Waker};
+use lt_walk::{Guard, Mode, Poll, Scan, ScanError, poll_on, scan_on};
+use lt_words::{Keeping, Name, Waker};
 use std::sync::Wait;
-
-/// Loads the status word of the guard's pass, and compares it with the ticket of the guard's wait. The book has
-/// nothing but words, so no lock can be taken here.
-fn poll_on(book: &Book, guard: &mut Guard) -> Poll
-    requires { guard.old.pass.of ≡ book.now }
-    ensures poll { IsPoll guard.old guard.new result }
-    ensures through { result ≡ Poll.Through → SeesLet guard.new.pass guard.new.walk }
-    ensures stays { GuardStays guard.old guard.new }
-{
-    guard.walk.sound();
-    let word = book.read(&mut guard.pass);
-    guard.walk.poll(word)
-}
 
 impl<N: Name, T: KeyTable, W: Waker> Table<N, T, W> {
     /// Whether the request was let through: one load of the pass's status word, compared with the whole ticket of
@@ -38,26 +23,6 @@ impl<N: Name, T: KeyTable, W: Waker> Table<N, T, W> {
         ensures stays { GuardStays guard.old guard.new }
     {
         poll_on(&self.book, guard)
-    }
-
-    #[inline(always)]
-    fn visit_on<R: Wait>(&self, rt: &R, guard: &mut Guard) -> Result<Scan, ScanError>
-        requires pass { guard.old.pass.of ≡ N.of }
-        ensures scan { IsScan self.now.max_waits guard.old guard.new result }
-        ensures number { IsNumber guard.old.walk.asked.number }
-        ensures sound { IsSoundWalk guard.old.walk }
-        ensures never_full { N.of.keeping ≡ Keeping.Unrecorded → result ≢ Err ScanError.HistoryFull }
-    {
-        let max_waits = self.config.max_waits;
-        guard.walk.sound();
-        let word = self.book.read(&mut guard.pass);
-        guard.walk.begin_scan(word)?;
-        while guard.walk.has_visit(max_waits) {
-            let visit = guard.walk.visit();
-            let answer = self.step(rt, &mut guard.pass, guard.walk.key(), &visit)?;
-            guard.walk.meet(answer);
-        }
-        guard.walk.end_scan()
     }
 
     /// Visits the request's keys in order, each under the lock of the key's shard. If the request waits, the scan
@@ -80,9 +45,10 @@ impl<N: Name, T: KeyTable, W: Waker> Table<N, T, W> {
         ensures stays { GuardStays guard.old guard.new }
         ensures never_full { N.of.keeping ≡ Keeping.Unrecorded → result ≢ Err ScanError.HistoryFull }
     {
-        guard.let_through();
-        let result = self.visit_on(rt, guard);
-        guard.walk.sound();
-        result
+        let steps = Blocking { rt, table: self };
+        match scan_on(&steps, self.config.max_waits, guard) {
+            Ok(result) => result,
+            Err(error) => Err(ScanError::from(error)),
+        }
     }
 }

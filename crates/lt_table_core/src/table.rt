@@ -4,12 +4,12 @@ ghost use Rattle.lt_rules.specs.Memory.{gives_up};
 ghost use Rattle.lt_entry.specs.Ranges.{NamesNumber};
 ghost use Rattle.lt_words.specs.History.{shard_of};
 ghost use Rattle.lt_shard.specs.Shards.{new_shard};
-ghost use Rattle.lt_table_core.specs.Reported.{ReportsCall};
+ghost use Rattle.lt_walk.specs.Reported.{ReportsCall};
 
-use crate::config::Config;
 use lt_ids::Key;
 use lt_rules::{Call, KeyTable};
 use lt_shard::{Answer, Shard, StepError};
+use lt_walk::Config;
 use lt_words::{Book, Keeping, Name, Pass, Waker, shard_of};
 use std::marker::{Model, PhantomData};
 use std::sync::{Mutex, Wait};
@@ -113,8 +113,9 @@ pub struct Table<N: Name, T: KeyTable, W: Waker = ()> {
 
 impl<N: Name, T: KeyTable, W: Waker> Model for Table<N, T, W> {
     ghost use Rattle.std.specs.Prelude.{◌≡◌, length, map};
-    ghost use Rattle.lt_table_core.specs.declared.config.Config.{Config};
-    ghost use Rattle.lt_table_core.specs.Configs.{IsOpened, AreInPlace};
+    ghost use Rattle.lt_walk.specs.declared.config.Config.{Config};
+    ghost use Rattle.lt_walk.specs.Configs.{IsOpened};
+    ghost use Rattle.lt_table_core.specs.Slots.{AreInPlace};
 
     ghost Value = { Config };
 

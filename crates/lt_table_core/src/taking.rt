@@ -1,27 +1,15 @@
-//! How are a table's steps taken out while it runs? Read next `specs/Taken.antt`.
+//! How are a table's steps taken out while it runs? Read next `specs/Taken.antt` of
+//! `lt_walk`.
 ghost use Rattle.std.specs.Prelude.{◌≡◌, ◌≢◌, ◌<◌, [], length, IfErr, OnErr, OnOk};
 ghost use Rattle.lt_words.specs.Row.{SeesMore, MakesNoStep, TakesOut, AreGone};
-ghost use Rattle.lt_table_core.specs.Taken.{IsTaken, reader_after};
+ghost use Rattle.lt_walk.specs.Taken.{IsTaken, reader_after};
 
 use crate::table::Table;
 use lt_entry::Entry;
 use lt_rules::KeyTable;
+use lt_walk::{Gone, Reader};
 use lt_words::{Keeping, Name, Pass, Waker};
 use std::sync::Wait;
-use thiserror::Error;
-
-/// A reader of one shard's history. `next` is how many of the shard's steps the reader was given: the first ones.
-#[derive(Clone, Copy, Debug, PartialEq, Eq)]
-pub struct Reader {
-    pub shard: usize,
-    pub next: u64,
-}
-
-/// The reader does not continue where the last take ended: another call took steps out, or the table stores none.
-/// The number is how many of the shard's first steps are gone.
-#[derive(Clone, Copy, Debug, PartialEq, Eq, Drop, Error)]
-#[error("so many steps of the shard are gone: {0}")]
-pub struct Gone(pub u64);
 
 impl<N: Name, T: KeyTable, W: Waker> Table<N, T, W> {
     /// Takes out the steps that the shard holds, under the shard's lock, and returns how many steps of the shard

@@ -1,13 +1,12 @@
 //! How does a request's thread sleep until the request is let through? `src/parking.rt` of `lt_words` has the word
 //! on which it sleeps. `docs/ARCHITECTURE.md`, "Waiting", has a picture.
 ghost use Rattle.std.specs.Prelude.{◌≡◌, ◌≢◌};
-ghost use Rattle.lt_table_core.specs.Reported.{IsPoll, GuardStays, SeesLet};
+ghost use Rattle.lt_walk.specs.Reported.{IsPoll, GuardStays, SeesLet};
 
-use crate::guard::Guard;
-use crate::scan_results::Poll;
 use crate::table::Table;
 use lt_rules::KeyTable;
-use lt_words::{Announced, LookedAgain, Name, Waker};
+use lt_walk::{Guard, Poll, pass_of, poll_again_on};
+use lt_words::{Name, Waker};
 use std::hint;
 use std::sync::Wait;
 use std::time::{Clock, Duration, Instant};
@@ -41,29 +40,18 @@ impl<N: Name, T: KeyTable, W: Waker> Table<N, T, W> {
         found
     }
 
-    /// The poll of a request whose caller has announced that it will sleep.
-    fn poll_again(&self, guard: &mut Guard, announced: Announced) -> (Poll, LookedAgain)
-        requires pass { guard.old.pass.of ≡ N.of }
-        ensures poll { IsPoll guard.old guard.new result.0 }
-        ensures through { result.0 ≡ Poll.Through → SeesLet guard.new.pass guard.new.walk }
-    {
-        guard.walk.sound();
-        let (word, looked) = self.book.look_again(&mut guard.pass, announced);
-        (guard.walk.poll(word), looked)
-    }
-
     /// Polls once. If the request waits, sleeps until it may have been let through, or its caller is interrupted.
     fn poll_or_sleep<R: Wait>(&self, rt: &R, guard: &mut Guard) -> Poll
         requires pass { guard.old.pass.of ≡ N.of }
         ensures poll { IsPoll guard.old guard.new result }
         ensures through { result ≡ Poll.Through → SeesLet guard.new.pass guard.new.walk }
     {
-        let announced = self.book.prepare(&guard.pass);
-        let (found, looked) = self.poll_again(guard, announced);
+        let announced = self.book.prepare(pass_of(guard));
+        let (found, looked) = poll_again_on(&self.book, guard, announced);
         if found == Poll::Waiting {
-            self.book.sleep(rt, &guard.pass, looked);
+            self.book.sleep(rt, pass_of(guard), looked);
         } else {
-            self.book.cancel(&guard.pass, looked);
+            self.book.cancel(pass_of(guard), looked);
         }
         found
     }
@@ -74,12 +62,12 @@ impl<N: Name, T: KeyTable, W: Waker> Table<N, T, W> {
         ensures poll { IsPoll guard.old guard.new result }
         ensures through { result ≡ Poll.Through → SeesLet guard.new.pass guard.new.walk }
     {
-        let announced = self.book.prepare(&guard.pass);
-        let (found, looked) = self.poll_again(guard, announced);
+        let announced = self.book.prepare(pass_of(guard));
+        let (found, looked) = poll_again_on(&self.book, guard, announced);
         if found == Poll::Waiting {
-            self.book.sleep_for(rt, &guard.pass, looked, time);
+            self.book.sleep_for(rt, pass_of(guard), looked, time);
         } else {
-            self.book.cancel(&guard.pass, looked);
+            self.book.cancel(pass_of(guard), looked);
         }
         found
     }
@@ -88,9 +76,9 @@ impl<N: Name, T: KeyTable, W: Waker> Table<N, T, W> {
     /// request does not wait; never `Waiting`. To the proofs it is one [`Table::poll`] with that answer. It holds
     /// no lock and allocates nothing. No interrupt ends it: it takes those that come.
     ///
-    /// No wake-up is lost. A wait announces that it will sleep, polls once more, and then sleeps. A step shows its
-    /// lets, and then checks which of their callers have announced that they will sleep. The operations of both are
-    /// sequentially consistent, so the poll sees the let or the step sees the sleeper.
+    /// No sleeper is left asleep. No contract says this; the reason is: a wait announces that it will sleep, polls once
+    /// more, and then sleeps. A step shows its lets, and then checks which of their callers have announced that they will
+    /// sleep. The operations of both are sequentially consistent, so the poll sees the let or the step sees the sleeper.
     pub fn wait<R: Wait>(&self, rt: &R, guard: &mut Guard) -> Poll
         requires pass { guard.old.pass.of ≡ N.of }
         ensures poll { IsPoll guard.old guard.new result }
@@ -103,7 +91,7 @@ impl<N: Name, T: KeyTable, W: Waker> Table<N, T, W> {
             if found != Poll::Waiting {
                 return found;
             }
-            self.book.take_interrupt(&guard.pass);
+            self.book.take_interrupt(pass_of(guard));
             found = self.poll_or_sleep(rt, guard);
         }
         unreachable!()
@@ -119,7 +107,7 @@ impl<N: Name, T: KeyTable, W: Waker> Table<N, T, W> {
     {
         let mut found = self.poll_some(guard);
         for _ in rt.forever() {
-            if found != Poll::Waiting || self.book.take_interrupt(&guard.pass) {
+            if found != Poll::Waiting || self.book.take_interrupt(pass_of(guard)) {
                 return found;
             }
             found = self.poll_or_sleep(rt, guard);
@@ -148,7 +136,7 @@ impl<N: Name, T: KeyTable, W: Waker> Table<N, T, W> {
     {
         let mut found = self.poll_some(guard);
         for _ in rt.forever() {
-            if found != Poll::Waiting || self.book.take_interrupt(&guard.pass) {
+            if found != Poll::Waiting || self.book.take_interrupt(pass_of(guard)) {
                 return found;
             }
             let Some(left) = time_left(rt, deadline) else {

@@ -1,7 +1,7 @@
-//! What do the threads of `race` and `stream` do?
+//! What do the threads of `race_player` and `stream_player` do?
 //! Each thread plays the same five calls in `ROUNDS` rounds. Its request enters, scans a key of its own and
 //! leaves; before it leaves, its transaction takes the lock of the key a, for which all threads compete, and frees
-//! it. Read next `streams`, which compares the results.
+//! it. Read next `thread_tests`, which compares the results.
 ghost use Rattle.std.specs.Prelude.{◌≡◌};
 
 use lt_entry::Entry;

@@ -4,9 +4,9 @@ use Rattle.std.specs.List.{All}
 use Rattle.lt_words.specs.Row.{Opening, PassState, fresh, fresh_passes, quiet}
 use Rattle.lt_shard.specs.declared.answer.Answer.{Answer}
 use Rattle.lt_shard.specs.declared.holding.Rest.{Rest}
-use Rattle.lt_table_core.specs.Closed.{IsClosedRest, passes_of}
-use Rattle.lt_table_core.specs.Reported.{GuardState}
-use Rattle.lt_table_core.specs.Theorem.{Told, Heard, AreHeard, ShardHistories, IsEnd, TheMainTheorem, RestIsEnd, FreshHaveHeardNothing}
+use Rattle.lt_walk.specs.Closed.{IsClosedRest, passes_of}
+use Rattle.lt_walk.specs.Reported.{GuardState}
+use Rattle.lt_walk.specs.Theorem.{Told, Heard, AreHeard, ShardHistories, IsEnd, TheMainTheorem, RestIsEnd, FreshHaveHeardNothing}
 use Rattle.lt_theorem_tests.specs.declared.notes.Notes.{Notes}
 use Rattle.lt_theorem_tests.specs.Heard.{WasTold, HasNoted, IsConcluded}
 

@@ -6,17 +6,17 @@ use Rattle.lt_rules.specs.declared.call.Call.{Call}
 use Rattle.lt_words.specs.Row.{PassState, SeesMore, MakesNoStep, fresh}
 use Rattle.lt_words.specs.History.{LetIn}
 use Rattle.lt_shard.specs.declared.answer.Answer.{Answer}
-use Rattle.lt_table_core.specs.declared.walk_progress.Mode.{Mode}
-use Rattle.lt_table_core.specs.declared.walk_progress.Mode.TheVariants.{Free, Awaiting, Let, Stopped, Leaving}
-use Rattle.lt_table_core.specs.declared.walk_progress.Progress.{Progress}
-use Rattle.lt_table_core.specs.declared.scan_results.Scan.{Scan}
-use Rattle.lt_table_core.specs.declared.scan_results.ScanError.{ScanError}
-use Rattle.lt_table_core.specs.declared.scan_results.Poll.{Poll}
-use Rattle.lt_table_core.specs.Machine.{Step, WalkState, answer_of, after_status, mode_after_status, scan_start, scan_end, next_visit, restarted, is_awaiting, is_stopped, of_step, Ends, IsScanBegun, leave_answers_in}
-use Rattle.lt_table_core.specs.Reported.{GuardState, AreReported, ReportsCall, IsScan, IsPoll, AllLeft, SeesLet, current_wait}
-use Rattle.lt_table_core.specs.Theorem.{Told, Heard, HearingGoesOn, steps_told}
-use Rattle.lt_table_core.specs.Theorem.Told.{Made, WasLet}
-use Rattle.lt_table_core.proofs.WentOn.{end_in}
+use Rattle.lt_walk.specs.declared.walk_progress.Mode.{Mode}
+use Rattle.lt_walk.specs.declared.walk_progress.Mode.TheVariants.{Free, Awaiting, Let, Stopped, Leaving}
+use Rattle.lt_walk.specs.declared.walk_progress.Progress.{Progress}
+use Rattle.lt_walk.specs.declared.scan_results.Scan.{Scan}
+use Rattle.lt_walk.specs.declared.scan_results.ScanError.{ScanError}
+use Rattle.lt_walk.specs.declared.scan_results.Poll.{Poll}
+use Rattle.lt_walk.specs.Machine.{Step, WalkState, answer_of, after_status, mode_after_status, scan_start, scan_end, next_visit, restarted, is_awaiting, is_stopped, of_step, Ends, IsScanBegun, leave_answers_in}
+use Rattle.lt_walk.specs.Reported.{GuardState, AreReported, ReportsCall, IsScan, IsPoll, AllLeft, SeesLet, current_wait}
+use Rattle.lt_walk.specs.Theorem.{Told, Heard, HearingGoesOn, steps_told}
+use Rattle.lt_walk.specs.Theorem.Told.{Made, WasLet}
+use Rattle.lt_walk.proofs.WentOn.{end_in}
 use Rattle.lt_theorem_tests.specs.Heard.{lets_told, WasTold, IsStaying}
 
 -- ---- lists of what was told

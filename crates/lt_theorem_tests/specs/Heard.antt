@@ -4,11 +4,11 @@ use Rattle.lt_ids.specs.Ids.{Wait}
 use Rattle.lt_words.specs.Row.{Opening, PassState, fresh}
 use Rattle.lt_shard.specs.declared.answer.Answer.{Answer}
 use Rattle.lt_shard.specs.declared.holding.Rest.{Rest}
-use Rattle.lt_table_core.specs.Machine.{answer_of}
-use Rattle.lt_table_core.specs.declared.walk_progress.Mode.TheVariants.{Leaving}
-use Rattle.lt_table_core.specs.Reported.{GuardState}
-use Rattle.lt_table_core.specs.Theorem.{Told, Heard, AreHeard, ShardHistories, IsEnd, MainTheorem, steps_told}
-use Rattle.lt_table_core.specs.Theorem.Told.{Made, WasLet}
+use Rattle.lt_walk.specs.Machine.{answer_of}
+use Rattle.lt_walk.specs.declared.walk_progress.Mode.TheVariants.{Leaving}
+use Rattle.lt_walk.specs.Reported.{GuardState}
+use Rattle.lt_walk.specs.Theorem.{Told, Heard, AreHeard, ShardHistories, IsEnd, MainTheorem, steps_told}
+use Rattle.lt_walk.specs.Theorem.Told.{Made, WasLet}
 use Rattle.lt_theorem_tests.specs.declared.notes.Notes.{Notes}
 
 -- the waits that a caller was told to be let through

@@ -1,6 +1,6 @@
 //! How does each call add to what its caller was told?
 ghost use Rattle.std.specs.Prelude.{◌≡◌, ◌≢◌, ◌<◌, IfSome};
-ghost use Rattle.lt_table_core.specs.Taken.{IsTaken};
+ghost use Rattle.lt_walk.specs.Taken.{IsTaken};
 ghost use Rattle.lt_theorem_tests.specs.Heard.{HasNoted, NotesMore, IsStaying};
 
 use crate::notes::{Notes, note_all, note_let};

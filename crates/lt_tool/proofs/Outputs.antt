@@ -6,7 +6,7 @@ use Rattle.lt_runner.specs.declared.outcome.Finish.{Finish}
 use Rattle.lt_runner.specs.declared.outcome.Ran.{Ran}
 use Rattle.lt_runner.specs.Ran.{IsRan, all_entries, run_rules}
 use Rattle.lt_runner.specs.Gates.{GateAnswers}
-use Rattle.lt_command_line.specs.declared.options.Options.{Options}
+use Rattle.lockrun_words.specs.declared.options.Options.{Options}
 use Rattle.lt_tool.specs.Output.{IsComposed, IsOutput, rules_of_options, turns_of}
 
 written : (options : Options) (gate : GateAnswers) (commands : List Command) (ran : Ran) (text : List ℕ) (finish : Finish) → IsRan (rules_of_options options) gate options.shards commands ran → IsComposed ran text finish

@@ -8,8 +8,8 @@ use Rattle.std.proofs.lemmas.Option.{slice_get_within}
 use Rattle.lt_entry.specs.declared.entry.Entry.{Entry}
 use Rattle.lt_words.specs.History.{shard_of}
 use Rattle.lt_words.proofs.Prefixes.{prefix_get}
-use Rattle.lt_table_core.specs.Machine.{Step}
-use Rattle.lt_table_core.specs.Reported.{steps_at}
+use Rattle.lt_walk.specs.Machine.{Step}
+use Rattle.lt_walk.specs.Reported.{steps_at}
 use Rattle.lt_runner.specs.Machine.{ExecutedLine}
 use Rattle.lt_runner.specs.Ran.{all_entries}
 use Rattle.lt_runner.specs.Standing.{Finals, final_of, Made, made_by, made_from, made_at, IsInFinalHistory, IsApart, Apart, NumbersDiffer, AreAll}

@@ -8,18 +8,18 @@ use Rattle.lt_ids.specs.declared.request.Access.{Access}
 use Rattle.lt_rules.specs.declared.call.Reply.{Reply}
 use Rattle.lt_rules.specs.declared.call.Reply.TheVariants.{MustWait, TooLong}
 use Rattle.lt_entry.specs.declared.entry.Entry.{Entry}
-use Rattle.lt_table_core.specs.Machine.{Step, WalkState, after_status, polled}
-use Rattle.lt_table_core.specs.declared.scan_results.Scan.{Scan}
-use Rattle.lt_table_core.specs.declared.scan_results.Scan.TheVariants as scans
-use Rattle.lt_table_core.specs.declared.scan_results.ScanError.{ScanError}
-use Rattle.lt_table_core.specs.declared.scan_results.ScanError.TheVariants as refused
-use Rattle.lt_table_core.specs.declared.scan_results.Poll.{Poll}
-use Rattle.lt_table_core.specs.declared.scan_results.Poll.TheVariants as polls
-use Rattle.lt_table_core.specs.Reported.{current_wait}
+use Rattle.lt_walk.specs.Machine.{Step, WalkState, after_status, polled}
+use Rattle.lt_walk.specs.declared.scan_results.Scan.{Scan}
+use Rattle.lt_walk.specs.declared.scan_results.Scan.TheVariants as scans
+use Rattle.lt_walk.specs.declared.scan_results.ScanError.{ScanError}
+use Rattle.lt_walk.specs.declared.scan_results.ScanError.TheVariants as refused
+use Rattle.lt_walk.specs.declared.scan_results.Poll.{Poll}
+use Rattle.lt_walk.specs.declared.scan_results.Poll.TheVariants as polls
+use Rattle.lt_walk.specs.Reported.{current_wait}
 use Rattle.lt_script.specs.declared.command.Action.{Action}
 use Rattle.lt_script.specs.declared.command.Action.TheVariants as acts
 use Rattle.lt_script.specs.declared.command.Command.{Command}
-use Rattle.lt_command_line.specs.declared.options.Options.{Options}
+use Rattle.lockrun_words.specs.declared.options.Options.{Options}
 use Rattle.lt_runner.specs.declared.answer.AnswerLine.{AnswerLine}
 use Rattle.lt_runner.specs.declared.answer.LineAnswer.{LineAnswer}
 use Rattle.lt_runner.specs.declared.answer.LineAnswer.TheVariants as answers

@@ -12,7 +12,7 @@ use Rattle.lt_words.specs.History.{IsLetAmong}
 use Rattle.lt_script.specs.declared.command.Action.{Action}
 use Rattle.lt_script.specs.declared.command.Action.TheVariants as acts
 use Rattle.lt_script.specs.declared.command.Command.{Command}
-use Rattle.lt_command_line.specs.declared.options.Options.{Options}
+use Rattle.lockrun_words.specs.declared.options.Options.{Options}
 use Rattle.lt_runner.specs.declared.answer.AnswerLine.{AnswerLine}
 use Rattle.lt_runner.specs.declared.answer.LineAnswer.{LineAnswer}
 use Rattle.lt_runner.specs.declared.answer.LineAnswer.TheVariants as answers

@@ -19,7 +19,7 @@ use Rattle.lt_runner.specs.Ran.{IsRan, all_entries, run_rules}
 use Rattle.lt_runner.specs.Gates.{GateAnswers}
 use Rattle.lt_tool.specs.declared.input.Unread.{Unread}
 use Rattle.lt_tool.specs.declared.input.Unread.TheVariants as inputs
-use Rattle.lt_command_line.specs.declared.options.Options.{Options}
+use Rattle.lockrun_words.specs.declared.options.Options.{Options}
 use Rattle.lt_tool.specs.declared.script.RunError.{RunError}
 use Rattle.lt_tool.specs.declared.script.RunError.TheVariants as errors
 use Rattle.lt_tool.specs.Answers.{answers_text}

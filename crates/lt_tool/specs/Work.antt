@@ -10,15 +10,15 @@ use Rattle.lt_checker.specs.declared.checker.Report.{Report}
 use Rattle.lt_runner.specs.declared.outcome.Finish.{Finish}
 use Rattle.lt_runner.specs.declared.outcome.Finish.TheVariants.{Done}
 use Rattle.lt_runner.specs.Gates.{open_gate}
-use Rattle.lt_command_line.specs.declared.options.Options.{Options}
+use Rattle.lockrun_words.specs.declared.options.Options.{Options}
 use Rattle.lt_tool.specs.Check.{IsChecked, IsUnchecked, ToldInPart, IsUpgraded, UpgradedInPart, report_line}
-use Rattle.lt_command_line.specs.declared.words.Job.{Job}
-use Rattle.lt_command_line.specs.declared.words.Job.TheVariants as jobs
-use Rattle.lt_command_line.specs.declared.words.WordsError.{WordsError}
-use Rattle.lt_command_line.specs.declared.words.WordsError.TheVariants as errors
+use Rattle.lockrun_words.specs.declared.words.Job.{Job}
+use Rattle.lockrun_words.specs.declared.words.Job.TheVariants as jobs
+use Rattle.lockrun_words.specs.declared.words.WordsError.{WordsError}
+use Rattle.lockrun_words.specs.declared.words.WordsError.TheVariants as errors
 use Rattle.lt_writer.specs.Puts.{AppendsPrefix}
 use Rattle.lt_tool.specs.Output.{IsScriptRefused, WritesOutput, WritesInPart}
-use Rattle.lt_command_line.specs.Words.{IsReadOf}
+use Rattle.lockrun_words.specs.Words.{IsReadOf}
 
 -- The text is legal, and the writer has received its line and nothing else.
 pub record ReportIsWritten (source old new : Option (List ℕ)) : Type 0 where

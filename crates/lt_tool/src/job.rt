@@ -5,14 +5,14 @@
 ghost use Rattle.std.specs.Prelude.{◌≡◌, None, IfOk, IfErr};
 ghost use Rattle.std.specs.Io.KnownBytes.{Appends};
 ghost use Rattle.lt_writer.specs.Puts.{AppendsPrefix};
-ghost use Rattle.lt_command_line.specs.Options.{AreInRange};
+ghost use Rattle.lockrun_words.specs.Options.{AreInRange};
 ghost use Rattle.lt_runner.specs.Gates.{open_gate};
 ghost use Rattle.lt_tool.specs.Output.{WritesOutput};
-ghost use Rattle.lt_command_line.specs.Words.{HasOptionsInRange, texts};
+ghost use Rattle.lockrun_words.specs.Words.{HasOptionsInRange, texts};
 ghost use Rattle.lt_tool.specs.Work.{IsFailedRun, IsFailedCheck, IsFailedUpgrade, ReportIsWritten, Upgraded, LeavesOutput, JobIsDone, IsFailed, ReadsInput, AskForInput, Performs, WorkFails};
 
 use crate::{CheckTextError, Failure, Finish, RunError, check_text, run_script, upgrade_text};
-use lt_command_line::{Job, Options, WordsError, read_words};
+use lockrun_words::{Job, Options, WordsError, read_words};
 use lt_writer::write_out;
 use std::alloc::Global;
 use std::fs::{File, Files};

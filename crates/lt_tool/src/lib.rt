@@ -15,7 +15,7 @@
 //! - [`laws::output_tells`] says in one place how the answer lines and the histories of an output relate.
 //!
 //! Read next: `specs/Output.antt` for what a run writes, over `specs/Ran.antt` of `lt_runner`; `specs/Answers.antt`
-//! for how an answer is written; `specs/Check.antt` for what a check answers. `lt_command_line` defines what the
+//! for how an answer is written; `specs/Check.antt` for what a check answers. `lockrun_words` defines what the
 //! words and the options may say. `docs/FORMATS.md` describes the same for readers.
 #![tactic(auto)]
 
@@ -31,6 +31,6 @@ mod table_run;
 pub use check::{CheckTextError, check_text, upgrade_text};
 pub use failure::{Failure, complain, status};
 pub use job::perform;
-pub use lt_command_line::{Job, Options, WordsError, read_words};
+pub use lockrun_words::{Job, Options, WordsError, read_words};
 pub use lt_runner::{Finish, Gate, OpenGate};
 pub use script::{RunError, run_script, run_script_with};

@@ -3,13 +3,13 @@
 //! [`run_script_with`] reads and checks the script, runs it, and writes the output that `table_run.rt` composed.
 //! Read next: `table_run.rt`, and `specs/Output.antt` for what is written.
 ghost use Rattle.std.specs.Prelude.{◌≡◌, ◌≢◌, IfOk, IfErr};
-ghost use Rattle.lt_command_line.specs.Options.{AreInRange};
+ghost use Rattle.lockrun_words.specs.Options.{AreInRange};
 ghost use Rattle.lt_runner.specs.Gates.{open_gate};
 ghost use Rattle.lt_tool.specs.Output.{WritesOutput, WritesInPart, IsScriptRefused, AreCommandsOf, RefusesFaultyScript, RefusesLongScript, unread_script, unscripted, unfinished};
 
 use crate::input::{Unread, read_text};
 use crate::table_run::run_commands;
-use lt_command_line::Options;
+use lockrun_words::Options;
 use lt_runner::{Finish, Gate, OpenGate, RunFault};
 use lt_script::{Script, ScriptError, ScriptFault, read_script};
 use lt_writer::write_out;

@@ -1,10 +1,10 @@
 //! Runs the commands of a script on a table, and composes the output.
 ghost use Rattle.std.specs.Prelude.{◌≡◌, IfOk};
-ghost use Rattle.lt_command_line.specs.Options.{AreInRange};
+ghost use Rattle.lockrun_words.specs.Options.{AreInRange};
 ghost use Rattle.lt_tool.specs.Output.{IsComposed, IsOutput, turns_of};
 
 use crate::answer::put_answers;
-use lt_command_line::Options;
+use lockrun_words::Options;
 use lt_runner::{Finish, Gate, Plan, Ran, RunFault, run};
 use lt_script::Script;
 use lt_table::{linked_tables, random_start};

@@ -1,5 +1,5 @@
 //! Options for the runs of the tests.
-ghost use Rattle.lt_command_line.specs.Options.{AreInRange};
+ghost use Rattle.lockrun_words.specs.Options.{AreInRange};
 
 use lt_tool::Options;
 

@@ -2,7 +2,7 @@
 //! Each row of `RUNS` is what the run shows, a script and its whole output; `OTHERWISE` adds options and how the
 //! run ends. Other tables have what a gate is asked and told (`NOTED`) and the prefixes of a script (`FRONTS`).
 //! Read next `gates` and `streams`; `docs/FORMATS.md` explains the texts.
-ghost use Rattle.lt_command_line.specs.Options.{AreInRange};
+ghost use Rattle.lockrun_words.specs.Options.{AreInRange};
 
 use lt_script::ScriptFault;
 use lt_tool::{Finish, Gate, Options, RunError, run_script, run_script_with};

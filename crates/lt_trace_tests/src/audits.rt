@@ -2,8 +2,8 @@
 //!
 //! `TEXTS` has legal texts of several keys, and texts with one fault each. Every text is checked in pieces of every
 //! size, and with a cut at every offset. Then its reads stop short, and fail.
-use lt_audit::{AuditError, CutPlan, TextAt, check_pieces, check_stream};
 use lt_checker::{CheckError, Report, check};
+use lt_trace_check::{AuditError, CutPlan, TextAt, check_pieces, check_stream};
 use std::alloc::Global;
 use std::io;
 use std::io::{BufReader, ErrorKind, Read};

@@ -1,8 +1,10 @@
 //! Does an explanation say why a check refuses a line? The rows are worked out by hand from docs/FORMATS.md. A call that
 //! runs out of memory is made again, so the tests also pass if any one allocation fails.
-use lt_audit::{AuditError, BadWord, Explained, LineReason, bad_word, explain, read_first_line};
 use lt_checker::{Fault, HistoryLineError, read_line};
 use lt_rules::Reply;
+use lt_trace_check::{
+    AuditError, BadWord, Explained, LineReason, bad_word, explain, read_first_line,
+};
 use std::alloc::Global;
 use std::test::Fail;
 

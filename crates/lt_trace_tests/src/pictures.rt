@@ -5,12 +5,12 @@
 //! requests 1, 2 and 5 wait to write, and 3 to read. When 9 finishes, 3 and 1 are let through, and 1 has the
 //! reservation and then the lock. 2 leaves. When 1 finishes, 5 is let through and has the reservation, and leaves.
 use lt_ids::{Access, IdError, Key, Ticket, Timestamp, TxnId};
-use lt_picture::{
+use lt_plain::PlainTable;
+use lt_rules::{Call, KeyState, KeyTable, Reply};
+use lt_trace_picture::{
     Arrow, Bar, ColourChoice, Lane, Layout, Phase, PictureError, ShownRange, ShownStep, Terminal,
     html, lanes_of, picture, put_escaped, put_heading, put_key, put_printable, put_shown,
 };
-use lt_plain::PlainTable;
-use lt_rules::{Call, KeyState, KeyTable, Reply};
 use std::alloc::{AllocError, Global};
 use std::process::Abort;
 use std::test::Fail;

@@ -5,7 +5,7 @@
 //! allocation failure.
 use lt_ids::{Access, Key, Ticket, Timestamp};
 use lt_rules::{Call, Reply};
-use lt_statistics::{
+use lt_trace_statistics::{
     HotKey, LongestQueue, LongestWait, Statistics, StepCounts, StepFacts, TextSummary,
 };
 use std::alloc::Global;

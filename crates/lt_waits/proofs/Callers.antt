@@ -8,11 +8,11 @@ use Rattle.lt_words.specs.History.{part, shard_of}
 use Rattle.lt_words.specs.Row.{Opening, PassState, fresh}
 use Rattle.lt_words.proofs.Prefixes.{prefix_trans}
 use Rattle.lt_words.proofs.Histories.{part_length}
-use Rattle.lt_table_core.specs.Machine.{Step}
-use Rattle.lt_table_core.specs.Reported.{shard_at}
-use Rattle.lt_table_core.specs.Laws.{at_index, at_index_of}
-use Rattle.lt_table_core.specs.Theorem.{Told, Heard, AreHeard, steps_told, ShardHistories, IsInFinal, AllTold, AllHeard}
-use Rattle.lt_table_core.specs.Theorem.Told.{Made, WasLet}
+use Rattle.lt_walk.specs.Machine.{Step}
+use Rattle.lt_walk.specs.Reported.{shard_at}
+use Rattle.lt_walk.specs.Laws.{at_index, at_index_of}
+use Rattle.lt_walk.specs.Theorem.{Told, Heard, AreHeard, steps_told, ShardHistories, IsInFinal, AllTold, AllHeard}
+use Rattle.lt_walk.specs.Theorem.Told.{Made, WasLet}
 
 -- ---- what a caller hears
 

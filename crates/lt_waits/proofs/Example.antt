@@ -17,11 +17,11 @@ use Rattle.lt_entry.specs.Ranges.{IsInRange, IsTicket}
 use Rattle.lt_words.specs.History.{part, steps_of, IsLegalHistory}
 use Rattle.lt_words.specs.Shown.{AreShown}
 use Rattle.lt_words.specs.Row.{PassState, MakesNoStep, fresh}
-use Rattle.lt_table_core.specs.Closed.{IsFinal}
-use Rattle.lt_table_core.specs.Reported.{Reported, IsPoll}
-use Rattle.lt_table_core.specs.declared.scan_results.Poll.TheVariants.{Through}
-use Rattle.lt_table_core.specs.Theorem.{AreHeard, IsEnd}
-use Rattle.lt_table_core.proofs.Lives.{sees_same}
+use Rattle.lt_walk.specs.Closed.{IsFinal}
+use Rattle.lt_walk.specs.Reported.{Reported, IsPoll}
+use Rattle.lt_walk.specs.declared.scan_results.Poll.TheVariants.{Through}
+use Rattle.lt_walk.specs.Theorem.{AreHeard, IsEnd}
+use Rattle.lt_walk.proofs.Lives.{sees_same}
 use Rattle.lt_waits.specs.Waits.{TellsOfWait, IsNoLater}
 use Rattle.lt_waits.specs.Example.{waited_step, pass_after, waited_key, first_wait, first_let, lock_taken, request_waits, lock_freed, waited_history, waited_table, one_took, one_freed, two_entered, two_waits, two_learned, told_step, told_one, told_two, waited_finals, before_poll, after_poll, SomePollHears}
 

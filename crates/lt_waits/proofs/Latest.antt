@@ -15,17 +15,17 @@ use Rattle.lt_words.specs.declared.event.Event.TheVariants.{Draw}
 use Rattle.lt_words.specs.History.{draws_of}
 use Rattle.lt_words.specs.Row.{PassState, MakesNoStep}
 use Rattle.lt_words.proofs.Histories.{draws_of-append}
-use Rattle.lt_table_core.specs.declared.walk_progress.Mode.{Mode}
-use Rattle.lt_table_core.specs.declared.walk_progress.Mode.TheVariants.{Free, Awaiting, Let, Stopped, Leaving}
-use Rattle.lt_table_core.specs.declared.walk_progress.Progress.{Progress}
-use Rattle.lt_table_core.specs.declared.scan_results.Scan.{Scan}
-use Rattle.lt_table_core.specs.declared.scan_results.ScanError.{ScanError}
-use Rattle.lt_table_core.specs.declared.scan_results.Poll.{Poll}
-use Rattle.lt_table_core.specs.Machine.{Asked, after_status, scan_start_in, scan_end, restarted, is_awaiting, is_stopped, may_visit, next_visit, visit_call, passed, met, met_as, is_wait, is_long, leaving, leave_start, leave_start_in, WalkState, Step, Visits, Ends, IsScanBegun, IsScanFrom, Leaves, IsLeaveFrom}
-use Rattle.lt_table_core.specs.Reported.{AreReported, GuardState, IsScan, IsPoll, StoppedLeaving, current_wait}
-use Rattle.lt_table_core.specs.Theorem.{Told, steps_told}
-use Rattle.lt_table_core.specs.Theorem.Told.{Made, WasLet}
-use Rattle.lt_table_core.proofs.Lives.{sees_same}
+use Rattle.lt_walk.specs.declared.walk_progress.Mode.{Mode}
+use Rattle.lt_walk.specs.declared.walk_progress.Mode.TheVariants.{Free, Awaiting, Let, Stopped, Leaving}
+use Rattle.lt_walk.specs.declared.walk_progress.Progress.{Progress}
+use Rattle.lt_walk.specs.declared.scan_results.Scan.{Scan}
+use Rattle.lt_walk.specs.declared.scan_results.ScanError.{ScanError}
+use Rattle.lt_walk.specs.declared.scan_results.Poll.{Poll}
+use Rattle.lt_walk.specs.Machine.{Asked, after_status, scan_start_in, scan_end, restarted, is_awaiting, is_stopped, may_visit, next_visit, visit_call, passed, met, met_as, is_wait, is_long, leaving, leave_start, leave_start_in, WalkState, Step, Visits, Ends, IsScanBegun, IsScanFrom, Leaves, IsLeaveFrom}
+use Rattle.lt_walk.specs.Reported.{AreReported, GuardState, IsScan, IsPoll, StoppedLeaving, current_wait}
+use Rattle.lt_walk.specs.Theorem.{Told, steps_told}
+use Rattle.lt_walk.specs.Theorem.Told.{Made, WasLet}
+use Rattle.lt_walk.proofs.Lives.{sees_same}
 use Rattle.lt_waits.specs.Waits.{TellsOfWait, IsNoLater, AreNoLater, AreOfDraws, IsInLatestWait, AreNoVisits}
 use Rattle.lt_waits.specs.Laws.{LaterBegins, NoWaitIsToldWithoutRequest, EnteredIsInLatestWait, LatestWaitStaysLatest, LeftIsOfDraws}
 

@@ -15,21 +15,21 @@ use Rattle.lt_words.proofs.Prefixes.{prefix_trans, prefix_get}
 use Rattle.lt_words.proofs.Histories.{part_prefix}
 use Rattle.lt_shard.specs.declared.answer.StepError.{StepError}
 use Rattle.lt_shard.specs.declared.answer.StepError.TheVariants.{HistoryFull, Memory}
-use Rattle.lt_table_core.specs.declared.walk_progress.Progress.{Progress}
-use Rattle.lt_table_core.specs.declared.scan_results.Scan.{Scan}
-use Rattle.lt_table_core.specs.declared.scan_results.Scan.TheVariants.{Proceed, Rescan, Waiting, TooLong}
-use Rattle.lt_table_core.specs.declared.scan_results.ScanError.{ScanError}
-use Rattle.lt_table_core.specs.declared.scan_results.ScanError.TheVariants.{StillWaiting, WaitsOut}
-use Rattle.lt_table_core.specs.Machine.{Step, WalkState, after_status, scan_start, scan_end, is_awaiting, is_stopped, next_visit, of_step, Ends, IsScanBegun}
-use Rattle.lt_table_core.specs.Reported.{shard_at, current_wait}
-use Rattle.lt_table_core.specs.Closed.{IsFinal}
-use Rattle.lt_table_core.specs.Laws.{LaterLet, ShownIsThrough, ShownGoesOn, NoWakeUpIsLost, at_index_of}
-use Rattle.lt_table_core.specs.Theorem.Told.{Made}
-use Rattle.lt_table_core.specs.Theorem.{Told, AreHeard, steps_told, ShardHistories, IsInFinal, TheMainTheorem, MainTheorem}
+use Rattle.lt_walk.specs.declared.walk_progress.Progress.{Progress}
+use Rattle.lt_walk.specs.declared.scan_results.Scan.{Scan}
+use Rattle.lt_walk.specs.declared.scan_results.Scan.TheVariants.{Proceed, Rescan, Waiting, TooLong}
+use Rattle.lt_walk.specs.declared.scan_results.ScanError.{ScanError}
+use Rattle.lt_walk.specs.declared.scan_results.ScanError.TheVariants.{StillWaiting, WaitsOut}
+use Rattle.lt_walk.specs.Machine.{Step, WalkState, after_status, scan_start, scan_end, is_awaiting, is_stopped, next_visit, of_step, Ends, IsScanBegun}
+use Rattle.lt_walk.specs.Reported.{shard_at, current_wait}
+use Rattle.lt_walk.specs.Closed.{IsFinal}
+use Rattle.lt_walk.specs.Laws.{LaterLet, ShownIsThrough, ShownGoesOn, NoWakeUpIsLost, at_index_of}
+use Rattle.lt_walk.specs.Theorem.Told.{Made}
+use Rattle.lt_walk.specs.Theorem.{Told, AreHeard, steps_told, ShardHistories, IsInFinal, TheMainTheorem, MainTheorem}
 use Rattle.lt_waits.specs.Waits.{TellsOfWait, IsNoLater, HadHeard, WasToldToWait}
 use Rattle.lt_waits.specs.Laws.{NoLaterWaitIsLet, ShownIsAlwaysThrough, ShownAlwaysGoesOn, NoWakeUpIsEverLost}
-use Rattle.lt_table_core.proofs.InPlace.{inside_length}
-use Rattle.lt_table_core.proofs.WentOn.{reported_stays}
+use Rattle.lt_walk.proofs.InPlace.{inside_length}
+use Rattle.lt_walk.proofs.WentOn.{reported_stays}
 use Rattle.lt_waits.proofs.Latest.{told_then, same_item}
 use Rattle.lt_waits.proofs.Callers.{heard_grows, IsLaterThan, all_later, IsAmong, among_both, holds_among, IsCallerOf, caller_of, item_of, one_index, of_table}
 use Rattle.lt_waits.proofs.ToldToWait.{let_was_told_to_wait}

@@ -15,13 +15,13 @@ use Rattle.lt_words.specs.declared.event.Event.TheVariants.{Draw, Step}
 use Rattle.lt_words.specs.declared.keeping.Keeping.TheVariants.{Whole}
 use Rattle.lt_words.specs.History.{part, IsLetAmong}
 use Rattle.lt_words.specs.Row.{Opening, PassState, brand_opening, wake_ups}
-use Rattle.lt_table_core.specs.declared.walk_progress.Mode.TheVariants.{Awaiting, Let}
-use Rattle.lt_table_core.specs.declared.scan_results.Poll.TheVariants.{Through}
-use Rattle.lt_table_core.specs.Machine.{WalkState}
-use Rattle.lt_table_core.specs.Machine as machine
-use Rattle.lt_table_core.specs.Reported.{Reported, GuardState, IsPoll, current_wait}
-use Rattle.lt_table_core.specs.Theorem.{Told, AreHeard, ShardHistories, IsEnd}
-use Rattle.lt_table_core.specs.Theorem.Told.{Made}
+use Rattle.lt_walk.specs.declared.walk_progress.Mode.TheVariants.{Awaiting, Let}
+use Rattle.lt_walk.specs.declared.scan_results.Poll.TheVariants.{Through}
+use Rattle.lt_walk.specs.Machine.{WalkState}
+use Rattle.lt_walk.specs.Machine as machine
+use Rattle.lt_walk.specs.Reported.{Reported, GuardState, IsPoll, current_wait}
+use Rattle.lt_walk.specs.Theorem.{Told, AreHeard, ShardHistories, IsEnd}
+use Rattle.lt_walk.specs.Theorem.Told.{Made}
 use Rattle.lt_waits.specs.Waits.{IsInLatestWait, HadHeard}
 
 abbrev pub waited_key : List ℕ

@@ -9,18 +9,18 @@ use Rattle.lt_words.specs.History.{IsLegalHistory, IsLetAmong, LetIn}
 use Rattle.lt_words.specs.Shown.{IsShown}
 use Rattle.lt_words.specs.Row.{Opening, PassState, MakesNoStep}
 use Rattle.lt_shard.specs.declared.answer.Answer.{Answer}
-use Rattle.lt_table_core.specs.declared.walk_progress.Mode.TheVariants.{Awaiting}
-use Rattle.lt_table_core.specs.declared.scan_results.Scan.{Scan}
-use Rattle.lt_table_core.specs.declared.scan_results.ScanError.{ScanError}
-use Rattle.lt_table_core.specs.declared.scan_results.ScanError.TheVariants.{StillWaiting}
-use Rattle.lt_table_core.specs.declared.scan_results.Poll.{Poll}
-use Rattle.lt_table_core.specs.declared.scan_results.Poll.TheVariants.{Through}
-use Rattle.lt_table_core.specs.Machine.{Step}
-use Rattle.lt_table_core.specs.Reported.{Reported, AreReported, GuardState, IsScan, IsPoll, AllLeft, StoppedLeaving, current_wait}
-use Rattle.lt_table_core.specs.Entered.{IsEntered}
-use Rattle.lt_table_core.specs.Laws.{LaterLet}
-use Rattle.lt_table_core.specs.Theorem.{Told, Heard, AreHeard, ShardHistories, IsEnd}
-use Rattle.lt_table_core.specs.Theorem.Told.{Made, WasLet}
+use Rattle.lt_walk.specs.declared.walk_progress.Mode.TheVariants.{Awaiting}
+use Rattle.lt_walk.specs.declared.scan_results.Scan.{Scan}
+use Rattle.lt_walk.specs.declared.scan_results.ScanError.{ScanError}
+use Rattle.lt_walk.specs.declared.scan_results.ScanError.TheVariants.{StillWaiting}
+use Rattle.lt_walk.specs.declared.scan_results.Poll.{Poll}
+use Rattle.lt_walk.specs.declared.scan_results.Poll.TheVariants.{Through}
+use Rattle.lt_walk.specs.Machine.{Step}
+use Rattle.lt_walk.specs.Reported.{Reported, AreReported, GuardState, IsScan, IsPoll, AllLeft, StoppedLeaving, current_wait}
+use Rattle.lt_walk.specs.Entered.{IsEntered}
+use Rattle.lt_walk.specs.Laws.{LaterLet}
+use Rattle.lt_walk.specs.Theorem.{Told, Heard, AreHeard, ShardHistories, IsEnd}
+use Rattle.lt_walk.specs.Theorem.Told.{Made, WasLet}
 use Rattle.lt_waits.specs.Waits.{AreOfDraws, IsInLatestWait, AreNoVisits, HadHeard, WasToldToWait}
 
 -- Who is let through in a legal history had been told to wait, with the same ticket and as the same pass. Premise: there

@@ -11,9 +11,9 @@ use Rattle.lt_entry.specs.declared.entry.Entry.{Entry}
 use Rattle.lt_words.specs.declared.event.Event.{Event}
 use Rattle.lt_words.specs.History.{part, draws_of}
 use Rattle.lt_words.specs.Row.{PassState}
-use Rattle.lt_table_core.specs.Machine.{Step}
-use Rattle.lt_table_core.specs.Reported.{GuardState, current_wait}
-use Rattle.lt_table_core.specs.Theorem.{Told, Heard, steps_told}
+use Rattle.lt_walk.specs.Machine.{Step}
+use Rattle.lt_walk.specs.Reported.{GuardState, current_wait}
+use Rattle.lt_walk.specs.Theorem.{Told, Heard, steps_told}
 
 -- The step told the request that made it to wait, with this ticket.
 pub record TellsOfWait (x : Step) (t : Wait) : Type 0 where

@@ -6,7 +6,7 @@ ghost use Rattle.lt_waits.specs.Example.{SomePollHears};
 ghost use Rattle.lt_waits.specs.Laws.{LetWasToldToWait, LaterBegins, NothingToldIsOfDraws, NoWaitIsToldWithoutRequest, EnteredIsInLatestWait, LatestWaitStaysLatest, LeftIsOfDraws, NoLaterWaitIsLet, ShownIsAlwaysThrough, ShownAlwaysGoesOn, NoWakeUpIsEverLost};
 
 use lt_rules::laws::lets_end_waits;
-use lt_table_core::laws::{main_theorem, no_wake_up_is_lost, shown_goes_on, shown_is_through};
+use lt_walk::laws::{main_theorem, no_wake_up_is_lost, shown_goes_on, shown_is_through};
 use lt_words::laws::{parts_are_legal, prefixes_are_legal};
 
 /// Who is let through had been told to wait: a visit by the same pass, with the same ticket, was answered `MustWait`, and
@@ -20,7 +20,7 @@ pub fn let_was_told_to_wait()
 
 // ---- how a caller comes to the premises
 
-/// From any moment on, nothing was told yet. `lt_table_core::laws::hearing_goes_on` extends this by each call, up to the
+/// From any moment on, nothing was told yet. `lt_walk::laws::hearing_goes_on` extends this by each call, up to the
 /// close.
 pub fn later_begins()
     ensures { LaterBegins }

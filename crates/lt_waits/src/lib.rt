@@ -1,6 +1,6 @@
 //! Does a poll ever miss a let that its pass has seen shown?
 //!
-//! `lt_table_core::laws::no_wake_up_is_lost` says that it does not, unless a later wait of the same pass was let through.
+//! `lt_walk::laws::no_wake_up_is_lost` says that it does not, unless a later wait of the same pass was let through.
 //! This crate shows that no such wait exists. The laws are about a table that was closed: only then is it known what all
 //! callers were told. So a caller concludes, after the close, that none of its polls before had missed a let. The laws say
 //! nothing of a table that is still open, nor of a caller that sleeps.
@@ -9,7 +9,7 @@
 //!
 //! 1. Who is let through had been told to wait, with that ticket and as that pass: a step in what the pass has seen says so
 //!    ([`laws::let_was_told_to_wait`]).
-//! 2. At the close each index of a shard was told to one caller (`lt_table_core::laws::main_theorem`, `once`). That step
+//! 2. At the close each index of a shard was told to one caller (`lt_walk::laws::main_theorem`, `once`). That step
 //!    names the pass, so it was told to the caller of this pass.
 //! 3. A step that a caller is told of comes after everything that its pass had seen then (`after`). So the caller was told
 //!    of that step before it polled.

@@ -1,9 +1,9 @@
 //! Callers sleep, wake in order, miss no let, and stop waiting when their time is up.
-use crate::waiting::handing::hand_over;
-use crate::waiting::lent::lend_to_two;
-use crate::waiting::queue::take_turns;
-use crate::waiting::timed::wait_twice;
-use crate::waiting::waking::wake_three;
+use crate::waiting::handing_player::hand_over;
+use crate::waiting::lent_player::lend_to_two;
+use crate::waiting::queue_player::take_turns;
+use crate::waiting::timed_player::wait_twice;
+use crate::waiting::waking_player::wake_three;
 use lt_table::{Keeping, Poll};
 use std::test::Fail;
 use std::time::Duration;
@@ -89,7 +89,8 @@ fn a_wait_of_an_unrecorded_table_ends_at_its_time(rt: HostRuntime) -> Result<(),
 /// four steps at each key.
 #[test]
 fn two_threads_use_lent_passes(rt: HostRuntime) -> Result<(), Fail> {
-    let steps = lend_to_two(&rt, rt.alloc()).ok_or("the threads")?;
-    assert_eq!(rt; steps, 8);
+    let histories = lend_to_two(&rt, rt.alloc()).ok_or("the threads")?;
+    let steps = histories.shards.first().ok_or("the shard")?;
+    assert_eq!(rt; steps.len(), 8);
     Ok(())
 }

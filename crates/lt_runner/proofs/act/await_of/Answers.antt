@@ -1,6 +1,6 @@
 use Rattle.std.proofs.Common.{ℕ, List, [], Some, refl, ap, sym, subst, ◌∙◌}
-use Rattle.lt_table_core.specs.Machine.{WalkState, polled}
-use Rattle.lt_table_core.specs.Reported.{GuardState}
+use Rattle.lt_walk.specs.Machine.{WalkState, polled}
+use Rattle.lt_walk.specs.Reported.{GuardState}
 use Rattle.lt_runner.specs.Machine.{let_read, numbers_of, poll_answer}
 use Rattle.lt_runner.specs.Execution.{Polls}
 use Rattle.lt_runner.specs.Outcomes.{OutcomeTells}

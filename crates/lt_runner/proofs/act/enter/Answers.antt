@@ -1,6 +1,6 @@
 use Rattle.std.proofs.Common.{ℕ, [], ◌∷◌, Some, refl, ap, sym, subst, rules}
-use Rattle.lt_table_core.specs.Entered.{IsEntered}
-use Rattle.lt_table_core.specs.Machine.{WalkState}
+use Rattle.lt_walk.specs.Entered.{IsEntered}
+use Rattle.lt_walk.specs.Machine.{WalkState}
 use Rattle.lt_runner.specs.Outcomes.{OutcomeTells}
 use Rattle.lt_runner.proofs.Doings.{is_entered}
 use Rattle.lt_runner.proofs.Telling.{tells_entered}

@@ -1,5 +1,5 @@
 use Rattle.std.proofs.Common.{◌≡◌, subst, rules}
-use Rattle.lt_table_core.specs.declared.scan_results.Poll.TheVariants as polls
+use Rattle.lt_walk.specs.declared.scan_results.Poll.TheVariants as polls
 use Rattle.lt_runner.specs.Execution.{Polls}
 use Rattle.lt_runner.proofs.Scans.{one_poll, polls_then}
 use Rattle.lt_runner.proofs.act.poll_on.Goals as goal

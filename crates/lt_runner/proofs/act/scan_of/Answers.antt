@@ -1,7 +1,7 @@
 use Rattle.std.proofs.Common.{ℕ, ◌<◌, length, List, Some, refl, ap, sym, subst, ◌∙◌}
 use Rattle.lt_ids.specs.declared.request.Access.{Access}
-use Rattle.lt_table_core.specs.Machine.{Asked}
-use Rattle.lt_table_core.specs.Reported.{IsScan, GuardState}
+use Rattle.lt_walk.specs.Machine.{Asked}
+use Rattle.lt_walk.specs.Reported.{IsScan, GuardState}
 use Rattle.lt_runner.specs.Machine.{IsScanAnswer, let_gone_on}
 use Rattle.lt_runner.specs.Outcomes.{OutcomeTells}
 use Rattle.lt_runner.proofs.Scans.{tells_scan, hears_scan, scans_draw_none}

@@ -1,6 +1,6 @@
 use Rattle.std.proofs.Common.{◌≡◌, ◌≤◌, length, map, vec_capacity}
 use Rattle.std.specs.List.{AllByRecursion}
-use Rattle.lt_table_core.specs.Closed.{passes_of}
+use Rattle.lt_walk.specs.Closed.{passes_of}
 use Rattle.lt_runner.specs.Closing.{AreHanded, CountAlike, finish_all}
 use Rattle.lt_runner.proofs.whole.hand_over.Given as goal
 

@@ -2,8 +2,8 @@ use Rattle.std.proofs.Common.{◌≡◌, ◌≤◌, ℕ, length, sym, subst}
 use Rattle.std.specs.List.{All, AllByRecursion}
 use Rattle.std.proofs.lemmas.List.Elements.{All-from_recursion, recursion_from_All}
 use Rattle.lt_words.specs.Row.{Opening, PassState}
-use Rattle.lt_table_core.specs.declared.config.Config.{Config}
-use Rattle.lt_table_core.specs.Closed.{passes_of}
+use Rattle.lt_walk.specs.declared.config.Config.{Config}
+use Rattle.lt_walk.specs.Closed.{passes_of}
 use Rattle.lt_runner.specs.declared.outcome.Ran.{Ran}
 use Rattle.lt_runner.specs.declared.outcome.Work.{Work}
 use Rattle.lt_runner.specs.Sessions.{session_pass}

@@ -1,7 +1,7 @@
 use Rattle.std.proofs.Common.{◌≡◌, ◌<◌, ◌+◌, ℕ, suc, zero, List, [], ◌∷◌, length, get_or, arith, refl, sym, subst, ◌∙◌}
 use Rattle.lt_words.specs.Row.{Opening}
 use Rattle.lt_shard.specs.Shards.{View}
-use Rattle.lt_table_core.specs.Closed.{IsCounted, passes_of}
+use Rattle.lt_walk.specs.Closed.{IsCounted, passes_of}
 use Rattle.lt_table_core.proofs.closing.count_fault.Goals as goal
 
 -- within the list the default does not matter
@@ -39,12 +39,13 @@ returns-then-not-is_counted-clause-some g c = (
   c.loop-index.invariant,
   λ v counted. c.if-not-is_counted.ensures.no refl
       (subst (λ (w : View). IsCounted c.args.wanted (passes_of c.args.passes.now c.args.guards.now) c.loop-index.index w)
-      (same_at c.args.shards.now c.loop-index.index v c.index-shards-index.result c.loop-index-test.true ∙ sym c.index-shards-index.is) counted),
+      (same_at c.args.shards.now c.loop-index.index v c.index-shards-index.result c.loop-index-test.true ∙ sym c.index-shards-index.is ∙ sym c.named.view_is) counted),
 )
 
 pub loop-index-preserved : goal.loop-index-preserved
 loop-index-preserved g c = one_more (IsCounted c.args.wanted (passes_of c.args.passes.now c.args.guards.now)) c.args.shards.now c.loop-index.index c.index-shards-index.result
-    c.loop-index-test.true c.index-shards-index.is (c.if-not-is_counted.ensures.yes refl) c.loop-index.invariant
+    c.loop-index-test.true c.index-shards-index.is
+    (subst (IsCounted c.args.wanted (passes_of c.args.passes.now c.args.guards.now) c.loop-index.index) c.named.view_is (c.if-not-is_counted.ensures.yes refl)) c.loop-index.invariant
 
 pub returns-clause-none : goal.returns-clause-none
 returns-clause-none g c = λ s v less. c.loop-index.invariant s v (omega (arith, less, c.requires.many, c.loop-index-test.false))

@@ -1,4 +1,4 @@
-use Rattle.lt_table_core.specs.Closed.{passes_of, AreCounted}
+use Rattle.lt_walk.specs.Closed.{passes_of, AreCounted}
 use Rattle.lt_table_core.proofs.closing.count_fault.Given as goal
 
 abbrev pub invariant-loop-index : goal.invariant-loop-index

@@ -5,7 +5,7 @@ use Rattle.std.proofs.Common.{length-append}
 use Rattle.lt_words.specs.Row.{Opening, PassState}
 use Rattle.lt_words.specs.History.{IsLegalHistory}
 use Rattle.lt_shard.specs.Shards.{new_shard}
-use Rattle.lt_table_core.proofs.Ends.{ends, ends_whole, ends_short, all_and_last, of_last}
+use Rattle.lt_walk.proofs.Ends.{ends, ends_whole, ends_short, all_and_last, of_last}
 use Rattle.lt_table_core.proofs.closing.end.Goals as goal
 
 -- what a list begins with stays if one more comes

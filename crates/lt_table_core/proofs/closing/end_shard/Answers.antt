@@ -1,8 +1,8 @@
 use Rattle.std.proofs.Common.{◌∙◌, subst}
 use Rattle.lt_words.specs.Row.{Opening}
 use Rattle.lt_shard.specs.Shards.{View, IsShard}
-use Rattle.lt_table_core.specs.Closed.{IsEnded}
-use Rattle.lt_table_core.proofs.Ends.{was_met}
+use Rattle.lt_walk.specs.Closed.{IsEnded}
+use Rattle.lt_walk.proofs.Ends.{was_met}
 use Rattle.lt_table_core.proofs.closing.end_shard.Goals as goal
 
 pub returns-clause-ended : goal.returns-clause-ended

@@ -1,8 +1,8 @@
 use Rattle.std.proofs.Common.{◌≡◌, ◌∙◌, ◌∷◌, ◌++◌, [], length, rules, sym, ap, subst}
 use Rattle.std.proofs.lemmas.Iterator.Adapters.{YieldsList-from_vec}
 use Rattle.std.proofs.lemmas.Iterator.Consumers.{YieldsList-turn}
-use Rattle.lt_table_core.specs.Closed.{IsEnded, AreEnded}
-use Rattle.lt_table_core.proofs.Ends.{met_more, sees_on}
+use Rattle.lt_walk.specs.Closed.{IsEnded, AreEnded}
+use Rattle.lt_walk.proofs.Ends.{met_more, sees_on}
 use Rattle.lt_table_core.proofs.closing.end_shards.Goals as goal
 
 pub loop-shard-preserved : goal.loop-shard-preserved

@@ -1,6 +1,6 @@
 use Rattle.std.proofs.Common.{◌≡◌, vec_capacity}
 use Rattle.lt_words.specs.Row.{SeesMore}
-use Rattle.lt_table_core.specs.Closed.{AreEnded}
+use Rattle.lt_walk.specs.Closed.{AreEnded}
 use Rattle.lt_table_core.proofs.closing.end_shards.Given as goal
 
 abbrev pub invariant-loop-shard : goal.invariant-loop-shard

@@ -1,5 +1,5 @@
 use Rattle.std.proofs.Common.{◌≡◌, length, map, vec_capacity}
-use Rattle.lt_table_core.specs.Configs.{AreInPlace}
+use Rattle.lt_table_core.specs.Slots.{AreInPlace}
 use Rattle.lt_table_core.proofs.closing.slots_back.Given as goal
 
 abbrev pub invariant-loop-shard : goal.invariant-loop-shard

@@ -2,8 +2,8 @@ use Rattle.std.proofs.Common.{◌≡◌, ◌∷◌, [], arith, rules, ap, sym, s
 use Rattle.std.proofs.lemmas.Iterator.Adapters.{YieldsList-from_vec}
 use Rattle.std.proofs.lemmas.Iterator.Consumers.{YieldsList-turn, YieldsList-end}
 use Rattle.lt_shard.specs.Shards.{new_shard}
-use Rattle.lt_table_core.specs.Configs.{AreNewShards}
-use Rattle.lt_table_core.proofs.Ends.{new_more}
+use Rattle.lt_walk.specs.Configs.{AreNewShards}
+use Rattle.lt_walk.proofs.Ends.{new_more}
 use Rattle.lt_table_core.proofs.opening.shards_over.Goals as goal
 
 pub new-requires-clause-empty : goal.new-requires-clause-empty

@@ -1,5 +1,5 @@
 use Rattle.std.proofs.Common.{◌≡◌, length}
-use Rattle.lt_table_core.specs.Configs.{AreNewShards}
+use Rattle.lt_walk.specs.Configs.{AreNewShards}
 use Rattle.lt_table_core.proofs.opening.shards_over.Given as goal
 
 abbrev pub invariant-loop-table : goal.invariant-loop-table

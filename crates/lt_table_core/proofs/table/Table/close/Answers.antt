@@ -1,6 +1,6 @@
 use Rattle.std.proofs.Common.{◌≤◌, length, refl}
-use Rattle.lt_table_core.specs.Closed.{passes_of}
-use Rattle.lt_table_core.proofs.Ends.{whole_closed, all_mapped}
+use Rattle.lt_walk.specs.Closed.{passes_of}
+use Rattle.lt_walk.proofs.Ends.{whole_closed, all_mapped}
 use Rattle.lt_table_core.proofs.table.Table.close.Goals as goal
 
 pub returns-clause-closed : goal.returns-clause-closed

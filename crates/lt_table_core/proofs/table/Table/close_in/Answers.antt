@@ -1,12 +1,12 @@
 use Rattle.std.proofs.Common.{◌≡◌, ◌≤◌, ◌<◌, ◌+◌, ℕ, List, length, map, subst, rules}
-use Rattle.lt_table_core.specs.declared.closing.CloseError.{CloseError}
-use Rattle.lt_table_core.specs.declared.config.Config.{Config}
-use Rattle.lt_table_core.specs.declared.closing.Wanted.{Wanted}
+use Rattle.lt_walk.specs.declared.closing.CloseError.{CloseError}
+use Rattle.lt_walk.specs.declared.config.Config.{Config}
+use Rattle.lt_walk.specs.declared.closing.Wanted.{Wanted}
 use Rattle.lt_words.specs.Row.{PassState}
 use Rattle.lt_shard.specs.Shards.{View}
-use Rattle.lt_table_core.specs.declared.closing.CloseError.TheVariants.{Counts, PassesOut, Memory}
-use Rattle.lt_table_core.specs.Closed.{IsMiscount, IsUnclosed, passes_of}
-use Rattle.lt_table_core.proofs.Ends.{all_of_both, all_mapped}
+use Rattle.lt_walk.specs.declared.closing.CloseError.TheVariants.{Counts, PassesOut, Memory}
+use Rattle.lt_walk.specs.Closed.{IsMiscount, IsUnclosed, passes_of}
+use Rattle.lt_walk.proofs.Ends.{all_of_both, all_mapped}
 use Rattle.lt_table_core.proofs.table.Table.close_in.Goals as goal
 
 pub end-rests-requires-clause-passes : goal.end-rests-requires-clause-passes

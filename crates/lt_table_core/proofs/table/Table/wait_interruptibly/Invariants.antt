@@ -1,7 +1,7 @@
 use Rattle.std.proofs.Common.{◌≡◌}
 use Rattle.lt_words.specs.History.{LetIn}
-use Rattle.lt_table_core.specs.declared.scan_results.Poll.TheVariants.{Through}
-use Rattle.lt_table_core.specs.Reported.{IsPoll, current_wait}
+use Rattle.lt_walk.specs.declared.scan_results.Poll.TheVariants.{Through}
+use Rattle.lt_walk.specs.Reported.{IsPoll, current_wait}
 use Rattle.lt_table_core.proofs.table.Table.wait_interruptibly.Given as goal
 
 abbrev pub invariant-loop : goal.invariant-loop

@@ -1,7 +1,7 @@
 use Rattle.std.proofs.Common.{◌≡◌, rules, subst}
-use Rattle.lt_table_core.specs.declared.scan_results.Poll.TheVariants.{Waiting}
-use Rattle.lt_table_core.specs.Reported.{IsPoll}
-use Rattle.lt_table_core.proofs.Waits.{poll_then}
+use Rattle.lt_walk.specs.declared.scan_results.Poll.TheVariants.{Waiting}
+use Rattle.lt_walk.specs.Reported.{IsPoll}
+use Rattle.lt_walk.proofs.Waits.{poll_then}
 use Rattle.lt_table_core.proofs.table.Table.wait_until.Goals as goal
 
 pub returns-in_default-clause-poll : goal.returns-in_default-clause-poll

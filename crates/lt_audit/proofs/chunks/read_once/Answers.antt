@@ -1,5 +1,0 @@
-use Rattle.std.proofs.Common.{rules}
-use Rattle.lt_audit.proofs.chunks.read_once.Goals as goal
-
-pub returns-in-Err-2-clause-ok : goal.returns-in-Err-2-clause-ok
-returns-in-Err-2-clause-ok c = search rules

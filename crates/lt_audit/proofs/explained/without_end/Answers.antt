@@ -1,5 +1,0 @@
-use Rattle.std.proofs.Common.{rules}
-use Rattle.lt_audit.proofs.explained.without_end.Goals as goal
-
-pub returns-in-Some-eq10-default : goal.returns-in-Some-eq10-default
-returns-in-Some-eq10-default c = search rules

@@ -1,5 +1,0 @@
-use Rattle.lt_audit.specs.Parallel.{IsTaking}
-use Rattle.lt_audit.proofs.parallel.take_all.Given as goal
-
-abbrev pub invariant-loop : goal.invariant-loop
-invariant-loop g l = IsTaking (g.R.Read.remaining l.fn.reader) (g.R.Read.remaining l.reader) l.fn.checker l.checker l.pending.items

@@ -1,7 +1,0 @@
-use Rattle.std.proofs.Common.{Some}
-use Rattle.clap.specs.Words.{found_of}
-use Rattle.lt_command_line.proofs.Commands.{runs_with}
-use Rattle.lt_command_line.proofs.words.run_of.Goals as goal
-
-pub returns-clause-named : goal.returns-clause-named
-returns-clause-named c = runs_with (found_of c.args.matches.now) _ (Some c.in_ok-options.options) c.get_str.ensures c.in_ok-options.ensures.said

@@ -1,6 +1,0 @@
-use Rattle.std.proofs.Common.{◌≡◌, take}
-use Rattle.lt_picture.specs.Owners.{everybody}
-use Rattle.lt_picture.proofs.lanes.everybody.Given as goal
-
-abbrev pub invariant-loop-step : goal.invariant-loop-step
-invariant-loop-step l = l.lanes.items ≡ everybody l.before (take l.step-index l.steps)

@@ -1,5 +1,0 @@
-use Rattle.lt_statistics.proofs.Longest.{no_longer_queue}
-use Rattle.lt_statistics.proofs.laws.no_longer_queue.Goals as goal
-
-pub returns : goal.returns
-returns c = no_longer_queue

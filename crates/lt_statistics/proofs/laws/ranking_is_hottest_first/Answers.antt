@@ -1,5 +1,0 @@
-use Rattle.lt_statistics.proofs.Heat.{ranking_is_hottest_first}
-use Rattle.lt_statistics.proofs.laws.ranking_is_hottest_first.Goals as goal
-
-pub returns : goal.returns
-returns c = ranking_is_hottest_first

@@ -1,5 +1,0 @@
-use Rattle.std.proofs.Common.{rules}
-use Rattle.lt_statistics.proofs.statistics.counted.Goals as goal
-
-pub returns-clause-lets : goal.returns-clause-lets
-returns-clause-lets c = search rules

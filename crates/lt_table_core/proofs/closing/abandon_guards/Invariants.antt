@@ -1,5 +1,0 @@
-use Rattle.std.proofs.Common.{vec_len}
-use Rattle.lt_table_core.proofs.closing.abandon_guards.Given as goal
-
-abbrev pub decreases-loop-guard : goal.decreases-loop-guard
-decreases-loop-guard l = vec_len l.guards

@@ -1,5 +1,0 @@
-use Rattle.lt_table_core.proofs.Found.{found}
-use Rattle.lt_table_core.proofs.keys.is_among.Goals as goal
-
-pub returns : goal.returns
-returns c = rw c.is_ok.ensures.value (found c.args.keys.now c.args.key.now c.binary_search.result c.requires c.binary_search.ensures.bound c.binary_search.ensures.position)

@@ -1,5 +1,0 @@
-use Rattle.lt_table_core.proofs.Theorem.{close_is_end}
-use Rattle.lt_table_core.proofs.laws.close_is_end.Goals as goal
-
-pub returns : goal.returns
-returns c = close_is_end

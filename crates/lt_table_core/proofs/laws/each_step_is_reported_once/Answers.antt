@@ -1,5 +1,0 @@
-use Rattle.lt_table_core.proofs.Lives.{each_step_is_reported_once}
-use Rattle.lt_table_core.proofs.laws.each_step_is_reported_once.Goals as goal
-
-pub returns : goal.returns
-returns c = each_step_is_reported_once

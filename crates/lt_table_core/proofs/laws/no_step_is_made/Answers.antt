@@ -1,5 +1,0 @@
-use Rattle.lt_table_core.proofs.Lives.{no_step_is_made}
-use Rattle.lt_table_core.proofs.laws.no_step_is_made.Goals as goal
-
-pub returns : goal.returns
-returns c = no_step_is_made

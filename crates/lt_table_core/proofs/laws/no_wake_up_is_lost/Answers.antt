@@ -1,5 +1,0 @@
-use Rattle.lt_table_core.proofs.Waking.{no_wake_up_is_lost}
-use Rattle.lt_table_core.proofs.laws.no_wake_up_is_lost.Goals as goal
-
-pub returns : goal.returns
-returns c = no_wake_up_is_lost

@@ -1,5 +1,0 @@
-use Rattle.lt_table_core.proofs.Passing.{proceed_has_passed_each}
-use Rattle.lt_table_core.proofs.laws.proceed_has_passed_each.Goals as goal
-
-pub returns : goal.returns
-returns c = proceed_has_passed_each

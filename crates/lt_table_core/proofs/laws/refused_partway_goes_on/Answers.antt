@@ -1,5 +1,0 @@
-use Rattle.lt_table_core.proofs.Resumed.{refused_partway_goes_on}
-use Rattle.lt_table_core.proofs.laws.refused_partway_goes_on.Goals as goal
-
-pub returns : goal.returns
-returns c = refused_partway_goes_on

@@ -1,5 +1,0 @@
-use Rattle.lt_table_core.proofs.Takes.{rest_follows_one_reader}
-use Rattle.lt_table_core.proofs.laws.rest_follows_one_reader.Goals as goal
-
-pub returns : goal.returns
-returns c = rest_follows_one_reader

@@ -1,5 +1,0 @@
-use Rattle.lt_table_core.proofs.Theorem.{rest_is_end}
-use Rattle.lt_table_core.proofs.laws.rest_is_end.Goals as goal
-
-pub returns : goal.returns
-returns c = rest_is_end

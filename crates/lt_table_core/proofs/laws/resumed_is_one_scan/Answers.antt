@@ -1,5 +1,0 @@
-use Rattle.lt_table_core.proofs.Resumed.{resumed_is_one_scan}
-use Rattle.lt_table_core.proofs.laws.resumed_is_one_scan.Goals as goal
-
-pub returns : goal.returns
-returns c = resumed_is_one_scan

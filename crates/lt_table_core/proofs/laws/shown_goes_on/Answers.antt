@@ -1,5 +1,0 @@
-use Rattle.lt_table_core.proofs.Waking.{shown_goes_on}
-use Rattle.lt_table_core.proofs.laws.shown_goes_on.Goals as goal
-
-pub returns : goal.returns
-returns c = shown_goes_on

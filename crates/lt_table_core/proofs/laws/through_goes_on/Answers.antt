@@ -1,5 +1,0 @@
-use Rattle.lt_table_core.proofs.Follows.{through_goes_on}
-use Rattle.lt_table_core.proofs.laws.through_goes_on.Goals as goal
-
-pub returns : goal.returns
-returns c = through_goes_on

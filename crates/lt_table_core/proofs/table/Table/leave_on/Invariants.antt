@@ -1,9 +1,0 @@
-use Rattle.std.proofs.Common.{◌-◌, length}
-use Rattle.lt_table_core.proofs.UnderWay.{IsPartingGuard}
-use Rattle.lt_table_core.proofs.table.Table.leave_on.Given as goal
-
-abbrev pub invariant-loop-guard : goal.invariant-loop-guard
-invariant-loop-guard g l = IsPartingGuard l.fn.guard (record { pass = l.guard-inside.pass; walk = l.guard-inside.walk })
-
-abbrev pub decreases-loop-guard : goal.decreases-loop-guard
-decreases-loop-guard g l = length l.guard-inside.walk.asked.keys - l.guard-inside.walk.progress.index

@@ -1,0 +1,52 @@
+//! How does a request walk through a table whose callers wait for each other? By the steps of `Table::step`, which need
+//! the permission to wait.
+ghost use Rattle.std.specs.Prelude.{◌≡◌, ◌≢◌, true};
+ghost use Rattle.lt_rules.specs.Memory.{gives_up};
+ghost use Rattle.lt_words.specs.declared.keeping.Keeping.TheVariants.{Unrecorded};
+ghost use Rattle.lt_shard.specs.declared.answer.StepError.TheVariants.{HistoryFull};
+
+use crate::table::Table;
+use lt_ids::Key;
+use lt_rules::{Call, KeyTable};
+use lt_shard::{Answer, KeyState, StepError};
+use lt_walk::{KeyStates, KeySteps};
+use lt_words::{Book, Name, Pass, Waker};
+use std::alloc::AllocError;
+use std::sync::Wait;
+
+/// A table, and the permission to wait for its locks.
+#[derive(Drop)]
+pub(crate) struct Blocking<'a, R: Wait, N: Name, T: KeyTable, W: Waker> {
+    pub rt: &'a R,
+    pub table: &'a Table<N, T, W>,
+}
+
+impl<'a, R: Wait, N: Name, T: KeyTable, W: Waker> KeySteps for Blocking<'a, R, N, T, W> {
+    type Refusal = StepError;
+
+    ghost of = { λ _. N.of };
+
+    // Unrecorded tables are never full, and whoever gives something up is never refused there.
+    ghost may_refuse = { λ _ call e. N.of.keeping ≡ Unrecorded → (e ≢ HistoryFull) × (gives_up call ≢ true) };
+
+    #[inline(always)]
+    fn book(&self) -> &Book {
+        let table: &Table<N, T, W> = self.table;
+        &table.book
+    }
+
+    #[inline(always)]
+    fn step(&self, pass: &mut Pass, key: &Key, call: &Call) -> Result<Answer, StepError> {
+        self.table.step(self.rt, pass, key, call)
+    }
+}
+
+impl<'a, R: Wait, N: Name, T: KeyTable, W: Waker> KeyStates for Blocking<'a, R, N, T, W> {
+    type Refusal = AllocError;
+
+    ghost of = { λ _. N.of };
+
+    fn inspect(&self, pass: &mut Pass, key: &Key) -> Result<KeyState, AllocError> {
+        self.table.inspect(self.rt, pass, key)
+    }
+}

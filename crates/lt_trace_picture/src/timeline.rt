@@ -1,0 +1,154 @@
+//! In which phase is a request or a transaction before the first step, and after each? [`timeline`] gives the phases of
+//! a lane. [`run_end`] finds where a phase ends. `specs/Phases.antt` defines both.
+ghost use Rattle.std.specs.Prelude.{ℕ, ◌≡◌, ◌≢◌, ◌≤◌, ◌<◌, IfOk, length, nat_eq, slice_get};
+ghost use Rattle.std.specs.List.{find};
+ghost use Rattle.lt_rules.specs.Rules.{number_of, writer_number};
+ghost use Rattle.lt_trace_picture.specs.Phases.{holder_phase, queued_phase, request_phase, phase_of, timeline_of, is_out, caller_of};
+
+use crate::step::ShownStep;
+use lt_rules::{Call, Holder, KeyState, QueuedRequest, QueuedWriter};
+use std::alloc::{AllocError, Global};
+
+/// Whose life a row of the picture shows.
+#[derive(Clone, Copy, Debug, PartialEq, Eq, PartialOrd, Ord)]
+pub enum Lane {
+    /// The transaction with this number: its calls, and its hold on the lock.
+    Txn(u64),
+    /// The request with this number: its calls, its waits and its reservation.
+    Request(u64),
+}
+
+/// Where a request or a transaction stands at the key.
+#[derive(Clone, Copy, Debug, PartialEq, Eq)]
+pub enum Phase {
+    /// The key's state does not mention it.
+    Out,
+    /// The request waits, with this wait number.
+    Waits(u32),
+    /// The request is an inactive writer: it lost its reservation and does not wait.
+    Idle,
+    /// The lock is reserved for the request.
+    Reserved,
+    /// The transaction holds the lock.
+    Holds,
+}
+
+/// Whether the phase is `Out`.
+pub(crate) fn is_out(phase: Phase) -> bool
+    ensures { result ≡ is_out phase }
+{
+    matches!(phase, Phase::Out)
+}
+
+/// The lane of the request or the transaction that makes a call.
+pub(crate) fn lane_of(call: Call) -> Lane
+    ensures { result ≡ caller_of call }
+{
+    match call {
+        Call::Visit { ticket, .. } => Lane::Request(ticket.number()),
+        Call::Acquire { txn, .. } => Lane::Txn(txn.number()),
+        Call::Update { txn, .. } => Lane::Txn(txn.number()),
+        Call::Finish { txn } => Lane::Txn(txn.number()),
+        Call::Leave { number } => Lane::Request(number),
+        Call::Look { number } => Lane::Request(number),
+    }
+}
+
+/// The phase of the transaction with this number.
+fn holder_phase(number: u64, holder: Option<Holder>) -> Phase
+    ensures { result ≡ holder_phase number holder }
+{
+    match holder {
+        Some(holder) if holder.txn.number() == number => Phase::Holds,
+        _ => Phase::Out,
+    }
+}
+
+/// Whether the request has this number.
+fn has_number(request: &QueuedRequest, number: u64) -> bool
+    ensures { result ≡ nat_eq (number_of request.now) number }
+{
+    request.ticket.number() == number
+}
+
+/// The reader with this number.
+fn reader(readers: &[QueuedRequest], number: u64) -> Option<QueuedRequest>
+    ensures { result ≡ find (λ q. nat_eq (number_of q) number) readers.now }
+{
+    readers.iter().copied().find(|q| has_number(q, number))
+}
+
+/// The writer with this number.
+fn writer(writers: &[QueuedWriter], number: u64) -> Option<QueuedWriter>
+    ensures { result ≡ find (λ w. nat_eq (writer_number w) number) writers.now }
+{
+    writers
+        .iter()
+        .copied()
+        .find(|w| has_number(&w.request, number))
+}
+
+/// The phase of the request with this number, if it is queued.
+fn queued_phase(number: u64, writers: &[QueuedWriter], readers: &[QueuedRequest]) -> Phase
+    ensures { result ≡ queued_phase number writers.now readers.now }
+{
+    match (writer(writers, number), reader(readers, number)) {
+        (Some(writer), _) if writer.active => Phase::Waits(writer.request.ticket.wait()),
+        (Some(_), _) => Phase::Idle,
+        (None, Some(reader)) => Phase::Waits(reader.ticket.wait()),
+        (None, None) => Phase::Out,
+    }
+}
+
+/// The phase of the request with this number.
+fn request_phase(number: u64, state: &KeyState) -> Phase
+    ensures { result ≡ request_phase number state.now }
+{
+    match state.reservation {
+        Some(request) if request.ticket.number() == number => Phase::Reserved,
+        _ => queued_phase(number, &state.writers, &state.readers),
+    }
+}
+
+/// The lane's phase in this state of the key.
+fn phase_of(lane: Lane, state: &KeyState) -> Phase
+    ensures { result ≡ phase_of lane state.now }
+{
+    match lane {
+        Lane::Txn(number) => holder_phase(number, state.holder),
+        Lane::Request(number) => request_phase(number, state),
+    }
+}
+
+/// The lane's phases: the one in the state before the first step, and then the one after each step. So the index of a
+/// phase is the number of its step, from 1.
+pub(crate) fn timeline(
+    alloc: Global,
+    lane: Lane,
+    before: &KeyState,
+    steps: &[ShownStep],
+) -> Result<Vec<Phase>, AllocError>
+    ensures { IfOk result (λ phases. phases.items ≡ timeline_of lane before.now steps.now) }
+{
+    let mut phases = Vec::from_slice(alloc, &[phase_of(lane, before)])?;
+    for step in steps {
+        phases.push(phase_of(lane, &step.state))?;
+    }
+    Ok(phases)
+}
+
+/// The first index after `from` at which the phase is another, or the number of phases if it lasts to the end.
+pub(crate) fn run_end(phases: &[Phase], from: usize) -> usize
+    requires { from < length phases.now }
+    ensures after { from < result }
+    ensures within { result ≤ length phases.now }
+    ensures same { (k : ℕ) → from ≤ k → k < result → slice_get phases.now k ≡ slice_get phases.now from }
+    ensures other { slice_get phases.now result ≢ slice_get phases.now from }
+{
+    let phase = phases[from];
+    let mut end = from + 1;
+    while end < phases.len() && phases[end] == phase {
+        end += 1;
+    }
+    end
+}

@@ -1,0 +1,36 @@
+//! After which step is the queue of a key the longest?
+ghost use Rattle.std.specs.Prelude.{◌≡◌, OnOk};
+ghost use Rattle.lt_trace_statistics.specs.Findings.{traced_step, queue_len, longer_queue};
+
+use crate::step::StepFacts;
+use crate::summary::LongestQueue;
+use lt_ids::Key;
+use std::alloc::AllocError;
+
+/// How long the longest queue is so far.
+fn queue_len(longest: &Option<LongestQueue>) -> u64
+    ensures { result ≡ queue_len longest.now }
+{
+    match longest {
+        Some(longest) => longest.requests,
+        None => 0,
+    }
+}
+
+/// Notes the queue after the step, if it is longer.
+pub(crate) fn note_queue(
+    longest: &mut Option<LongestQueue>,
+    key: &Key,
+    step: &StepFacts,
+) -> Result<(), AllocError>
+    ensures { OnOk result (longest.new ≡ longer_queue longest.old (traced_step key.now step.now)) }
+{
+    if queue_len(longest) < step.queue {
+        *longest = Some(LongestQueue {
+            key: key.copy()?,
+            index: step.index,
+            requests: step.queue,
+        });
+    }
+    Ok(())
+}

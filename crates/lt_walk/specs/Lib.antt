@@ -1,0 +1,11 @@
+pub mod Keys
+pub mod Machine
+pub mod Reported
+pub mod Entered
+pub mod Configs
+pub mod Closed
+pub mod Laws
+pub mod Theorem
+pub mod Sound
+pub mod Taken
+pub mod Inspected

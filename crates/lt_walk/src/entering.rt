@@ -1,0 +1,82 @@
+//! How does a request enter? Its keys are listed, room for answers is allocated, and its number is drawn last. Read
+//! next `src/scan_and_poll.rt`.
+ghost use Rattle.std.specs.Prelude.{◌≡◌, ◌≢◌, ◌<◌, ◌≤◌, ◌^◌, ◌↔◌, [], length, IfOk, IfErr, vec_capacity, Err};
+ghost use Rattle.lt_walk.specs.Keys.{IsKeyList};
+ghost use Rattle.lt_walk.specs.Entered.{IsEntered, IsRefused};
+
+use crate::keys::{EnterError, key_list};
+use crate::walk::Walk;
+use lt_ids::{Access, Key, Timestamp, TxnId};
+use lt_shard::Answer;
+use lt_words::{Book, Pass};
+use std::alloc::Global;
+
+/// A request that did not enter: its pass comes back, and no number was drawn.
+pub struct EnterRefused {
+    pub pass: Pass,
+    pub error: EnterError,
+}
+
+/// What a request asks for beside its keys: `txn` is its transaction, or `None`, and it joins the writers of a key only
+/// if they are fewer than `longest`; 0 means no bound.
+#[derive(Clone, Copy)]
+pub struct Terms {
+    pub txn: Option<TxnId>,
+    pub ts: Timestamp,
+    pub longest: u32,
+}
+
+/// A key list, and room for one answer for each key.
+#[derive(Drop)]
+pub(crate) struct EnterRoom {
+    pub keys: Vec<(Key, Access)>,
+    pub answers: Vec<Answer>,
+    pub ghost roomy: { length keys.items ≤ vec_capacity answers },
+    pub ghost free: { length answers.items ≡ 0 },
+}
+
+impl EnterRoom {
+    ghost use Rattle.std.specs.Prelude.{◌≡◌, ◌≢◌, ◌<◌, ◌↔◌, [], length, IfOk};
+    ghost use Rattle.lt_walk.specs.Keys.{IsKeyList};
+
+    #[inline(always)]
+    fn new(
+        alloc: Global,
+        list: Vec<(Key, Access)>,
+        accesses: &[(Key, Access)],
+    ) -> Result<EnterRoom, EnterError>
+        requires { list.items ≡ [] }
+        ensures keys { IfOk result (λ room. IsKeyList accesses.now room.keys.items) }
+        ensures none { (result ≡ Err EnterError.NoKeys) ↔ (accesses.now ≡ []) }
+        ensures many { (result ≡ Err EnterError.TooManyKeys) ↔ (256 < length accesses.now) }
+        ensures drawn { result ≢ Err EnterError.NumbersOut }
+    {
+        let keys = key_list(alloc, list, accesses)?;
+        let answers = Vec::with_capacity(alloc, keys.len())?;
+        Ok(EnterRoom { keys, answers })
+    }
+}
+
+/// Enters a request with these accesses through the pass: lists its keys, and draws its number last. So none is drawn if
+/// the accesses are refused or an allocation fails.
+#[inline(always)]
+pub fn enter_on(
+    book: &Book,
+    max_requests: u64,
+    alloc: Global,
+    pass: &mut Pass,
+    terms: Terms,
+    accesses: &[(Key, Access)],
+) -> Result<Walk, EnterError>
+    requires pass { pass.old.of ≡ book.now }
+    requires few { max_requests < 2 ^ 40 }
+    ensures entered { IfOk result (λ w. IsEntered pass.old accesses.now terms.txn terms.ts terms.longest max_requests (record { pass = pass.new; walk = w })) }
+    ensures refused { IfErr result (λ e. IsRefused e pass.old accesses.now max_requests pass.new) }
+{
+    let list = pass.take_list(alloc);
+    let EnterRoom { keys, answers } = EnterRoom::new(alloc, list, accesses)?;
+    let Some(number) = book.draw(pass, max_requests) else {
+        return Err(EnterError::NumbersOut);
+    };
+    Ok(Walk::at_start(keys, answers, number, terms.txn, terms.ts, terms.longest))
+}
