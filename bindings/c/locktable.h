@@ -51,7 +51,8 @@
  *
  * CODES. A call answers one code. From LT_FIRST_REPLY on it is a reply of the rules, and the call took effect. Below
  * that it is LT_DONE or a refusal. A call that is refused changes nothing: the table, the lets that are left, and what
- * the caller's pointers point to are as they were. (lt_check alone fills its report also for a text that it refuses.)
+ * the caller's pointers point to are as they were. (lt_check and lt_check_end fill their report also for a text that they
+ * refuse. A check in pieces is over once it has answered a fault or LT_MEMORY, and then answers the same again.)
  * If a call has several reasons to refuse, it answers the first in the order that stands at the call. After LT_MEMORY
  * the caller may make the same call again.
  *
@@ -370,7 +371,7 @@ uint32_t lt_check_begin(struct lt_text_check *check);
 /*
  * Checks the next piece of the text. Answers LT_DONE if no fault was found so far. Once there is a fault, it answers this
  * fault, and every later piece is answered so too: whatever comes after does not change it. The fault of a line is found
- * at the latest with the piece that ends the line. If an allocation fails, the check is over: it answers LT_MEMORY from then
+ * at the latest with the piece that ends the line: no contract says that, a test does. If an allocation fails, the check is over: it answers LT_MEMORY from then
  * on.
  *
  * Refuses: LT_CLOSED.

@@ -544,14 +544,26 @@ static const struct {
     {"a-scan-over-three-keys", "c 1 1", "A 1 1", LT_FAULT_KEY_ORDER, 8},
 };
 
+/* How many bytes of the text end with this line, or more than there are if the line has no end. */
+static size_t bytes_through(const uint8_t *text, size_t len, size_t line) {
+    size_t at = 0;
+    while (at < len && line > 0) line -= text[at++] == '\n';
+    return line > 0 ? len + 1 : at;
+}
+
 /* The verdict on the text if it comes in pieces of so many bytes. A fault is told from the piece on that ends its line. */
 static uint32_t in_pieces(const uint8_t *text, size_t len, size_t piece, struct lt_report *report) {
+    struct lt_report whole = {9, 9, 9, 9};
+    uint32_t verdict = lt_check(text, len, &whole);
+    size_t due = verdict == LT_DONE ? len + 1 : bytes_through(text, len, whole.line);
     struct lt_text_check check = {0};
     uint32_t so_far = LT_DONE;
     WANT(note(lt_check_begin(&check)) == LT_DONE && note(lt_check_begin(&check)) == LT_OPEN_ALREADY);
     for (size_t at = 0; at < len; at += piece) {
-        uint32_t code = note(lt_check_piece(&check, text + at, piece < len - at ? piece : len - at));
+        size_t heard = piece < len - at ? at + piece : len;
+        uint32_t code = note(lt_check_piece(&check, text + at, heard - at));
         WANT(so_far == LT_DONE || code == so_far);
+        WANT(code == (heard >= due ? verdict : LT_DONE));
         so_far = code;
     }
     WANT(so_far == LT_DONE || report->line == 9);
