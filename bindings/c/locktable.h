@@ -1,5 +1,5 @@
 /*
- * The lock table of one thread, and the check of key histories, for C and C++.
+ * The lock table of one thread, the table that threads share, and the check of key histories, for C and C++.
  *
  * The functions are those of crates/lt_c: each is proved against a contract, which this file tells in words. What a key
  * does is in docs/RULES.md, and the text that lt_check reads is in docs/FORMATS.md.
@@ -26,20 +26,21 @@
  *         return lt_table_close(&table) == LT_DONE ? 0 : 5;
  *     }
  *
- * WHAT A CALLER OWES. Nothing checks these rules, and the proofs rest on them:
+ * WHAT A CALLER OWES. Nothing checks these rules, and the proofs rest on them. A handle is a struct lt_table, lt_shared, lt_pass
+ * or lt_text_check:
  *
- *   - A struct lt_table is all zero before its first call. Afterwards only these functions read or write it.
- *   - A caller does not copy an open struct lt_table, because both copies would own one table. It closes each table
- *     that it opened: memory of a table that was not closed is lost.
- *   - No two calls use one table at the same time. A caller with several threads keeps the table behind a lock of
- *     its own (see THREADS).
+ *   - A handle is all zero before its first call. Afterwards only these functions read or write it.
+ *   - A caller does not copy an open handle, because both copies would own one table. It closes each handle that it opened:
+ *     memory of a handle that was not closed is lost.
+ *   - No two calls use one handle at the same time. A caller with several threads keeps a struct lt_table behind a lock of
+ *     its own (see THREADS), or gives each thread a pass of a shared table (see THE SHARED TABLE).
  *   - No pointer is null, even if a length is 0. Each points to as many elements as the length says. The places that
  *     one call writes do not overlap, and overlap nothing that it reads.
  *   - A bool has the value 0 or 1.
- *   - No call is made in a signal handler, or in the child that a process with threads has forked.
+ *   - No call is made in a signal handler, or in the child that a process with threads has forked. No thread ends inside a call.
  *
- * Everything else is tested by the call. A number that is out of range, a closed table or a text of any bytes is
- * answered by a code.
+ * Everything else is tested by the call. A number that is out of range, a closed handle, a handle of another kind or a text of
+ * any bytes is answered by a code.
  *
  * THREADS. A table belongs to no thread: each call may come from another one, if the calls are ordered, for example by
  * a mutex that the caller holds during each call. Calls on different tables need no order. It is proved that a table may go
@@ -52,7 +53,9 @@
  * CODES. A call answers one code. From LT_FIRST_REPLY on it is a reply of the rules, and the call took effect. Below
  * that it is LT_DONE or a refusal. A call that is refused changes nothing: the table, the lets that are left, and what
  * the caller's pointers point to are as they were. (lt_check and lt_check_end fill their report also for a text that they
- * refuse. A check in pieces is over once it has answered a fault or LT_MEMORY, and then answers the same again.)
+ * refuse. A check in pieces is over once it has answered a fault or LT_MEMORY, and then answers the same again. From LT_PROCEED
+ * on a code is that of a scan, a poll or a let of a shared table; a scan and a leave of several keys may be refused between two
+ * of them, and the functions say what then stands.)
  * If a call has several reasons to refuse, it answers the first in the order that stands at the call. After LT_MEMORY
  * the caller may make the same call again.
  *
@@ -91,6 +94,10 @@ enum lt_code {
     LT_BAD_NUMBER = 9,      /* the number of the request is not 1 to 2^40 - 1 */
     LT_BAD_WAIT = 10,       /* the wait number is not 1 to 2^24 - 1 */
     LT_BAD_PASS = 11,       /* the pass is not 1 to 1024 */
+    LT_BUSY = 12,           /* another caller is in the shard: call again */
+    LT_HISTORY_FULL = 13,   /* the shard has stored as many steps as it may */
+    LT_NO_PASS = 14,        /* the table has given all of its passes out */
+    LT_LOST = 15,           /* the shard is not the one of its table; no table that was opened answers this */
 
     /* faults of a text of histories, in the order in which lt_check tests each line */
     LT_FAULT_HEADER = 16,   /* the first line is not that of a version */
@@ -99,6 +106,16 @@ enum lt_code {
     LT_FAULT_INDEX = 19,    /* the index does not follow that of the line before */
     LT_FAULT_REPLY = 20,    /* the rules give another reply */
     LT_FAULT_LETS = 21,     /* the rules let other requests through, or the same ones in another order */
+
+    LT_BAD_SHARDS = 22,     /* a table has 1 to 64 shards */
+    LT_BAD_PASSES = 23,     /* a table has 1 to 1024 passes */
+    LT_BAD_STEPS = 24,      /* the number of steps that a shard may store is out of its range */
+    LT_BAD_REQUESTS = 25,   /* a table takes 1 to 2^40 - 1 requests */
+    LT_BAD_WAITS = 26,      /* a request begins 1 to 2^24 - 1 waits */
+    LT_NO_KEYS = 28,        /* the request names no key */
+    LT_TOO_MANY_KEYS = 29,  /* the request names more than 256 keys */
+    LT_NUMBERS_OUT = 30,    /* as many requests entered as may */
+    LT_BAD_INDEX = 31,      /* the request has no key with this index */
 
     /* replies of the rules */
     LT_FIRST_REPLY = 32,    /* no code of its own: replies begin here */
@@ -119,7 +136,19 @@ enum lt_code {
     LT_WAIT_FOR_RESERVED = 46,   /* look: it waits for the transaction for which the lock is reserved */
     LT_WAIT_FIRST_HELD = 47,     /* look: as LT_WAIT_FOR_HELD, and it is the distinguished waiter */
     LT_WAIT_FIRST_RESERVED = 48, /* look: as LT_WAIT_FOR_RESERVED, and it is the distinguished waiter */
-    LT_WAIT_OWN = 49        /* look: the lock is reserved for another request of its own transaction */
+    LT_WAIT_OWN = 49,       /* look: the lock is reserved for another request of its own transaction */
+
+    /* answers of a scan, a poll and a let of a shared table */
+    LT_PROCEED = 64,        /* scan: no conflict */
+    LT_RESCAN = 65,         /* scan: the request waited on the way, and scans once more */
+    LT_WAITING = 66,        /* scan, poll: the request has to wait */
+    LT_QUEUE_TOO_LONG = 67, /* scan: there are at least `longest` writers */
+    LT_LEAVING = 68,        /* scan refused: the request is leaving */
+    LT_STILL_WAITING = 69,  /* scan refused: the request was not let through */
+    LT_WAITS_OUT = 70,      /* scan refused: the request has begun as many waits as it may */
+    LT_LET_THROUGH = 71,    /* poll: the request was let through */
+    LT_NOT_WAITING = 72,    /* poll: the request does not wait */
+    LT_NO_LET = 73          /* let: none is left of which nobody was told */
 };
 
 /* The version of this header: the first number of the version times 1,000,000, the second times 1,000, and the third. */
@@ -371,8 +400,8 @@ uint32_t lt_check_begin(struct lt_text_check *check);
 /*
  * Checks the next piece of the text. Answers LT_DONE if no fault was found so far. Once there is a fault, it answers this
  * fault, and every later piece is answered so too: whatever comes after does not change it. The fault of a line is found
- * at the latest with the piece that ends the line: no contract says that, a test does. If an allocation fails, the check is over: it answers LT_MEMORY from then
- * on.
+ * at the latest with the piece that ends the line: no contract says that, a test does. If an allocation fails, the check is over:
+ * it answers LT_MEMORY from then on.
  *
  * Refuses: LT_CLOSED.
  */
@@ -385,6 +414,233 @@ uint32_t lt_check_piece(struct lt_text_check *check, const uint8_t *piece, size_
  * Refuses: LT_CLOSED.
  */
 uint32_t lt_check_end(struct lt_text_check *check, struct lt_report *report);
+
+/*
+ * THE SHARED TABLE. Threads share it without a mutex of their own. Each caller has a pass, in a handle of its own. No call
+ * blocks. A key step enters the shard of its key, which is the one that lt_shard_of names. If another caller is in that shard,
+ * the call answers LT_BUSY and has not made the step: call again, after a pause if it comes often.
+ *
+ * What a caller owes a handle stands at the head of this file. Calls on different handles need no order, and a handle may go from
+ * thread to thread between two calls. A thread that ends inside a call leaves the shard taken: every later step there answers
+ * LT_BUSY.
+ *
+ * WHAT IS PROVED. Each function names the clauses of its contract (crates/lt_c/src). Together they say of every schedule:
+ *
+ *   - A step that a call reports stands in the history that the call's pass has seen: with its key, its call and its reply, and
+ *     after all that the pass had seen before (`made`, `scanned`, `left`, `looked`).
+ *   - This history is legal (`legal`). So no key has two holders in it (docs/PROOFS.md, "Before a close").
+ *   - A request that waited goes on only if a step in that history let it through (`scanned`, `polled`).
+ *
+ * docs/PROOFS.md says what follows of all callers together if one legal history extends what each pass has seen. No clause here
+ * says that one does: docs/ARCHITECTURE.md, "The growing history", has the reason. No table here gives its history back. Nothing
+ * promises that a call is not refused with LT_BUSY again and again, or that a caller is told of each let. The clauses also allow
+ * LT_LOST where they allow LT_BUSY: that no table answers it is not proved.
+ *
+ * THE LIFE OF A REQUEST. A pass names keys (lt_pass_want) and enters (lt_pass_enter): the request draws a number, and the
+ * smaller number goes first. A scan (lt_pass_scan) visits the keys in order:
+ *
+ *   LT_PROCEED         no conflict at any key: take the locks that the transaction needs (lt_pass_acquire), then leave
+ *   LT_RESCAN          it waited on the way: scan once more
+ *   LT_WAITING         it is queued at the key with this index: wait until a poll answers LT_LET_THROUGH, then scan again
+ *   LT_QUEUE_TOO_LONG  there are as many writers as its bound: leave, or scan again later
+ *   LT_WAITS_OUT       it has begun as many waits as it may: leave
+ *   LT_BUSY            scan again: it goes on at the key where it was
+ *
+ * At its end the transaction finishes each lock that it holds (lt_pass_finish), through a pass or through a request.
+ *
+ * THE PROTOCOL OF A REQUEST. Nothing checks these rules. Whoever breaks one breaks no contract of this file, but callers may then
+ * wait for ever. threads.c keeps all of them, with waits by polls, by a futex and by a condition variable.
+ *
+ *   1. A scan that proceeds holds nothing. The acquires come next, and are part of the same step of the walk: if one answers
+ *      LT_OTHER, another transaction came first, and the request scans again.
+ *   2. A let is not a lock. It ends one wait, so whoever is let through scans again, and may have to wait again.
+ *   3. Whoever gives up leaves, and wakes those whom the leave lets through (rule 5). A request leaves on every path, because
+ *      those queued after it wait until it does.
+ *   4. Register before the table is left. Whoever sleeps announces it before the scan or the poll that may answer LT_WAITING:
+ *      what a waker writes after that scan or poll must keep the sleeper awake.
+ *   5. Wake after the call. After each acquire, update, finish and leave, also one that answers LT_BUSY, ask lt_pass_let until it
+ *      answers LT_NO_LET, and wake the callers of the passes that the lets name. Whoever is woken polls.
+ *   6. Whoever scans again first frees the locks that he holds, or the program finds deadlocks: a holder that waits for a
+ *      reservation, whose owner waits for the held lock, waits for ever.
+ *
+ * That a later wait of a request has a greater number, and that a request visits its keys in one order, is the library's part.
+ */
+
+/* A table that threads share. All zero is a closed one. */
+struct lt_shared {
+    bool is_open;
+    void *at;
+};
+
+/* A pass of a shared table, or the request that has it. All zero is a closed one. */
+struct lt_pass {
+    bool is_open;
+    void *at;
+};
+
+/* The numbers with which a shared table is opened. */
+struct lt_config {
+    size_t shards;         /* 1 to 64: at most so many steps are made at once */
+    size_t passes;         /* 1 to 1024: at most so many callers */
+    uint64_t max_requests; /* 1 to 2^40 - 1: at most so many requests enter */
+    uint32_t max_waits;    /* 1 to 2^24 - 1: a request begins at most so many waits, and makes no visit after the last one */
+};
+
+/* What a request asks for beside its keys. */
+struct lt_terms {
+    uint64_t txn;     /* its transaction, or 0 for none */
+    uint64_t wall;    /* its timestamp */
+    uint32_t logical;
+    uint32_t longest; /* the bound on the writers, or 0 for none */
+};
+
+/*
+ * Opens a table that stores no step. Draw `start` as for lt_table_open.
+ *
+ * Answers LT_DONE, or refuses, in this order: LT_OPEN_ALREADY, LT_BAD_SHARDS, LT_BAD_PASSES, LT_BAD_REQUESTS, LT_BAD_WAITS,
+ * LT_MEMORY. A refused call leaves the handle closed.
+ *
+ * Proved: it refuses so and in this order (`open_already`, `refused`); once it is done, the table has these numbers, stores no
+ * step, and has all of its passes, of which nobody has used any (`opened`); a refused call has not changed the handle (`kept`).
+ */
+uint32_t lt_shared_open(struct lt_shared *table, const struct lt_config *config, uint64_t start);
+
+/*
+ * Gives the table's next pass out, to a closed handle.
+ *
+ * Answers LT_DONE, or refuses, in this order: LT_OPEN_ALREADY (the pass is open), LT_CLOSED (the table is not), LT_NO_PASS (all
+ * passes were given out: none comes back), LT_MEMORY.
+ *
+ * Proved: it refuses so and in this order (`open_already`, `refused`); a pass that is given out is one of those that the table
+ * had left, goes from that list, and names no key (`given`); a refused call has changed neither handle (`kept`).
+ */
+uint32_t lt_shared_pass(struct lt_shared *table, struct lt_pass *pass);
+
+/*
+ * Closes the handle of the table, or of a pass. The table is freed with the last of its handles: they may be closed in any
+ * order. A request that was entered and has not left stays in its queues for ever, and what it has reserved stays reserved, so it
+ * leaves first. A lock that a transaction holds stays held: another pass may finish it. Each of the two functions closes either
+ * kind of handle.
+ *
+ * Answers LT_DONE, or refuses: LT_CLOSED.
+ *
+ * Proved: the handle of a shared table, of a pass or of a request is closed afterwards (`done`); any other is refused and has not
+ * changed (`closed`).
+ */
+uint32_t lt_shared_close(struct lt_shared *table);
+uint32_t lt_pass_close(struct lt_pass *pass);
+
+/*
+ * Adds a key to those that the next request of the pass names, to read or to write. A request names 1 to 256 keys; a key that
+ * is named twice is visited once, to write if it is named so.
+ *
+ * Answers LT_DONE, or refuses, in this order: LT_CLOSED (also while a request has the pass), LT_BAD_KEY_EMPTY, LT_BAD_KEY_LONG,
+ * LT_BAD_KEY_BYTE, LT_MEMORY.
+ *
+ * Proved: it refuses so and in this order (`closed`, `refused`); once it is done, the pass names this key beside those before
+ * (`wanted`); after a refusal the handle is as it was, but for the room that its pass has to name keys (`kept`).
+ */
+uint32_t lt_pass_want(struct lt_pass *pass, const uint8_t *key, size_t key_len, bool writes);
+
+/*
+ * The request with these keys enters. The handle is then the request's, until it has left. The call enters no shard.
+ *
+ * Answers LT_DONE, or refuses, in this order: LT_CLOSED (also while a request has the pass), LT_NO_KEYS, LT_TOO_MANY_KEYS; and
+ * then LT_MEMORY or LT_NUMBERS_OUT. After a refusal no number was drawn, and the pass still names its keys.
+ *
+ * Proved: the handle of a pass is not refused as closed (`opened`); a request that entered has the keys that were named, each
+ * once and in order, these terms, and a number of at most `max_requests` that its pass has just drawn, and one that did not enter
+ * has given its pass back with the keys, for the reason that the code names (`entered`); a handle that is refused as closed has
+ * not changed (`kept`); what the pass has seen is legal (`legal`).
+ */
+uint32_t lt_pass_enter(struct lt_pass *pass, const struct lt_terms *terms);
+
+/*
+ * Visits the request's keys in order, from where the last scan ended. Sets `index` to the index of the key at which it waits
+ * or at which the queue is too long, in the order of the request's keys (written ones first, each kind in byte order), and
+ * otherwise to 0. A call that is refused as closed leaves `index` as it is.
+ *
+ * Answers LT_PROCEED, LT_RESCAN, LT_WAITING, LT_QUEUE_TOO_LONG, or refuses. Before any visit: LT_CLOSED, LT_LEAVING,
+ * LT_STILL_WAITING. Before the next visit, while those that it has made stand: LT_WAITS_OUT, LT_BUSY, LT_MEMORY. After LT_BUSY
+ * and LT_MEMORY the next scan goes on there. After LT_WAITS_OUT the request keeps its places, and leaves.
+ *
+ * Proved: the handle of a request is not refused as closed (`opened`), and any that is has not changed (`kept`). All else is in
+ * `scanned`: the code and the index are those of one result; each visit was made in order and is reported; the scan ended as the
+ * rules of a request say (docs/RULES.md, "A request"); a request that waited went on only if it was let through; the index of a
+ * wait is that of a key of its list; a queue that was too long was so at that key; and the request keeps its keys, its number and
+ * its pass. What the pass has seen is legal (`legal`).
+ */
+uint32_t lt_pass_scan(struct lt_pass *pass, size_t *index);
+
+/*
+ * Whether the request was let through: one load of a word. Enters no shard and allocates nothing.
+ *
+ * Answers LT_LET_THROUGH, LT_WAITING, LT_NOT_WAITING, or refuses: LT_CLOSED.
+ *
+ * Proved: the handle of a request is not refused as closed (`opened`), and any that is has not changed (`kept`); the code is what
+ * the word says of the request's very wait, and if that is LT_LET_THROUGH, the pass has seen the step that let it through
+ * (`polled`); what it has seen is legal (`legal`).
+ */
+uint32_t lt_pass_poll(struct lt_pass *pass);
+
+/*
+ * The request gives up its places and reservations. The handle is then the pass's again, which names no key.
+ *
+ * Answers LT_DONE, or refuses: LT_CLOSED, LT_BUSY. After LT_BUSY the leaves before it stand, a scan answers LT_LEAVING, and the
+ * same call goes on at the key where it was. A leave is never refused for memory.
+ *
+ * Proved: the handle of a request is not refused as closed (`opened`), and any that is has not changed (`kept`); after LT_DONE a
+ * leave was made and reported at each key that was left to leave, and after any other code at those up to the refused one, and
+ * the code is not LT_MEMORY (`left`); what the pass has seen is legal (`legal`).
+ */
+uint32_t lt_pass_leave(struct lt_pass *pass);
+
+/*
+ * What the request finds at its key with this index. Sets `txn` as lt_table_look does. The call allocates nothing.
+ *
+ * Answers the replies of lt_table_look, or refuses, in this order: LT_CLOSED, LT_BAD_INDEX, LT_BUSY.
+ *
+ * Proved: it refuses so and in this order (`refused`), and never for memory (`no_memory`); a look that is answered is reported
+ * with the reply and the transaction of the code and of `txn` (`looked`); a refused call has changed neither the handle nor `txn`
+ * (`kept`); what the pass has seen is legal (`legal`).
+ */
+uint32_t lt_pass_look(struct lt_pass *pass, size_t index, uint64_t *txn);
+
+/*
+ * The steps of a transaction, as those of the table of one thread, through a pass or through a request, which stays as it is.
+ *
+ * Answer the replies of lt_table_acquire, lt_table_update and lt_table_finish, or refuse, in this order: LT_BAD_TXN, LT_CLOSED,
+ * LT_BAD_KEY_EMPTY, LT_BAD_KEY_LONG, LT_BAD_KEY_BYTE; and then LT_BUSY or LT_MEMORY. A refused call has made no step.
+ * With a key of at most 22 bytes an update and a finish are never refused for memory.
+ *
+ * Proved: they refuse so and in this order (`refused`), and update and finish not for memory (`gives_up`); a step that is
+ * answered was made at this key and is reported with the reply of the code, and the request stays as it is (`made`); a refused
+ * call has not changed the handle (`kept`); what the pass has seen is legal (`legal`).
+ */
+uint32_t lt_pass_acquire(struct lt_pass *pass, const uint8_t *key, size_t key_len, const struct lt_txn *by);
+uint32_t lt_pass_update(struct lt_pass *pass, const uint8_t *key, size_t key_len, const struct lt_txn *by);
+uint32_t lt_pass_finish(struct lt_pass *pass, const uint8_t *key, size_t key_len, uint64_t txn);
+
+/*
+ * Takes out a let of the table of which nobody was told yet: the number and the wait of the request that was let through, and the
+ * number of its pass. Any pass or request of the table may ask, and may get a let of another caller's step: rule 5 says when to
+ * ask, and whom to wake. Of two lets of one pass that nobody was told of, one is told. The call enters no shard and allocates
+ * nothing.
+ *
+ * Answers LT_DONE, or LT_NO_LET if none is left, or refuses: LT_CLOSED.
+ *
+ * Proved: the handle of a pass or a request is not refused as closed, and any other is (`opened`, `closed`); the call has not
+ * changed the handle (`same`), and has not written `through` unless it is done (`kept`). That each let is told to somebody is not
+ * proved; crates/lt_try/src/letting.rt has the reason.
+ */
+uint32_t lt_pass_let(struct lt_pass *pass, struct lt_through *through);
+
+/*
+ * The number of the pass, from 1, that the handle holds, or whose request it holds; or 0 if it holds neither. A let names it.
+ *
+ * Proved: it is this number (`number`), and the call has not changed the handle (`same`).
+ */
+uint32_t lt_pass_number(struct lt_pass *pass);
 
 /* The version of the library, counted as LT_VERSION is. */
 uint32_t lt_version(void);

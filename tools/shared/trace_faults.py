@@ -25,6 +25,11 @@ REFUSED = (1, f'locktrace: line {FAULT[0]}: {FAULT[1]}\n'.encode())
 
 CHECK_OF_FILE = 'check {folder}/text'
 
+# A trace whose waits are right, and what is left open if its last line is left out.
+WAITS = (b'a 9 acquire 9 10.0 = taken\na 1 visit 1.1 1 10.0 w = wait\n1 asked 1.1\na 9 finish 9 = freed let 1.1\n1 told 1.1\n'
+         b'a 1 visit 1.2 1 10.0 w = pass\n')
+UNTOLD = (1, b'locktrace: at the end, wait 1.1 is open: it was told in line 5\n')
+
 # A command line, its input, and how it is to end. In the words, {folder} is a folder of the run's own: it has the input as the file
 # `text`, and the program may make the file `picture` in it. A command that does not name `text` gets the input on standard input.
 Trial = collections.namedtuple('Trial', 'words text ending')
@@ -51,6 +56,9 @@ def trials():
         ('check', text, LEGAL),
         (CHECK_OF_FILE, text, LEGAL),
         ('check', faulty, REFUSED),
+        ('audit', WAITS, LEGAL),
+        ('audit {folder}/text', WAITS, LEGAL),
+        ('audit', WAITS[:WAITS.rindex(b'a 1')], UNTOLD),
         ('explain {folder}/text', text, LEGAL),
         ('explain {folder}/text', faulty, REFUSED),
         ('show', text, LEGAL),
@@ -148,8 +156,8 @@ def write_to_full_device(report):
     for trial in trials():
         if '{folder}/picture' in trial.words:
             run, trial = plainly, trial._replace(words=trial.words.replace('{folder}/picture', '/dev/full'))
-        elif (trial.words, trial.ending) == ('check', REFUSED):
-            continue  # a check that refuses has no output
+        elif (trial.words, trial.ending) in (('check', REFUSED), ('audit', UNTOLD)):
+            continue  # a check or an audit that refuses has no output
         else:
             run = to_full_device
         ran, _ = run_trial(run, trial)
@@ -307,11 +315,11 @@ def cut_traces(report, lanes, folder):
     report.tell(f'locktrace: texts and traces cut at each of {tried} places', faults if tried else ['no texts'])
 
 
-def compare_verdicts(report, count):
-    words = [sys.executable, os.path.join(HAND, 'same_verdicts'), '--count', str(count)]
+def compare_verdicts(report, tool, count):
+    words = [sys.executable, os.path.join(HAND, tool), '--count', str(count)]
     ran = subprocess.run(words, capture_output=True, text=True)
     lines = ran.stdout.splitlines() or ['']
-    report.tell(f'same_verdicts: {lines[-1]}', [] if ran.returncode == 0 else [*lines[-5:-1], ran.stderr[-300:]])
+    report.tell(f'{tool}: {lines[-1]}', [] if ran.returncode == 0 else [*lines[-5:-1], ran.stderr[-300:]])
 
 
 def try_traces(report, shim, lanes, texts):
@@ -325,4 +333,5 @@ def try_traces(report, shim, lanes, texts):
     fill_folders(report)
     with tempfile.TemporaryDirectory() as folder:
         cut_traces(report, lanes, folder)
-    compare_verdicts(report, texts)
+    for tool in ('same_verdicts', 'same_waits'):
+        compare_verdicts(report, tool, texts)

@@ -55,15 +55,19 @@ def trace_of(keys, form):
     return ''.join(FORMS[form](key, step) + '\n' for key, step in in_turn(keys)).encode()
 
 
+# The longest text that is cut at every byte.
+LONGEST = 4096
+
+
 def stored_texts():
-    """Each legal text of histories in examples/ and docs/traces/, by its name."""
+    """Each legal text of histories in examples/ and docs/traces/ that is not long, by its name."""
     texts = {}
     for path in sorted((TOP / 'examples').glob('*.stdout')):
         output = path.read_bytes()
         texts[path.stem] = output[output.index(b'locks 2\n'):]
     for path in sorted((TOP / 'docs' / 'traces').glob('*.histories')):
         texts[path.stem] = path.read_bytes()
-    return texts
+    return {name: text for name, text in texts.items() if len(text) <= LONGEST}
 
 
 if __name__ == '__main__':

@@ -2,7 +2,7 @@
 ghost use Rattle.std.specs.Prelude.{◌≡◌};
 ghost use Rattle.locktrace.specs.declared.failure.TraceFailure.TheVariants.{Memory};
 
-use lt_checker::{CheckError, HistoryLineError};
+use lt_checker::CheckError;
 use lt_trace::{SortError, TraceFault};
 use lt_trace_check::AuditError;
 use lt_trace_picture::PictureError;
@@ -47,7 +47,18 @@ pub enum TraceFailure {
     Words,
     /// The first faulty line, counted from 1, and the name of the first fault in it.
     #[error("line {line}: {name}")]
-    Refused { line: u64, name: &'static str },
+    Refused {
+        line: u64,
+        name: &'static str,
+    },
+    /// A wait is open at the end of a trace: what was said of it last, and in which line.
+    #[error("at the end, wait {number}.{wait} is open: it {word} in line {line}")]
+    Open {
+        number: u64,
+        wait: u32,
+        word: &'static str,
+        line: u64,
+    },
     /// No line is about the key, or none of its steps is in the range.
     #[error("no such step")]
     NoStep,
@@ -108,14 +119,6 @@ pub fn of_audit(error: AuditError) -> TraceFailure {
     }
 }
 
-/// The failure of a line that a check has taken already.
-pub fn of_line(error: HistoryLineError) -> TraceFailure {
-    match error {
-        HistoryLineError::Memory => TraceFailure::Memory,
-        HistoryLineError::Fault(_) => TraceFailure::Read(FileFault::Other),
-    }
-}
-
 /// The failure of a sort.
 pub fn of_sort(error: SortError) -> TraceFailure {
     match error {
@@ -149,6 +152,7 @@ pub fn status(ending: &Result<(), TraceFailure>) -> u8 {
         Ok(()) => 0,
         Err(
             TraceFailure::Refused { .. }
+            | TraceFailure::Open { .. }
             | TraceFailure::NoStep
             | TraceFailure::TooManySteps
             | TraceFailure::TooLong,

@@ -2,9 +2,9 @@
 //! [`Gatherer::text`] is the summary. docs/LOCKTRACE.md, "The summary of a legal text", describes its lines.
 use crate::failure::TraceFailure;
 use crate::follow::StepTaker;
-use lt_checker::Report;
+use lt_checker::{Checker, Line, Report};
 use lt_ids::Key;
-use lt_trace_picture::ShownStep;
+use lt_rules::QueueLengths;
 use lt_trace_statistics::{
     HotKey, LongestQueue, LongestWait, Statistics, StepCounts, StepFacts, TextSummary,
 };
@@ -18,26 +18,15 @@ pub struct Gatherer {
 }
 
 impl StepTaker for Gatherer {
-    fn wants(&mut self, _key: &Key, _index: u64) -> bool {
-        true
-    }
-
-    fn take(&mut self, key: Key, step: ShownStep) -> Result<Vec<u8>, TraceFailure> {
-        let writers = step.state.writers.len() as u64;
-        let queue = writers.saturating_add(step.state.readers.len() as u64);
-        let ShownStep {
-            index,
-            call,
-            reply,
-            tickets,
-            ..
-        } = step;
+    fn take(&mut self, checker: &Checker, line: Line) -> Result<Vec<u8>, TraceFailure> {
+        let QueueLengths { writers, readers } = checker.lengths();
+        let Line { key, step, tickets } = line;
         let facts = StepFacts {
-            index,
-            call,
-            reply,
+            index: step.index,
+            call: step.call,
+            reply: step.reply,
             tickets,
-            queue,
+            queue: (writers as u64).saturating_add(readers as u64),
         };
         self.statistics.take(&key, &facts)?;
         Ok(Vec::new(self.alloc))

@@ -3,6 +3,7 @@
 pub const PROGRAM: &str = "Examples:
   locktrace sort TRACE > HISTORIES
   locktrace check HISTORIES
+  locktrace audit TRACE
   locktrace explain HISTORIES
   locktrace show HISTORIES --key orders/7
   locktrace picture HISTORIES --key orders/7 -o orders.svg
@@ -19,6 +20,13 @@ pub const SORT: &str = "Examples:
 pub const CHECK: &str = "Examples:
   locktrace check HISTORIES
   locktrace sort TRACE | locktrace check";
+
+pub const AUDIT: &str = "Examples:
+  locktrace audit TRACE
+  locktrace audit < TRACE
+
+The trace is not sorted. Beside the steps it has the lines 'PASS asked N.K', 'PASS told N.K' and 'PASS gave-up N.K' of a
+waiting layer. docs/FORMATS.md has the rules.";
 
 pub const EXPLAIN: &str = "Example:
   locktrace explain HISTORIES

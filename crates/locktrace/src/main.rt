@@ -2,16 +2,19 @@
 //!
 //! - `locktrace sort [FILE]` turns a trace into a text of histories.
 //! - `locktrace check [FILE]` gives the verdict of `lockrun check` on a text of histories.
+//! - `locktrace audit [FILE]` judges the waits of a trace.
 //! - `locktrace explain FILE` says what the rules give for the first faulty line of a text, or summarizes a legal text.
 //! - `locktrace show [FILE]` prints the steps of keys as a table.
 //! - `locktrace picture [FILE] --key KEY` draws the steps of a key.
 //!
 //! Every function here is proved to be safe. What the commands promise beyond that, the libraries promise: `lt_trace`
-//! sorts, `lt_trace_check` and `lt_checker` check, `lt_trace_statistics` counts, and `lt_trace_picture` draws.
+//! sorts, `lt_trace_check` and `lt_checker` check, `lt_trace_waits` judges waits, `lt_trace_statistics` counts, and
+//! `lt_trace_picture` draws.
 //!
 //! Read next: `src/task.rt` for what each command does, `src/words.rt` for the command line.
 #![tactic(auto)]
 
+mod audit;
 mod check;
 mod explain;
 mod failure;

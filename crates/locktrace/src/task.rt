@@ -1,4 +1,5 @@
 //! What does each command do? [`perform`] opens the file of a task, or takes standard input, and does the task.
+use crate::audit::audit;
 use crate::check::check_reader;
 use crate::explain::explain_file;
 use crate::failure::{TraceFailure, fault_of, of_picture, of_sort};
@@ -7,6 +8,7 @@ use crate::input::{buffered, open};
 use crate::output::{Output, ending_of};
 use crate::progress_line::ProgressLine;
 use crate::words::{PictureWords, SortWords, Task, WantedSteps};
+use lt_checker::{Checker, Line};
 use lt_ids::Key;
 use lt_rules::KeyState;
 use lt_trace::{SortOptions, TraceForm, sort_trace};
@@ -36,6 +38,25 @@ fn are_all_wanted(wanted: &WantedSteps) -> bool {
     wanted.key.is_none() && wanted.from == 1 && wanted.to == u64::MAX
 }
 
+/// Whether the step is wanted.
+fn is_in_range(wanted: &WantedSteps, line: &Line) -> bool {
+    is_of_key(wanted, &line.key) && wanted.from <= line.step.index && line.step.index <= wanted.to
+}
+
+/// The key of the line, and its step with this state after it.
+fn shown_step(line: Line, state: KeyState) -> (Key, ShownStep) {
+    let Line { key, step, tickets } = line;
+    let shown = ShownStep {
+        index: step.index,
+        pass: step.pass,
+        call: step.call,
+        reply: step.reply,
+        tickets,
+        state,
+    };
+    (key, shown)
+}
+
 /// Makes a line of a table of each step.
 #[derive(Drop)]
 struct Shower<'a> {
@@ -47,12 +68,13 @@ struct Shower<'a> {
 }
 
 impl<'a> StepTaker for Shower<'a> {
-    fn wants(&mut self, key: &Key, index: u64) -> bool {
-        is_of_key(&self.wanted, key) && self.wanted.from <= index && index <= self.wanted.to
-    }
-
-    fn take(&mut self, key: Key, step: ShownStep) -> Result<Vec<u8>, TraceFailure> {
+    fn take(&mut self, checker: &Checker, line: Line) -> Result<Vec<u8>, TraceFailure> {
         let mut text = Vec::new(self.alloc);
+        if !is_in_range(&self.wanted, &line) {
+            return Ok(text);
+        }
+        let state = checker.state_before(self.alloc, &line.key)?;
+        let (key, step) = shown_step(line, state);
         let is_new = match &self.key {
             Some(latest) => *latest != key,
             None => true,
@@ -77,10 +99,13 @@ struct Collector<'a> {
     range: ShownRange,
 }
 
-impl<'a> StepTaker for Collector<'a> {
-    // The step before the first wanted one is wanted for the state after it.
-    fn wants(&mut self, key: &Key, index: u64) -> bool {
-        if !is_of_key(&self.wanted, key) || lt_trace_picture::MOST_STEPS < self.range.steps.len() {
+impl<'a> Collector<'a> {
+    /// Whether the step is wanted. The step before the first wanted one is wanted for the state after it.
+    fn wants(&mut self, line: &Line) -> bool {
+        let index = line.step.index;
+        if !is_of_key(&self.wanted, &line.key)
+            || lt_trace_picture::MOST_STEPS < self.range.steps.len()
+        {
             return false;
         }
         if self.wanted.to < index {
@@ -89,13 +114,19 @@ impl<'a> StepTaker for Collector<'a> {
         }
         self.wanted.from <= index.saturating_add(1)
     }
+}
 
-    fn take(&mut self, key: Key, step: ShownStep) -> Result<Vec<u8>, TraceFailure> {
-        if step.index < self.wanted.from {
-            let ShownStep { state, .. } = step;
+impl<'a> StepTaker for Collector<'a> {
+    fn take(&mut self, checker: &Checker, line: Line) -> Result<Vec<u8>, TraceFailure> {
+        if !self.wants(&line) {
+            return Ok(Vec::new(self.alloc));
+        }
+        let state = checker.state_before(self.alloc, &line.key)?;
+        if line.step.index < self.wanted.from {
             self.range.before = state;
             return Ok(Vec::new(self.alloc));
         }
+        let (key, step) = shown_step(line, state);
         self.range.steps.push(step)?;
         self.key = Some(key);
         Ok(Vec::new(self.alloc))
@@ -215,6 +246,7 @@ fn perform_over<F: Files, R: BufRead, W: Write>(
     match task {
         Task::Sort(_, words) => sort(files, alloc, reader, output, words),
         Task::Check(_) => check_reader(alloc, reader, output, line),
+        Task::Audit(_) => audit(alloc, reader, output),
         Task::Explain(name) => explain_file(files, alloc, name, output),
         Task::Show(_, wanted, layout) => show(alloc, reader, output, wanted, *layout),
         Task::Picture(_, wanted, picture) => draw(files, alloc, reader, output, wanted, picture),
@@ -284,6 +316,7 @@ fn file_of<'a>(task: &Task<'a>) -> Option<&'a str> {
     match task {
         Task::Sort(file, _)
         | Task::Check(file)
+        | Task::Audit(file)
         | Task::Show(file, _, _)
         | Task::Picture(file, _, _) => *file,
         Task::Explain(_) => None,

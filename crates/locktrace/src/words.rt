@@ -45,6 +45,7 @@ pub struct PictureWords<'a> {
 pub enum Task<'a> {
     Sort(Option<&'a str>, SortWords<'a>),
     Check(Option<&'a str>),
+    Audit(Option<&'a str>),
     Explain(&'a str),
     Show(Option<&'a str>, WantedSteps<'a>, Layout),
     Picture(Option<&'a str>, WantedSteps<'a>, PictureWords<'a>),
@@ -123,7 +124,7 @@ const TO: TraceOption = TraceOption {
     help: "The index of the last step",
 };
 
-const COMMANDS: [TraceCommand; 5] = [
+const COMMANDS: [TraceCommand; 6] = [
     TraceCommand {
         name: "sort",
         about: "Sorts the lines of a trace, in the order in which they happened, into a text of histories",
@@ -158,6 +159,14 @@ const COMMANDS: [TraceCommand; 5] = [
         name: "check",
         about: "Checks whether a text of histories is legal, and writes the numbers of its keys and steps",
         after: help::CHECK,
+        needs_file: false,
+        file: FILE,
+        options: &[],
+    },
+    TraceCommand {
+        name: "audit",
+        about: "Judges the waits of a trace: who was put to sleep, who was told of a let, and who gave up",
+        after: help::AUDIT,
         needs_file: false,
         file: FILE,
         options: &[],
@@ -263,7 +272,8 @@ fn subcommand<'a>(alloc: Global, row: &TraceCommand<'a>) -> Result<Command<'a>, 
 
 /// The command line of the program, without its commands.
 fn program<'a>(alloc: Global) -> Result<Command<'a>, AllocError> {
-    let about = "Works with traces of lock tables: sorts, checks, explains, shows and draws them";
+    let about =
+        "Works with traces of lock tables: sorts, checks, audits, explains, shows and draws them";
     let named = Command::new(alloc, "locktrace")
         .no_binary_name(true)
         .bin_name("locktrace")?;
@@ -402,6 +412,7 @@ fn task_of<'a>(
     let file = inner.get_str("file");
     match name {
         "sort" => Ok(Task::Sort(file, sort_of(alloc, inner)?)),
+        "audit" => Ok(Task::Audit(file)),
         "explain" => Ok(Task::Explain(file.unwrap_or(""))),
         "show" => {
             let layout = shown_layout(alloc, terminal, inner)?;

@@ -11,3 +11,5 @@ pub mod Looks
 pub mod Shard
 pub mod Checks
 pub mod CheckPieces
+pub mod SharedCodes
+pub mod Shared

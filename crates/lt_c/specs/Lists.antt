@@ -2,7 +2,7 @@
 use Rattle.std.specs.Prelude.{ℕ, ◌≡◌, List, [], ◌∷◌, ◌++◌, Option, Some, None, length, min, map, take, drop}
 use Rattle.lt_rules.specs.Table.{keys_after}
 use Rattle.lt_c.specs.declared.shapes.LtKeyName.{LtKeyName}
-use Rattle.lt_c.specs.OneTable.{TableState}
+use Rattle.lt_c.specs.OneTable.{OneTableState}
 use Rattle.lt_c.specs.Looks.{bytes_refusal}
 use Rattle.lt_c.specs.Shapes.{raw_key_name}
 
@@ -23,12 +23,12 @@ after_refusal [] = None
 after_refusal (b ∷ bs) = bytes_refusal (b ∷ bs)
 
 -- why keys are not listed through this handle
-abbrev pub keys_refusal : Option TableState → List ℕ → Option ℕ
+abbrev pub keys_refusal : Option OneTableState → List ℕ → Option ℕ
 keys_refusal None after = Some 1
 keys_refusal (Some h) after = after_refusal after
 
 -- The first keys after this one stand in the array, as many as fit, in byte order, and the rest of the array is as it
 -- was. The count is how many were written.
-pub record ListsKeys (h : TableState) (after : List ℕ) (array array' : List LtKeyName) (count : ℕ) : Type 0 where
+pub record ListsKeys (h : OneTableState) (after : List ℕ) (array array' : List LtKeyName) (count : ℕ) : Type 0 where
   pub counted : count ≡ length (keys_after h.records (after_key after) (length array))
   pub written : array' ≡ map raw_key_name (keys_after h.records (after_key after) (length array)) ++ drop count array

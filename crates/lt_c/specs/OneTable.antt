@@ -7,16 +7,16 @@ use Rattle.lt_ids.specs.contracts.ticket.Through as through
 use Rattle.lt_rules.specs.Codes.{records_code}
 use Rattle.lt_rules.specs.Table.{Records}
 
-pub record TableState : Type 0 where
+pub record OneTableState : Type 0 where
   pub records : Records
   pub lets : List Through
 
 -- a table without keys, and no lets
-abbrev pub new_table : TableState
+abbrev pub new_table : OneTableState
 new_table = record { records = map.empty; lets = [] }
 
-abbrev pub table_state_code : Coded TableState
-table_state_code =
+abbrev pub one_table_code : Coded OneTableState
+one_table_code =
     code_by (Records × List Through)
     (coded× records_code (coded_list through.the_row.coded))
     (λ h. (h.records, h.lets))

@@ -12,16 +12,16 @@ use Rattle.lt_c.specs.declared.shapes.LtThrough.{LtThrough}
 use Rattle.lt_c.specs.declared.shapes.LtRequest.{LtRequest}
 use Rattle.lt_c.specs.Calls.{visit_fault}
 use Rattle.lt_c.specs.Codes.{key_code, reply_code}
-use Rattle.lt_c.specs.OneTable.{TableState}
+use Rattle.lt_c.specs.OneTable.{OneTableState}
 use Rattle.lt_c.specs.Shapes.{raw_let}
 
 -- The act was applied to the record at the key, with this reply, and all its lets are left to give.
-abbrev pub StepsHeld : TableState → TableState → List ℕ → (Record → Outcome) → Reply → Type 0
+abbrev pub StepsHeld : OneTableState → OneTableState → List ℕ → (Record → Outcome) → Reply → Type 0
 StepsHeld before after key act = λ reply. IsStep before.records key act reply after.lets after.records
 
 -- As many of the lets that were left as fit stand in the array, in order, and the others are left. The rest of the
 -- array and the table are as they were.
-pub record GivesLets (array array' : List LtThrough) (count : ℕ) (before after : TableState) : Type 0 where
+pub record GivesLets (array array' : List LtThrough) (count : ℕ) (before after : OneTableState) : Type 0 where
   pub counted : count ≡ min (length before.lets) (length array)
   pub written : array' ≡ map raw_let (take count before.lets) ++ drop count array
   pub left : after.lets ≡ drop count before.lets
@@ -29,7 +29,7 @@ pub record GivesLets (array array' : List LtThrough) (count : ℕ) (before after
 
 -- The act was applied to the record at the key. The code is that of its reply, and its lets were given.
 pub record MakesStep
-    (key : List ℕ) (act : Record → Outcome) (code : ℕ) (array array' : List LtThrough) (count : ℕ) (before after : TableState)
+    (key : List ℕ) (act : Record → Outcome) (code : ℕ) (array array' : List LtThrough) (count : ℕ) (before after : OneTableState)
     : Type 0 where
   pub reply : Reply
   pub lets : List Through
@@ -44,26 +44,26 @@ abbrev pub KeepsOut : List LtThrough → List LtThrough → ℕ → ℕ → Type
 KeepsOut array array' count count' = (array' ≡ array) × (count' ≡ count)
 
 -- why a step at the key with these bytes is refused: lets are left, or the bytes are no key
-abbrev pub held_refusal : TableState → List ℕ → Option ℕ
+abbrev pub held_refusal : OneTableState → List ℕ → Option ℕ
 held_refusal h key = if nat_eq (length h.lets) 0 then option_map key_code (key_fault key) else Some 4
 
 -- why a step through this handle is refused: the handle is closed, or as above
-abbrev pub step_refusal : Option TableState → List ℕ → Option ℕ
+abbrev pub step_refusal : Option OneTableState → List ℕ → Option ℕ
 step_refusal None key = Some 1
 step_refusal (Some h) key = held_refusal h key
 
 -- The handle is open, and this holds of what it holds.
-abbrev pub OnTable : (TableState → Type 0) → Option TableState → Type 0
+abbrev pub OnTable : (OneTableState → Type 0) → Option OneTableState → Type 0
 OnTable P None = ⊥
 OnTable P (Some h) = P h
 
 -- The handle was open, it is open, and this holds of what it held and what it holds.
-abbrev pub OnHandle : (TableState → TableState → Type 0) → Option TableState → Option TableState → Type 0
+abbrev pub OnHandle : (OneTableState → OneTableState → Type 0) → Option OneTableState → Option OneTableState → Type 0
 OnHandle P (Some before) (Some after) = P before after
 OnHandle P _ _ = ⊥
 
 -- the same for a step of a transaction, which is not 0
-abbrev pub txn_refusal : ℕ → Option TableState → List ℕ → Option ℕ
+abbrev pub txn_refusal : ℕ → Option OneTableState → List ℕ → Option ℕ
 txn_refusal txn handle key = if nat_eq txn 0 then Some 8 else step_refusal handle key
 
 -- the first of two reasons
@@ -72,15 +72,15 @@ first_refusal (Some code) next = Some code
 first_refusal None next = next
 
 -- the same for a visit, whose numbers are in their ranges
-abbrev pub visit_refusal : LtRequest → Option TableState → List ℕ → Option ℕ
+abbrev pub visit_refusal : LtRequest → Option OneTableState → List ℕ → Option ℕ
 visit_refusal request handle key = first_refusal (visit_fault request) (step_refusal handle key)
 
 -- A step with this act allocates nothing: the key is stored without an allocation, and so is what the step changes.
-pub record AllocatesNothing (key : List ℕ) (act : Record → Outcome) (h : TableState) : Type 0 where
+pub record AllocatesNothing (key : List ℕ) (act : Record → Outcome) (h : OneTableState) : Type 0 where
   pub short_key : length key ≤ 22
   pub small_step : TakesNoMemory (record_at h.records key) (act (record_at h.records key))
 
 -- The call gives something up, and its key is stored without an allocation. So memory is never refused to it.
-pub record GivesUp (key : List ℕ) (call : Call) (h : TableState) : Type 0 where
+pub record GivesUp (key : List ℕ) (call : Call) (h : OneTableState) : Type 0 where
   pub short_key : length key ≤ 22
   pub begins_nothing : Begins (record_at h.records key) call → ⊥

@@ -79,7 +79,7 @@ fn hear(content: &mut Content, alloc: Global, piece: &[u8]) -> u32
 {
     match content {
         Content::Check(check) => check.hear(alloc, piece),
-        Content::Table(_) => CLOSED,
+        _ => CLOSED,
     }
 }
 
@@ -106,7 +106,7 @@ fn is_check(content: &Content) -> bool
 {
     match content {
         Content::Check(_) => true,
-        Content::Table(_) => false,
+        _ => false,
     }
 }
 
@@ -123,7 +123,7 @@ fn take_check(alloc: Global, handle: &mut Handle) -> Option<HeldCheck>
     }
     match Box::into_inner(content) {
         Content::Check(check) => Some(check),
-        Content::Table(_) => None,
+        _ => None,
     }
 }
 

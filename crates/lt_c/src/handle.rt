@@ -44,7 +44,7 @@ fn step_content(
 {
     match content {
         Content::Table(table) => table.step(alloc, key, by, lets, count),
-        Content::Check(_) => CLOSED,
+        _ => CLOSED,
     }
 }
 

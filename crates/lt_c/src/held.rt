@@ -33,11 +33,11 @@ pub struct HeldTable {
 
 impl Model for HeldTable {
     ghost use Rattle.std.specs.Prelude.{◌≤◌, drop, length};
-    ghost use Rattle.lt_c.specs.OneTable.{TableState, table_state_code};
+    ghost use Rattle.lt_c.specs.OneTable.{OneTableState, one_table_code};
 
-    ghost Value = { TableState };
+    ghost Value = { OneTableState };
 
-    ghost coded = { table_state_code };
+    ghost coded = { one_table_code };
 
     ghost view = { λ t. record { records = t.table; lets = drop t.given t.lets.items } };
 

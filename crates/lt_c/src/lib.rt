@@ -1,16 +1,21 @@
 //! The check of histories and the lock table of one thread, for C and for Rust.
 //!
 //! This static library has an export for each call. [`lt_check`](check::lt_check) decides whether a text is the text of
-//! legal histories, and `lt_check_begin` begins a check of a text in pieces. `lt_table_open` puts an empty table behind a handle, and the other calls that begin with
-//! `lt_table_` make its steps, give the lets of a step, look into the table and close it. A store keeps the handle
-//! behind a lock of its own, because two calls at once must not have one handle.
+//! legal histories, and `lt_check_begin` begins a check of a text in pieces. `lt_table_open` puts an empty table behind a
+//! handle, and the other calls that begin with `lt_table_` make its steps, give the lets of a step, look into the table and
+//! close it. A store keeps the handle behind a lock of its own, because two calls at once must not have one handle.
+//! `lt_shared_open` opens a table that threads share, and each of them makes its calls, which begin with `lt_pass_`, through a
+//! handle of its own.
 //!
 //! What is promised:
 //!
-//! - Each step of the table is the step of the rules (`lt_rules`) on its key alone, and its code is that of the reply.
+//! - Each step of the table of one thread is the step of the rules (`lt_rules`) on its key alone, and its code is that of the
+//!   reply.
+//! - What the calls on a shared table report stands in its one legal history, as the main theorem says of the table whose
+//!   callers wait (`lt_table_core`).
 //! - A call that answers a refusal has changed neither the table nor what it was to write its answer to.
-//! - No let is lost or given twice: the lets that do not fit into the caller's array stay in the handle, and no other
-//!   step is made until the caller has taken them.
+//! - No let of the table of one thread is lost or given twice: the lets that do not fit into the caller's array stay in the
+//!   handle, and no other step is made until the caller has taken them.
 //! - Every argument is tested. A call requires nothing of a key, a number or a length.
 //!
 //! What C must do, because no proof covers it: declare the structs of `shapes.rt` and the functions as they are here,
@@ -20,9 +25,10 @@
 //! with `rattle_`.
 //!
 //! Read next: `steps.rt`, `looks.rt`, `lists.rt`, `check.rt` and `shard.rt` have the exports, and `codes.rt` has what they
-//! answer.
-//! `handle.rt` and `slot.rt` have the handle, `content.rt` says what an open one holds, and `calls.rt` has the visit that C
-//! asks for. In `specs/`, `Steps`, `Looks`, `Lists` and `CheckPieces` define what the contracts of the exports say.
+//! answer. `opening.rt`, `requests.rt`, `pass_steps.rt` and `letting.rt` have those of the shared table, and
+//! `shared_codes.rt` has what they answer beside. `handle.rt` and `slot.rt` have the handle, `content.rt` says what an open
+//! one holds, and `calls.rt` has the visit that C asks for. In `specs/`, `Steps`, `Looks`, `Lists`, `CheckPieces` and
+//! `Shared` define what the contracts of the exports say.
 #![tactic(auto)]
 
 mod calls;
@@ -32,11 +38,17 @@ mod content;
 mod handle;
 mod held;
 mod held_check;
+mod held_shared;
+mod letting;
 mod lists;
 mod looks;
+mod opening;
 mod pass_call;
+mod pass_steps;
+mod requests;
 mod shapes;
 mod shard;
+mod shared_codes;
 mod slot;
 mod steps;
 mod version;

@@ -154,7 +154,7 @@ fn keys_of(content: &Content, alloc: Global, after: &[u8], at_most: usize) -> Re
 {
     match content {
         Content::Table(table) => next_keys(table, alloc, after, at_most),
-        Content::Check(_) => Err(CLOSED),
+        _ => Err(CLOSED),
     }
 }
 

@@ -54,7 +54,7 @@ fn state_of(content: &Content, alloc: Global, key: &[u8]) -> Result<KeyState, u3
 {
     match content {
         Content::Table(table) => copied_state(table, alloc, key),
-        Content::Check(_) => Err(CLOSED),
+        _ => Err(CLOSED),
     }
 }
 
@@ -83,7 +83,7 @@ fn look_in(content: &Content, alloc: Global, key: &[u8], number: u64, txn: &mut 
 {
     match content {
         Content::Table(table) => look(table, alloc, key, number, txn),
-        Content::Check(_) => CLOSED,
+        _ => CLOSED,
     }
 }
 

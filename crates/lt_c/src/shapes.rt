@@ -30,6 +30,27 @@ pub struct LtRequest {
     pub writes: bool,
 }
 
+/// The numbers with which a shared table is opened.
+#[repr(C)]
+#[derive(Clone, Copy)]
+pub struct LtConfig {
+    pub shards: usize,
+    pub passes: usize,
+    pub max_requests: u64,
+    pub max_waits: u32,
+}
+
+/// What a request of a shared table asks for beside its keys. `txn` is 0 for a request without a transaction, and `longest`
+/// is 0 for no bound.
+#[repr(C)]
+#[derive(Clone, Copy)]
+pub struct LtTerms {
+    pub txn: u64,
+    pub wall: u64,
+    pub logical: u32,
+    pub longest: u32,
+}
+
 /// A let: it ends this wait of this request, which waits in this pass.
 #[repr(C)]
 #[derive(Clone, Copy)]

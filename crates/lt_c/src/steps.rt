@@ -48,7 +48,7 @@ fn is_table(content: &Content) -> bool
 {
     match content {
         Content::Table(_) => true,
-        Content::Check(_) => false,
+        _ => false,
     }
 }
 
@@ -217,7 +217,7 @@ fn give_lets(content: &mut Content, lets: &mut [LtThrough], count: &mut usize) -
             *count = table.give(lets);
             DONE
         }
-        Content::Check(_) => CLOSED,
+        _ => CLOSED,
     }
 }
 

@@ -8,10 +8,11 @@ use Rattle.lt_checker.specs.declared.cursor.Expected.{Expected}
 use Rattle.lt_checker.specs.declared.error.Fault.TheVariants.{Header}
 use Rattle.lt_checker.specs.declared.error.HistoryLineError.{HistoryLineError}
 use Rattle.lt_checker.specs.declared.error.HistoryLineError.TheVariants as refusals
+use Rattle.lt_checker.specs.declared.line.Line.{Line}
 use Rattle.lt_checker.specs.declared.pieces.Checker.{Checker}
 use Rattle.lt_checker.specs.Cursor.{spot, IsGiven}
 use Rattle.lt_checker.specs.Histories.{precedes}
-use Rattle.lt_checker.specs.Lines.{Parts, IsLine, line_text}
+use Rattle.lt_checker.specs.Lines.{Parts, IsLine, line_text, parts_of}
 use Rattle.lt_checker.specs.Text.{Spot, start, spot_after, spot_from, IsOf, IsOrdered, HasItsIndex, IsShapelessIn, IsWrongOr, Follows, AreLegal, text_by, key_count, Fails}
 use Rattle.lt_checker.specs.Verdict.{IsLegalText, Says, Judges, IsOrMemory, RefusesFaulty, FailsOr}
 use Rattle.lt_checker.specs.Version.{IsVersion, header_of}
@@ -91,6 +92,11 @@ pub record TakesOneLine (old : Checker) (bytes : List ℕ) (new : Checker) : Typ
   pub keys : old.report.keys + 1 < 2 ^ 64 → new.report.keys ≡ (if next.parts.step.index == 1 then old.report.keys + 1 else old.report.keys)
   pub first : new.first ≡ key_or old.first next.parts.key
 
+-- The line with these bytes, given without its line end, says this.
+pub record IsTextOfLine (bytes : List ℕ) (l : Line) : Type 0 where
+  pub line : IsLine (parts_of l)
+  pub is_text : line_text (parts_of l) ≡ bytes ++ 10 ∷ []
+
 -- The rules give this for the line, and the line comes next. The line's own reply and tickets are not looked at.
 pub record GivesByRules (c : Checker) (bytes : List ℕ) (x : Expected) : Type 0 where
   pub parts : Parts
@@ -110,6 +116,17 @@ pub record MovesOver (old : Checker) (piece : List ℕ) (new : Checker) (rest : 
 -- The checker has taken all whole lines of the piece. The rest has no line end.
 abbrev pub TakesLines : Checker → List ℕ → Checker → List ℕ → Type 0
 TakesLines old piece new rest = MovesOver old piece new rest × (cut_of 10 rest ≡ None)
+
+-- The checker has taken the first line of the piece, which says this, and left the rest.
+pub record TakesFirstLine (old : Checker) (piece : List ℕ) (new : Checker) (line : Line) (rest : List ℕ) : Type 0 where
+  pub moves : MovesOver old piece new rest
+  pub bytes : List ℕ
+  pub is_first : cut_of 10 piece ≡ Some (bytes, rest)
+  pub says : IsTextOfLine bytes line
+
+-- The piece has no line end, and the checker has taken nothing.
+abbrev pub TakesNone : Checker → List ℕ → Checker → Type 0
+TakesNone old piece new = (new ≡ old) × (cut_of 10 piece ≡ None)
 
 -- A text that goes on with this piece is refused in this way, whatever comes after the piece.
 abbrev pub RefusesFrom : Checker → List ℕ → CheckError → Type 0

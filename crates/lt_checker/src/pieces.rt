@@ -2,7 +2,8 @@
 //! of them. So it checks a text of any length in the memory of one line and of one key's record.
 //!
 //! [`Checker::begin`] takes the first line, [`Checker::take_lines`] takes the whole lines of a piece, and
-//! [`Checker::end`] takes what is left and gives the verdict of [`check`](crate::check). Each promise speaks of the
+//! [`Checker::end`] takes what is left and gives the verdict of [`check`](crate::check). [`Checker::take_line`] takes one
+//! line and says what stands in it. Each promise speaks of the
 //! whole text that the checker has taken (`HasTaken` in `specs/Pieces.antt`), so the verdict does not depend on the
 //! cuts.
 //!
@@ -10,14 +11,15 @@
 //! in the middle of a text, and [`Checker::joined`] joins the checks of two parts into the check of both.
 //!
 //! Two calls explain a fault: [`Checker::state_before`] copies the record of a key before the next line, and
-//! [`Checker::expected`] gives the reply and the lets that the rules give for that line. Read next:
+//! [`Checker::expected`] gives the reply and the lets that the rules give for that line. [`Checker::lengths`] counts the
+//! requests that are queued at the latest key. Read next:
 //! `specs/Pieces.antt`, then `cursor.rt`.
-ghost use Rattle.std.specs.Prelude.{◌≡◌, ◌==◌, ◌<◌, ◌+◌, ◌^◌, if◌then◌else◌, [], IfOk, IfErr, IfSome, IfNone, OnErr, IsTrue, ◌↔◌, None};
+ghost use Rattle.std.specs.Prelude.{◌≡◌, ◌==◌, ◌<◌, ◌+◌, ◌^◌, if◌then◌else◌, [], length, IfOk, IfErr, IfSome, IfNone, OnOk, OnErr, IsTrue, ◌↔◌, None};
 ghost use Rattle.lt_checker.specs.Cursor.{spot};
 ghost use Rattle.lt_checker.specs.Text.{record_before};
 ghost use Rattle.lt_checker.specs.Version.{IsVersion, header_of};
 ghost use Rattle.lt_checker.specs.Verdict.{located};
-ghost use Rattle.lt_checker.specs.Pieces.{HasTaken, TakesOneLine, TakesLines, RefusesFrom, IsFaultyLine, IsNoNextLine, JudgesAtEnd, SaysAtEnd, AcceptsAtEnd, RefusesAtEnd, HasBegun, LacksHeader, GivesByRules, MayJoin, TakesBoth, ReportsLegal, first_of_both, key_or};
+ghost use Rattle.lt_checker.specs.Pieces.{HasTaken, IsTextOfLine, TakesOneLine, TakesFirstLine, TakesNone, TakesLines, RefusesFrom, IsFaultyLine, IsNoNextLine, JudgesAtEnd, SaysAtEnd, AcceptsAtEnd, RefusesAtEnd, HasBegun, LacksHeader, GivesByRules, MayJoin, TakesBoth, ReportsLegal, first_of_both, key_or};
 
 use crate::checker::{CheckError, Report};
 use crate::cursor::{Cursor, Expected, expect, follow, start};
@@ -25,7 +27,7 @@ use crate::error::{Fault, HistoryLineError};
 use crate::line::Line;
 use crate::version::line_of;
 use lt_ids::Key;
-use lt_rules::KeyState;
+use lt_rules::{KeyState, QueueLengths};
 use lt_text::words::cut;
 use std::alloc::{AllocError, Global};
 
@@ -79,12 +81,13 @@ fn first_of_both(first: Option<Key>, next: Option<Key>) -> Option<Key>
 }
 
 /// Notes the key, if it is the first one.
-fn note_first(first: &mut Option<Key>, key: Key)
-    ensures { first.new ≡ key_or first.old key }
+fn note_first(first: &mut Option<Key>, key: &Key) -> Result<(), AllocError>
+    ensures { OnOk result (first.new ≡ key_or first.old key.now) }
 {
     if first.is_none() {
-        *first = Some(key);
+        *first = Some(key.copy()?);
     }
+    Ok(())
 }
 
 /// A check of a text that comes in pieces. It knows the latest line's key and index, the record of that key, and how
@@ -150,18 +153,40 @@ impl Checker {
         }
     }
 
-    /// Takes a line, given without its line end.
-    fn take_line(&mut self, alloc: Global, bytes: &[u8]) -> Result<(), HistoryLineError>
+    /// Takes a line, given without its line end, and returns what it says.
+    fn follow_line(&mut self, alloc: Global, bytes: &[u8]) -> Result<Line, HistoryLineError>
         ensures ok { IfOk result (λ _. TakesOneLine self.old bytes.now self.new) }
+        ensures line { IfOk result (IsTextOfLine bytes.now) }
         ensures err { IfErr result (λ e. IsFaultyLine self.old.report.version (spot self.old.cursor) bytes.now e) }
         ensures report { OnErr result (self.new.report ≡ self.old.report) }
     {
         let line = line_of(alloc, self.report.version, bytes)?;
         follow(alloc, &mut self.cursor, &line)?;
-        let Line { key, step, .. } = line;
-        self.report = counted(self.report, step.index);
-        note_first(&mut self.first, key);
-        Ok(())
+        note_first(&mut self.first, &line.key)?;
+        self.report = counted(self.report, line.step.index);
+        Ok(line)
+    }
+
+    /// Takes the first line of a piece. Returns what the line says, and the bytes after it. `None` if the piece has no
+    /// line end; nothing is taken then. A line that does not follow is refused as [`check`](crate::check) refuses it,
+    /// whatever comes after the piece.
+    pub fn take_line<'a>(
+        &mut self,
+        alloc: Global,
+        piece: &'a [u8],
+    ) -> Result<Option<(Line, &'a [u8])>, CheckError>
+        ensures ok { IfOk result (λ r. IfSome r (λ taken.
+            TakesFirstLine self.old piece.now self.new taken.0 taken.1.now)) }
+        ensures none { IfOk result (λ r. IfNone r (TakesNone self.old piece.now self.new)) }
+        ensures err { IfErr result (λ e. RefusesFrom self.old piece.now e) }
+    {
+        let Some((bytes, after)) = cut(piece, b'\n') else {
+            return Ok(None);
+        };
+        match self.follow_line(alloc, bytes) {
+            Ok(line) => Ok(Some((line, after))),
+            Err(refusal) => Err(located(refusal, self.report.steps.saturating_add(2))),
+        }
     }
 
     /// Takes all whole lines of a piece, and returns the bytes after its last line end. The caller puts them before the
@@ -173,7 +198,7 @@ impl Checker {
     {
         let mut rest = piece;
         while let Some((line, after)) = cut(rest, b'\n') {
-            if let Err(refusal) = self.take_line(alloc, line) {
+            if let Err(refusal) = self.follow_line(alloc, line) {
                 return Err(located(refusal, self.report.steps.saturating_add(2)));
             }
             rest = after;
@@ -248,6 +273,20 @@ impl Checker {
             report: added(self.report, report),
             first: first_of_both(self.first, first),
         })
+    }
+
+    /// How many requests are queued at the key of the latest line. Copies nothing.
+    pub fn lengths(&self) -> QueueLengths
+        ensures writers { result.writers ≡ length (spot self.now.cursor).state.writers }
+        ensures readers { result.readers ≡ length (spot self.now.cursor).state.readers }
+    {
+        match &self.cursor.linked {
+            Some(own) => own.lengths(),
+            None => QueueLengths {
+                writers: 0,
+                readers: 0,
+            },
+        }
     }
 
     /// A copy of the key's record before the next line. It fails only when an allocation fails.

@@ -6,7 +6,7 @@ ghost use Rattle.lt_walk.specs.Entered.{IsEntered, IsRefused};
 use crate::table::Table;
 use lt_ids::{Access, Key, Timestamp, TxnId};
 use lt_rules::KeyTable;
-use lt_walk::{EnterRefused, Guard, Terms, enter_on, guard_of};
+use lt_walk::{EnterRefused, Guard, Terms, enter_on};
 use lt_words::{Name, Pass, Waker};
 use std::alloc::Global;
 
@@ -20,7 +20,7 @@ impl<N: Name, T: KeyTable, W: Waker> Table<N, T, W> {
     pub fn enter(
         &self,
         alloc: Global,
-        mut pass: Pass,
+        pass: Pass,
         txn: Option<TxnId>,
         ts: Timestamp,
         accesses: &[(Key, Access)],
@@ -32,9 +32,6 @@ impl<N: Name, T: KeyTable, W: Waker> Table<N, T, W> {
     {
         let max_requests = self.config.max_requests;
         let terms = Terms { txn, ts, longest };
-        match enter_on(&self.book, max_requests, alloc, &mut pass, terms, accesses) {
-            Ok(walk) => Ok(guard_of(pass, walk)),
-            Err(error) => Err(EnterRefused { pass, error }),
-        }
+        enter_on(&self.book, max_requests, alloc, pass, terms, accesses)
     }
 }

@@ -1,5 +1,5 @@
-//! How does a request walk through a table whose callers wait for each other? By the steps of `Table::step`, which need
-//! the permission to wait.
+//! How does a call make one key step in a table whose callers wait for each other? Under the lock of the key's shard,
+//! with the permission to wait for it. Read next `src/scan_and_poll.rt`.
 ghost use Rattle.std.specs.Prelude.{◌≡◌, ◌≢◌, true};
 ghost use Rattle.lt_rules.specs.Memory.{gives_up};
 ghost use Rattle.lt_words.specs.declared.keeping.Keeping.TheVariants.{Unrecorded};
@@ -35,9 +35,26 @@ impl<'a, R: Wait, N: Name, T: KeyTable, W: Waker> KeySteps for Blocking<'a, R, N
         &table.book
     }
 
+    /// Makes the call at the key under the lock of the key's shard. The type of a lock does not tell which shard it
+    /// holds. If it is another one, which never happens in a table that was opened, the call locks again.
     #[inline(always)]
     fn step(&self, pass: &mut Pass, key: &Key, call: &Call) -> Result<Answer, StepError> {
-        self.table.step(self.rt, pass, key, call)
+        let table: &Table<N, T, W> = self.table;
+        let rt: &R = self.rt;
+        let index = table.shard_of(key);
+        let lock = &table.shards[index].lock;
+        for _ in rt.forever() {
+            let mut locked = lock.lock(rt);
+            let inside = &mut *locked;
+            if inside.shard.index() == index {
+                let answer = inside.shard.step(rt, &table.book, pass, key, call)?;
+                // Release the lock first, so that the threads that are woken do not run into it.
+                drop(locked);
+                table.book.wake(pass, &table.waker);
+                return Ok(answer);
+            }
+        }
+        unreachable!()
     }
 }
 

@@ -1,9 +1,7 @@
 //! How does a transaction take, raise and free its locks, and how does a request look at what it waits for? The
 //! calls of a transaction come in two forms: by a pass, and (named `.._in`) by the pass of a guard. A look is by a
 //! guard.
-ghost use Rattle.std.specs.Prelude.{◌≡◌, ◌≢◌, ◌<◌, true, Err, IfOk, IsOk, OnErr, length};
-ghost use Rattle.lt_rules.specs.Memory.{gives_up};
-ghost use Rattle.lt_entry.specs.Ranges.{NamesNumber};
+ghost use Rattle.std.specs.Prelude.{◌≡◌, ◌≢◌, ◌<◌, Err, IfOk, IsOk, OnErr, length};
 ghost use Rattle.lt_rules.specs.declared.call.Call.TheVariants.{Acquire, Update, Finish};
 ghost use Rattle.lt_walk.specs.Reported.{ReportsCall, ReportsLook};
 
@@ -12,7 +10,7 @@ use crate::table::Table;
 use lt_ids::{Key, Timestamp, TxnId};
 use lt_rules::{Call, KeyTable};
 use lt_shard::{Answer, StepError};
-use lt_walk::{Guard, look_on, step_in};
+use lt_walk::{Guard, KeySteps, look_on, step_in};
 use lt_words::{Keeping, Name, Pass, Waker};
 use std::sync::Wait;
 
@@ -37,7 +35,7 @@ impl<N: Name, T: KeyTable, W: Waker> Table<N, T, W> {
         ensures err { OnErr result (pass.new ≡ pass.old) }
         ensures never_full { N.of.keeping ≡ Keeping.Unrecorded → result ≢ Err StepError.HistoryFull }
     {
-        self.step(rt, pass, key, &Call::Acquire { txn, ts })
+        Blocking { rt, table: self }.step(pass, key, &Call::Acquire { txn, ts })
     }
 
     /// The transaction raises the timestamp of the lock that it holds.
@@ -55,7 +53,7 @@ impl<N: Name, T: KeyTable, W: Waker> Table<N, T, W> {
         ensures never_full { N.of.keeping ≡ Keeping.Unrecorded → result ≢ Err StepError.HistoryFull }
         ensures always { N.of.keeping ≡ Keeping.Unrecorded → IsOk result }
     {
-        self.step(rt, pass, key, &Call::Update { txn, ts })
+        Blocking { rt, table: self }.step(pass, key, &Call::Update { txn, ts })
     }
 
     /// The transaction frees the lock that it holds.
@@ -72,27 +70,7 @@ impl<N: Name, T: KeyTable, W: Waker> Table<N, T, W> {
         ensures never_full { N.of.keeping ≡ Keeping.Unrecorded → result ≢ Err StepError.HistoryFull }
         ensures always { N.of.keeping ≡ Keeping.Unrecorded → IsOk result }
     {
-        self.step(rt, pass, key, &Call::Finish { txn })
-    }
-
-    /// Makes the call at the key through the guard's pass. The request stays as it is.
-    #[inline(always)]
-    fn step_in<R: Wait>(
-        &self,
-        rt: &R,
-        guard: &mut Guard,
-        key: &Key,
-        call: &Call,
-    ) -> Result<Answer, StepError>
-        requires pass { guard.old.pass.of ≡ N.of }
-        requires number { NamesNumber call.now }
-        ensures ok { IfOk result (λ a. ReportsCall guard.old.pass guard.new.pass key.now call.now a) }
-        ensures err { OnErr result (guard.new ≡ guard.old) }
-        ensures never_full { N.of.keeping ≡ Keeping.Unrecorded → result ≢ Err StepError.HistoryFull }
-        ensures always { N.of.keeping ≡ Keeping.Unrecorded → gives_up call.now ≡ true → IsOk result }
-        ensures walk { guard.new.walk ≡ guard.old.walk }
-    {
-        step_in(&Blocking { rt, table: self }, guard, key, call)
+        Blocking { rt, table: self }.step(pass, key, &Call::Finish { txn })
     }
 
     /// [`Table::acquire`] through the pass of a guard.
@@ -110,7 +88,12 @@ impl<N: Name, T: KeyTable, W: Waker> Table<N, T, W> {
         ensures never_full { N.of.keeping ≡ Keeping.Unrecorded → result ≢ Err StepError.HistoryFull }
         ensures walk { guard.new.walk ≡ guard.old.walk }
     {
-        self.step_in(rt, guard, key, &Call::Acquire { txn, ts })
+        step_in(
+            &Blocking { rt, table: self },
+            guard,
+            key,
+            &Call::Acquire { txn, ts },
+        )
     }
 
     /// [`Table::update`] through the pass of a guard.
@@ -129,7 +112,12 @@ impl<N: Name, T: KeyTable, W: Waker> Table<N, T, W> {
         ensures always { N.of.keeping ≡ Keeping.Unrecorded → IsOk result }
         ensures walk { guard.new.walk ≡ guard.old.walk }
     {
-        self.step_in(rt, guard, key, &Call::Update { txn, ts })
+        step_in(
+            &Blocking { rt, table: self },
+            guard,
+            key,
+            &Call::Update { txn, ts },
+        )
     }
 
     /// [`Table::finish`] through the pass of a guard.
@@ -147,7 +135,12 @@ impl<N: Name, T: KeyTable, W: Waker> Table<N, T, W> {
         ensures always { N.of.keeping ≡ Keeping.Unrecorded → IsOk result }
         ensures walk { guard.new.walk ≡ guard.old.walk }
     {
-        self.step_in(rt, guard, key, &Call::Finish { txn })
+        step_in(
+            &Blocking { rt, table: self },
+            guard,
+            key,
+            &Call::Finish { txn },
+        )
     }
 
     /// What the request finds at the key with this index in its list, from 0. A look is a key step too; it changes

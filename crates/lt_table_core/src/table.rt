@@ -1,18 +1,15 @@
-//! What is a table, and how does a call make one key step? Read next `src/scan_and_poll.rt`.
-ghost use Rattle.std.specs.Prelude.{◌≡◌, ◌≢◌, ◌<◌, true, IfOk, IsOk, OnErr, Err};
-ghost use Rattle.lt_rules.specs.Memory.{gives_up};
-ghost use Rattle.lt_entry.specs.Ranges.{NamesNumber};
+//! What is a table? Read next `src/key_steps.rt`: how a call makes one key step.
+ghost use Rattle.std.specs.Prelude.{◌≡◌, ◌<◌};
 ghost use Rattle.lt_words.specs.History.{shard_of};
 ghost use Rattle.lt_shard.specs.Shards.{new_shard};
-ghost use Rattle.lt_walk.specs.Reported.{ReportsCall};
 
 use lt_ids::Key;
-use lt_rules::{Call, KeyTable};
-use lt_shard::{Answer, Shard, StepError};
+use lt_rules::KeyTable;
+use lt_shard::Shard;
 use lt_walk::Config;
-use lt_words::{Book, Keeping, Name, Pass, Waker, shard_of};
+use lt_words::{Book, Name, Waker, shard_of};
 use std::marker::{Model, PhantomData};
-use std::sync::{Mutex, Wait};
+use std::sync::Mutex;
 
 /// A shard of the book that `N` names: a value behind a lock is known by its type alone.
 #[derive(Drop)]
@@ -133,38 +130,5 @@ impl<N: Name, T: KeyTable, W: Waker> Table<N, T, W> {
         ensures below { result < N.of.shards }
     {
         shard_of(key, self.shards.len())
-    }
-
-    /// Makes the call at the key under the lock of the key's shard. The type of a lock does not tell which shard it
-    /// holds. If it is another one, which never happens in a table that was opened, the call locks again.
-    #[inline(always)]
-    pub(crate) fn step<R: Wait>(
-        &self,
-        rt: &R,
-        pass: &mut Pass,
-        key: &Key,
-        call: &Call,
-    ) -> Result<Answer, StepError>
-        requires pass { pass.old.of ≡ N.of }
-        requires number { NamesNumber call.now }
-        ensures ok { IfOk result (λ a. ReportsCall pass.old pass.new key.now call.now a) }
-        ensures err { OnErr result (pass.new ≡ pass.old) }
-        ensures never_full { N.of.keeping ≡ Keeping.Unrecorded → result ≢ Err StepError.HistoryFull }
-        ensures always { N.of.keeping ≡ Keeping.Unrecorded → gives_up call.now ≡ true → IsOk result }
-    {
-        let index = self.shard_of(key);
-        let lock = &self.shards[index].lock;
-        for _ in rt.forever() {
-            let mut locked = lock.lock(rt);
-            let inside = &mut *locked;
-            if inside.shard.index() == index {
-                let answer = inside.shard.step(rt, &self.book, pass, key, call)?;
-                // Release the lock first, so that the threads that are woken do not run into it.
-                drop(locked);
-                self.book.wake(pass, &self.waker);
-                return Ok(answer);
-            }
-        }
-        unreachable!()
     }
 }

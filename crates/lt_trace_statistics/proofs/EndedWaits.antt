@@ -28,7 +28,7 @@ same_parts : (n m w v : ℕ) → n ≡ m → w ≡ v → wait_with n w ≡ wait_
 same_parts n m w v e f = rw (e, f) refl
 
 -- equal tickets have the same parts
-same_ticket : (a b : Wait) → same_wait a b ≡ true → a ≡ b
+pub same_ticket : (a b : Wait) → same_wait a b ≡ true → a ≡ b
 same_ticket a b e =
     let number : a.number ≡ b.number = grind (arith, nat_tests) in
     let wait : a.wait ≡ b.wait = grind (arith, nat_tests) in
@@ -65,7 +65,7 @@ find_kept p test keeps (w ∷ ws) = by (test w) (p w) refl refl (find_kept p tes
     by false true e f rest = absurd (false≢true (sym e ∙ keeps w f))
     by false false e f rest = rest
 
-find_dropped : (p test : OpenWait → Bool) → ((w : OpenWait) → p w ≡ true → test w ≡ false) → (ws : List OpenWait) → find p (filter test ws) ≡ None
+pub find_dropped : (p test : OpenWait → Bool) → ((w : OpenWait) → p w ≡ true → test w ≡ false) → (ws : List OpenWait) → find p (filter test ws) ≡ None
 find_dropped p test drops [] = refl
 find_dropped p test drops (w ∷ ws) = by (test w) (p w) refl refl (find_dropped p test drops ws)
   where
@@ -74,7 +74,7 @@ find_dropped p test drops (w ∷ ws) = by (test w) (p w) refl refl (find_dropped
     by true false e f rest = rw f rest
     by false s e f rest = rest
 
-find_stays_none : (p test : OpenWait → Bool) (ws : List OpenWait) → find p ws ≡ None → find p (filter test ws) ≡ None
+pub find_stays_none : (p test : OpenWait → Bool) (ws : List OpenWait) → find p ws ≡ None → find p (filter test ws) ≡ None
 find_stays_none p test [] e = refl
 find_stays_none p test (w ∷ ws) e = by (test w) (p w) refl e (λ e. find_stays_none p test ws e)
   where
@@ -83,11 +83,11 @@ find_stays_none p test (w ∷ ws) e = by (test w) (p w) refl e (λ e. find_stays
     by true false f e rest = rw f (rest e)
     by false false f e rest = rest e
 
-find_before : (p : OpenWait → Bool) (ws vs : List OpenWait) → find p vs ≡ None → find p (ws ++ vs) ≡ find p ws
+pub find_before : (p : OpenWait → Bool) (ws vs : List OpenWait) → find p vs ≡ None → find p (ws ++ vs) ≡ find p ws
 find_before p [] vs e = e
 find_before p (w ∷ ws) vs e = ap (λ (o : Option OpenWait). cond (p w) (Some w) o) (find_before p ws vs e)
 
-find_behind : (p : OpenWait → Bool) (ws vs : List OpenWait) → find p ws ≡ None → find p (ws ++ vs) ≡ find p vs
+pub find_behind : (p : OpenWait → Bool) (ws vs : List OpenWait) → find p ws ≡ None → find p (ws ++ vs) ≡ find p vs
 find_behind p [] vs e = refl
 find_behind p (w ∷ ws) vs e = by (p w) e (λ e. find_behind p ws vs e)
   where

@@ -3,3 +3,4 @@ pub mod Longest
 pub mod Heat
 pub mod OpenWaits
 pub mod EndedWaits
+pub mod ByNumber

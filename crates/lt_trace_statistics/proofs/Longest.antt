@@ -1,14 +1,17 @@
 -- The longest queue and the longest wait only grow, and each step's is within them.
-use Rattle.std.proofs.Common.{◌≡◌, ℕ, zero, suc, ◌-◌, ◌<◌, ◌≤◌, Bool, true, false, cond, nat_lt, fold, List, [], ◌∷◌, ◌++◌, Option, Some, None, slice_get, refl, ap, arith}
+use Rattle.std.proofs.Common.{◌≡◌, ℕ, zero, suc, ◌+◌, ◌-◌, length, ◌<◌, ◌≤◌, Bool, true, false, cond, nat_lt, fold, List, [], ◌∷◌, ◌++◌, Option, Some, None, slice_get, refl, ap, arith}
 use Rattle.std.specs.List.{AllByRecursion}
 use Rattle.std.proofs.lemmas.Bool.Decides.{nat_tests}
-use Rattle.std.proofs.lemmas.List.Sums.{fold-append}
+use Rattle.std.proofs.lemmas.List.Sums.{fold-append, sum_by_push}
+use Rattle.std.proofs.lemmas.List.{length-append}
 use Rattle.lt_ids.specs.Ids.{Wait}
+use Rattle.lt_trace_statistics.specs.declared.summary.StepCounts.{StepCounts}
 use Rattle.lt_trace_statistics.specs.declared.summary.LongestQueue.{LongestQueue}
 use Rattle.lt_trace_statistics.specs.declared.summary.LongestWait.{LongestWait}
 use Rattle.lt_trace_statistics.specs.declared.waits.OpenWait.{OpenWait}
-use Rattle.lt_trace_statistics.specs.Findings.{TracedStep, Findings, queue_len, longer_queue, wait_len, with_wait, longer_wait, ended_wait, with_ended, since_of, is_key_of, with_key, pending_at, after_step, no_findings, findings_of}
+use Rattle.lt_trace_statistics.specs.Findings.{TracedStep, Findings, capped, is_must_wait, wait_count, queue_len, longer_queue, wait_len, with_wait, longer_wait, ended_wait, with_ended, since_of, is_key_of, with_key, pending_at, after_step, no_findings, findings_of}
 use Rattle.lt_trace_statistics.specs.Laws.{NoLongerQueue}
+use Rattle.lt_trace_statistics.specs.Taken.{AreSums}
 
 -- a new key leaves both as they are
 pub with_key_keeps : (f : Findings) (key : List ℕ) → ((with_key f key).queue ≡ f.queue) × ((with_key f key).wait ≡ f.wait)
@@ -17,6 +20,17 @@ with_key_keeps f key =
       | true ↦ (refl, refl)
       | false ↦ (refl, refl)
     ]
+
+-- ---- counts
+
+-- one more step is counted
+pub sums_pushed : (old new : StepCounts) (steps : List TracedStep) (x : TracedStep) → AreSums old steps → new.steps ≡ capped (old.steps + 1) → new.waits ≡ capped (old.waits + wait_count x.reply) → new.lets ≡ capped (old.lets + length x.tickets)
+    → AreSums new (steps ++ x ∷ [])
+sums_pushed old new steps x s more waits lets = record {
+  steps = omega (arith, s.steps, more, length-append steps (x ∷ []));
+  waits = omega (arith, s.waits, waits, sum_by_push (λ y. cond (is_must_wait y.reply) 1 0) steps x);
+  lets = omega (arith, s.lets, lets, sum_by_push (λ y. length y.tickets) steps x);
+}
 
 -- ---- queues
 

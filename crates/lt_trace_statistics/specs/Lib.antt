@@ -1,3 +1,4 @@
 pub mod Findings
+pub mod OpenWaits
 pub mod Taken
 pub mod Laws

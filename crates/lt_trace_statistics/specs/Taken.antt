@@ -1,16 +1,18 @@
 -- What the statistics hold of the steps that they have taken, and what a summary says of them.
-use Rattle.std.specs.Prelude.{ℕ, ◌≡◌, ◌+◌, List, [], length, count_by, sum_by, slice_get, drop, Some}
+use Rattle.std.specs.Prelude.{ℕ, ◌≡◌, ◌+◌, List, length, count_by, sum_by, slice_get, drop, Some}
+use Rattle.std.specs.BTreeMap.{IsEmpty}
 use Rattle.lt_trace_statistics.specs.declared.summary.StepCounts.{StepCounts}
 use Rattle.lt_trace_statistics.specs.declared.summary.TextSummary.{TextSummary}
 use Rattle.lt_trace_statistics.specs.declared.statistics.Statistics.{Statistics}
 use Rattle.lt_trace_statistics.specs.Findings.{TracedStep, Findings, capped, is_must_wait, hottest_of, ranked_after, blank_key, findings_of}
+use Rattle.lt_trace_statistics.specs.OpenWaits.{HasWaits}
 
 -- The statistics hold these findings. Of the keys before the latest one, they hold the hottest.
 pub record AreFindings (s : Statistics) (f : Findings) : Type 0 where
   pub keys : s.counts.keys ≡ capped (length f.keys)
   pub latest : s.latest ≡ slice_get f.keys 0
   pub earlier : s.earlier.items ≡ hottest_of (drop 1 f.keys)
-  pub pending : s.pending.items ≡ f.pending
+  pub pending : HasWaits s.pending f.pending
   pub queue : s.longest_queue ≡ f.queue
   pub wait : s.longest_wait ≡ f.wait
 
@@ -46,6 +48,6 @@ pub record StartsKey (old new : Statistics) (key : List ℕ) : Type 0 where
   pub keys : new.counts.keys ≡ capped (old.counts.keys + 1)
   pub latest : new.latest ≡ Some (blank_key key)
   pub earlier : new.earlier.items ≡ ranked_after old.latest old.earlier.items
-  pub pending : new.pending.items ≡ []
+  pub pending : IsEmpty new.pending
   pub queue : new.longest_queue ≡ old.longest_queue
   pub wait : new.longest_wait ≡ old.longest_wait

@@ -8,9 +8,10 @@ use crate::hottest::{count_step, is_key_of, rank_latest};
 use crate::queue::note_queue;
 use crate::step::StepFacts;
 use crate::summary::{HotKey, LongestQueue, LongestWait, StepCounts, TextSummary};
-use crate::waits::{OpenWait, begin_wait, drop_ended, drop_mover, note_ended, wait_count};
+use crate::waits::{Pending, begin_wait, drop_ended, drop_mover, note_ended, wait_count};
 use lt_ids::Key;
 use std::alloc::{AllocError, Global};
+use std::collections::BTreeMap;
 use std::mem;
 
 /// The statistics of the steps that were taken so far. It holds the open waits at the latest key, and at most
@@ -23,7 +24,7 @@ pub struct Statistics {
     /// The hottest of the keys before it.
     earlier: Vec<HotKey>,
     /// The open waits at the latest key.
-    pending: Vec<OpenWait>,
+    pending: Pending,
     longest_queue: Option<LongestQueue>,
     longest_wait: Option<LongestWait>,
 }
@@ -57,7 +58,7 @@ impl Statistics {
             },
             latest: None,
             earlier: Vec::new(alloc),
-            pending: Vec::new(alloc),
+            pending: BTreeMap::new(alloc),
             longest_queue: None,
             longest_wait: None,
         }

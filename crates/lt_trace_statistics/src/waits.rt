@@ -1,17 +1,19 @@
 //! Which requests wait at a key, since which step, and which of their waits is the longest?
 //!
 //! A wait begins with a visit that is answered `wait`. It is open until a step lets its ticket through, or until its
-//! request visits the key again or leaves. So each request has at most one open wait at a key.
-ghost use Rattle.std.specs.Prelude.{◌≡◌, ◌-◌, ◌++◌, OnOk, fold, length};
-ghost use Rattle.std.specs.List.{list_any};
-ghost use Rattle.lt_ids.specs.Ids.{same_wait};
-ghost use Rattle.lt_trace_statistics.specs.Findings.{is_must_wait, wait_count, mover_of, without_mover, is_let_through, without_ended, begun_waits, since_of, ended_wait, wait_len, longer_wait, with_ended, with_wait};
+//! request visits the key again or leaves. So each request has at most one open wait at a key, which a map finds by the
+//! request's number: a step costs the same however many wait.
+ghost use Rattle.std.specs.Prelude.{◌≡◌, ◌-◌, OnOk, fold, ◌∷◌, [], List};
+ghost use Rattle.lt_trace_statistics.specs.Findings.{is_must_wait, wait_count, mover_of, without_mover, without_ended, wait_len, with_ended, with_wait};
+ghost use Rattle.lt_trace_statistics.specs.declared.waits.OpenWait.{OpenWait};
+ghost use Rattle.lt_trace_statistics.specs.OpenWaits.{HasWaits, ChangesWaits, BeginsWait, since_at};
 
 use crate::step::StepFacts;
 use crate::summary::LongestWait;
 use lt_ids::{Key, Ticket};
 use lt_rules::{Call, Reply};
 use std::alloc::AllocError;
+use std::collections::BTreeMap;
 
 /// An open wait.
 #[derive(Drop)]
@@ -20,6 +22,9 @@ pub(crate) struct OpenWait {
     /// The index of the visit that began it.
     pub(crate) since: u64,
 }
+
+/// The open waits at a key, each by the number of its request.
+pub(crate) type Pending = BTreeMap<u64, OpenWait>;
 
 /// Whether a request has to wait.
 fn is_must_wait(reply: &Reply) -> bool
@@ -50,58 +55,58 @@ fn mover_of(call: &Call) -> Option<u64>
 }
 
 /// Closes the wait of the request that visits or leaves.
-pub(crate) fn drop_mover(pending: &mut Vec<OpenWait>, call: &Call)
-    ensures { pending.new.items ≡ without_mover (mover_of call.now) pending.old.items }
+pub(crate) fn drop_mover(pending: &mut Pending, call: &Call)
+    ensures { ChangesWaits (without_mover (mover_of call.now)) pending.old pending.new }
 {
     if let Some(number) = mover_of(call) {
-        drop_number(pending, number);
+        pending.remove(&number);
     }
 }
 
-/// Closes the wait of the request with this number.
-fn drop_number(pending: &mut Vec<OpenWait>, number: u64)
-    ensures { pending.new.items ≡ without_mover (Some number) pending.old.items }
+/// The index of the visit that began the open wait with this ticket.
+fn since_of(pending: &Pending, ticket: &Ticket) -> Option<u64>
+    ensures { result ≡ since_at pending.now ticket.now }
 {
-    pending.retain(|wait| wait.ticket.number() != number);
+    let wait = pending.get(&ticket.number())?;
+    if wait.ticket == *ticket {
+        Some(wait.since)
+    } else {
+        None
+    }
 }
 
-/// Whether the ticket is among these.
-fn is_let_through(tickets: &[Ticket], ticket: &Ticket) -> bool
-    ensures { result ≡ is_let_through tickets.now ticket.now }
+/// Closes the wait with this ticket.
+fn drop_ticket(pending: &mut Pending, ticket: &Ticket)
+    ensures { ChangesWaits (without_ended (ticket.now ∷ [])) pending.old pending.new }
 {
-    tickets.iter().any(|other| *other == *ticket)
+    if since_of(pending, ticket).is_some() {
+        pending.remove(&ticket.number());
+    }
 }
 
 /// Closes the waits with these tickets.
-pub(crate) fn drop_ended(pending: &mut Vec<OpenWait>, tickets: &[Ticket])
-    ensures { pending.new.items ≡ without_ended tickets.now pending.old.items }
+pub(crate) fn drop_ended(pending: &mut Pending, tickets: &[Ticket])
+    ensures { ChangesWaits (without_ended tickets.now) pending.old pending.new }
 {
-    pending.retain(|wait| !is_let_through(tickets, &wait.ticket));
+    for ticket in tickets {
+        drop_ticket(pending, ticket);
+    }
 }
 
 /// Opens the wait that the step begins, if it begins one.
-pub(crate) fn begin_wait(pending: &mut Vec<OpenWait>, step: &StepFacts) -> Result<(), AllocError>
-    ensures { OnOk result (pending.new.items ≡ pending.old.items ++ begun_waits step.now.call step.now.reply step.now.index) }
+pub(crate) fn begin_wait(pending: &mut Pending, step: &StepFacts) -> Result<(), AllocError>
+    ensures { OnOk result (BeginsWait step.now pending.old pending.new) }
 {
     if let Call::Visit { ticket, .. } = &step.call
         && is_must_wait(&step.reply)
     {
-        pending.push(OpenWait {
+        let wait = OpenWait {
             ticket: *ticket,
             since: step.index,
-        })?;
+        };
+        pending.insert(ticket.number(), wait)?;
     }
     Ok(())
-}
-
-/// The index of the visit that began the open wait with this ticket.
-fn since_of(pending: &[OpenWait], ticket: &Ticket) -> Option<u64>
-    ensures { result ≡ since_of pending.now ticket.now }
-{
-    pending
-        .iter()
-        .find(|wait| wait.ticket == *ticket)
-        .map(|wait| wait.since)
 }
 
 /// How many steps the longest wait took so far.
@@ -139,28 +144,30 @@ fn note_wait(
 /// Notes the open wait with this ticket, which the step with this index ended.
 fn note_ticket(
     longest: &mut Option<LongestWait>,
-    pending: &[OpenWait],
+    pending: &Pending,
     key: &Key,
     index: u64,
     ticket: &Ticket,
 ) -> Result<(), AllocError>
-    ensures { OnOk result (longest.new ≡ with_ended pending.now key.now index longest.old ticket.now) }
+    ensures { OnOk result ((waits : List OpenWait) → HasWaits pending.now waits →
+        longest.new ≡ with_ended waits key.now index longest.old ticket.now) }
 {
-    match since_of(pending, ticket) {
-        Some(since) => note_wait(longest, key, ticket, since, index),
-        None => Ok(()),
+    if let Some(since) = since_of(pending, ticket) {
+        note_wait(longest, key, ticket, since, index)?;
     }
+    Ok(())
 }
 
 /// Notes the open waits with these tickets, which the step with this index ended.
 pub(crate) fn note_ended(
     longest: &mut Option<LongestWait>,
-    pending: &[OpenWait],
+    pending: &Pending,
     key: &Key,
     index: u64,
     tickets: &[Ticket],
 ) -> Result<(), AllocError>
-    ensures { OnOk result (longest.new ≡ fold (with_ended pending.now key.now index) longest.old tickets.now) }
+    ensures { OnOk result ((waits : List OpenWait) → HasWaits pending.now waits →
+        longest.new ≡ fold (with_ended waits key.now index) longest.old tickets.now) }
 {
     for ticket in tickets {
         note_ticket(longest, pending, key, index, ticket)?;

@@ -1,5 +1,5 @@
 -- What holds of each scan, said of a scan whose steps may be refused with other errors.
-use Rattle.std.proofs.Common.{◌≡◌, ◌≢◌, ℕ, ◌<◌, length, Result, Ok, Err}
+use Rattle.std.proofs.Common.{◌≡◌, ℕ, ◌<◌, length, Result, Ok, Err}
 use Rattle.lt_ids.specs.Ids.{IsNumber}
 use Rattle.lt_words.specs.History.{LetIn}
 use Rattle.lt_shard.specs.declared.answer.StepError.TheVariants.{Memory}
@@ -10,7 +10,7 @@ use Rattle.lt_walk.specs.declared.scan_results.ScanError.TheVariants as refused
 use Rattle.lt_walk.specs.Laws.{IsTooLong}
 use Rattle.std.specs.Result.{IsErr}
 use Rattle.lt_walk.specs.Reported.{GuardState, GuardStays, IsScanPartway, TellsScan, GoesOnOnlyIfLet, current_wait}
-use Rattle.lt_walk.specs.Sound.{IsSoundProgress, IsSoundWalk}
+use Rattle.lt_walk.specs.Sound.{IsSoundWalk}
 use Rattle.lt_walk.proofs.WentOn.{went_on, was_let, scan_stays, waits_inside}
 use Rattle.lt_walk.proofs.Stopping.{too_long, long_inside}
 

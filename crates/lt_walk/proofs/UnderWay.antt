@@ -15,7 +15,6 @@ use Rattle.lt_walk.specs.declared.walk_progress.Progress.{Progress}
 use Rattle.std.specs.Prelude.{Result, Ok, Err, IfOk, OnErr}
 use Rattle.lt_rules.specs.declared.call.Call.{Call}
 use Rattle.lt_shard.specs.declared.answer.Answer.{Answer}
-use Rattle.lt_shard.specs.declared.answer.StepError.{StepError}
 use Rattle.lt_walk.specs.Machine.{after_status, mode_after_status, polled_in, met, met_as, is_wait, is_long, next_visit, next_leave, passed, WalkState}
 use Rattle.lt_walk.specs.Machine as runs
 use Rattle.lt_walk.specs.Reported.{GuardState, Reported, AreReported, current_wait}

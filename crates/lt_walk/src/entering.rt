@@ -4,6 +4,7 @@ ghost use Rattle.std.specs.Prelude.{◌≡◌, ◌≢◌, ◌<◌, ◌≤◌, �
 ghost use Rattle.lt_walk.specs.Keys.{IsKeyList};
 ghost use Rattle.lt_walk.specs.Entered.{IsEntered, IsRefused};
 
+use crate::guard::{Guard, guard_of};
 use crate::keys::{EnterError, key_list};
 use crate::walk::Walk;
 use lt_ids::{Access, Key, Timestamp, TxnId};
@@ -58,25 +59,31 @@ impl EnterRoom {
 }
 
 /// Enters a request with these accesses through the pass: lists its keys, and draws its number last. So none is drawn if
-/// the accesses are refused or an allocation fails.
+/// the accesses are refused or an allocation fails. Its guard keeps the pass until the request leaves.
 #[inline(always)]
 pub fn enter_on(
     book: &Book,
     max_requests: u64,
     alloc: Global,
-    pass: &mut Pass,
+    mut pass: Pass,
     terms: Terms,
     accesses: &[(Key, Access)],
-) -> Result<Walk, EnterError>
-    requires pass { pass.old.of ≡ book.now }
+) -> Result<Guard, EnterRefused>
+    requires pass { pass.of ≡ book.now }
     requires few { max_requests < 2 ^ 40 }
-    ensures entered { IfOk result (λ w. IsEntered pass.old accesses.now terms.txn terms.ts terms.longest max_requests (record { pass = pass.new; walk = w })) }
-    ensures refused { IfErr result (λ e. IsRefused e pass.old accesses.now max_requests pass.new) }
+    ensures entered { IfOk result (λ g. IsEntered pass accesses.now terms.txn terms.ts terms.longest max_requests g) }
+    ensures refused { IfErr result (λ e. IsRefused e.error pass accesses.now max_requests e.pass) }
 {
     let list = pass.take_list(alloc);
-    let EnterRoom { keys, answers } = EnterRoom::new(alloc, list, accesses)?;
-    let Some(number) = book.draw(pass, max_requests) else {
-        return Err(EnterError::NumbersOut);
+    let room = match EnterRoom::new(alloc, list, accesses) {
+        Ok(room) => room,
+        Err(error) => return Err(EnterRefused { pass, error }),
     };
-    Ok(Walk::at_start(keys, answers, number, terms.txn, terms.ts, terms.longest))
+    let Some(number) = book.draw(&mut pass, max_requests) else {
+        let error = EnterError::NumbersOut;
+        return Err(EnterRefused { pass, error });
+    };
+    let EnterRoom { keys, answers } = room;
+    let walk = Walk::at_start(keys, answers, number, terms.txn, terms.ts, terms.longest);
+    Ok(guard_of(pass, walk))
 }

@@ -122,7 +122,7 @@ impl Guard {
 
 /// The guard of a request that does not wait.
 #[inline(always)]
-pub fn guard_of(pass: Pass, walk: Walk) -> Guard
+pub(crate) fn guard_of(pass: Pass, walk: Walk) -> Guard
     requires { walk.progress.mode ≡ Mode.Free }
     ensures { result ≡ record { pass = pass; walk = walk } }
 {

@@ -41,8 +41,8 @@ fn leave_each<S: KeySteps>(table: &S, guard: &mut Guard) -> Result<(), S::Refusa
     ensures err { OnErr result (IsSome (next_leave guard.new.walk.asked guard.new.walk.progress)) }
     ensures refused { IfErr result (λ e. S.may_refuse table.now (Leave guard.old.walk.asked.number) e) }
 {
+    let leave = guard.walk.leave_call();
     while guard.walk.has_leave() {
-        let leave = guard.walk.leave_call();
         let answer = table.step(&mut guard.pass, guard.walk.key(), &leave)?;
         guard.walk.leave_one(answer);
     }

@@ -33,7 +33,7 @@ pub use closing::{
 };
 pub use config::{Config, PrepareError, Ready, ReadyParts, parts_of, prepare, prepare_with};
 pub use entering::{EnterRefused, Terms, enter_on};
-pub use guard::{Guard, guard_of, pass_of};
+pub use guard::{Guard, pass_of};
 pub use inspecting::{KeyStates, inspect_in};
 pub use key_steps::KeySteps;
 pub use keys::EnterError;

@@ -80,6 +80,16 @@ fn open_row(
     })
 }
 
+/// Calls the waker for each let that was noted.
+#[inline(always)]
+fn hand_noted<W: Waker>(pass: &mut Pass, waker: &W)
+    ensures { pass.new ≡ record pass.old { wakes = record pass.old.wakes { lets = [] } } }
+{
+    while let Some(owed) = pass.next_owed() {
+        owed.hand_to(waker);
+    }
+}
+
 impl Book {
     /// Opens a book of 1 to 64 shards and 1 to 1024 passes, whose table keeps every step. All words hold 0, the
     /// history is empty, and the passes have seen nothing and made no step. Opening is the only call of a book that
@@ -485,9 +495,17 @@ impl Book {
         if !pass.rest.sleepers.is_empty() {
             self.wake_sleepers(pass);
         }
-        while let Some(owed) = pass.next_owed() {
-            owed.hand_to(waker);
-        }
+        hand_noted(pass, waker);
+    }
+
+    /// [`Book::wake`] for a table whose callers never sleep: it calls the waker, and wakes nobody. So no code that wakes a
+    /// thread comes with it.
+    #[inline(always)]
+    pub fn hand_out<W: Waker>(&self, pass: &mut Pass, waker: &W)
+        ensures { pass.new ≡ awoken pass.old }
+    {
+        pass.forget_sleepers();
+        hand_noted(pass, waker);
     }
 
     /// Wakes the sleeping callers alone.

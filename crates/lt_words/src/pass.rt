@@ -215,6 +215,16 @@ impl Pass {
         }
     }
 
+    /// Forgets the callers that were noted as asleep.
+    #[inline(always)]
+    pub(crate) fn forget_sleepers(&mut self)
+        ensures { self.new ≡ record self.old { wakes = record self.old.wakes { sleepers = 0 } } }
+    {
+        if !self.rest.sleepers.is_empty() {
+            self.rest.sleepers = Sleepers::none();
+        }
+    }
+
     /// Takes a let out that was noted for the waker.
     pub(crate) fn next_owed(&mut self) -> Option<OwedLet>
         ensures some { IfSome result (λ o. self.old.wakes.lets ≡ self.new.wakes.lets ++ o ∷ []) }

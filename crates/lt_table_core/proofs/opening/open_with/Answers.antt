@@ -1,4 +1,4 @@
-use Rattle.std.proofs.Common.{◌≡◌, ◌∙◌, ◌≤◌, ◌^◌, subst, sym}
+use Rattle.std.proofs.Common.{◌∙◌, ◌≤◌, ◌^◌, subst, sym}
 use Rattle.lt_words.specs.Row.{Opening}
 use Rattle.lt_walk.specs.declared.config.Config.{Config}
 use Rattle.lt_walk.specs.Configs.{IsOpened}

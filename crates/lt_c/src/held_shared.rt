@@ -1,0 +1,119 @@
+//! What does a handle of a shared table hold? The table with the passes that it has still to give out, a pass, or the guard
+//! of a request, which has its pass. The table is freed with the last handle that knows it.
+ghost use Rattle.std.specs.Prelude.{◌≡◌, All};
+ghost use Rattle.std.specs.Arc.{arc_value};
+ghost use Rattle.lt_words.specs.declared.keeping.Keeping.TheVariants.{Unrecorded};
+
+use crate::codes::{CLOSED, DONE};
+use crate::content::Content;
+use crate::shared_codes::{enter_code, try_code};
+use lt_ids::{Access, Key, Timestamp, TxnId};
+use lt_lock::LinkedTable;
+use lt_try::{
+    EnterRefused, Guard, LeaveStopped, Left, LetNotes, LinkedTables, Pass, TryTable, abandon_all,
+};
+use std::alloc::Global;
+use std::sync::Arc;
+
+/// A table that threads share. It stores no step, and notes whom its steps let through.
+pub type SharedTable = TryTable<LinkedTable, LinkedTables, LetNotes>;
+
+/// A table, and the passes that no handle has yet.
+pub struct HeldShared {
+    pub table: Arc<SharedTable>,
+    pub passes: Vec<Pass>,
+    pub ghost named: { All (λ p. p.of ≡ (arc_value table).of) passes.items },
+    pub ghost stores_none: { (arc_value table).of.keeping ≡ Unrecorded },
+}
+
+impl Drop for HeldShared {
+    fn drop(self) {
+        let HeldShared { table, passes } = self;
+        abandon_all(passes);
+        drop(table);
+    }
+}
+
+/// A pass of a table, and the accesses that its next request asks for.
+pub struct HeldPass {
+    pub table: Arc<SharedTable>,
+    pub pass: Pass,
+    pub wants: Vec<(Key, Access)>,
+    pub ghost of: { pass.of ≡ (arc_value table).of },
+    pub ghost stores_none: { (arc_value table).of.keeping ≡ Unrecorded },
+}
+
+impl Drop for HeldPass {
+    fn drop(self) {
+        let HeldPass { table, pass, wants } = self;
+        pass.abandon();
+        drop(wants);
+        drop(table);
+    }
+}
+
+/// The guard of a request.
+pub struct HeldGuard {
+    pub table: Arc<SharedTable>,
+    pub guard: Guard,
+    pub ghost of: { guard.pass.of ≡ (arc_value table).of },
+    pub ghost stores_none: { (arc_value table).of.keeping ≡ Unrecorded },
+}
+
+impl Drop for HeldGuard {
+    fn drop(self) {
+        let HeldGuard { table, guard } = self;
+        guard.abandon();
+        drop(table);
+    }
+}
+
+impl HeldPass {
+    ghost use Rattle.std.specs.Prelude.{◌≢◌, Some};
+    ghost use Rattle.lt_c.specs.Shared.{Enters};
+
+    /// Enters the request that the pass's accesses ask for.
+    pub fn enter(
+        self,
+        alloc: Global,
+        txn: Option<TxnId>,
+        ts: Timestamp,
+        longest: u32,
+    ) -> (Content, u32)
+        ensures entered { Enters txn ts longest result.1 (Some (Content.Pass self)) (Some result.0) }
+        ensures opened { result.1 ≢ CLOSED }
+    {
+        let HeldPass { table, pass, wants } = self;
+        match table.enter(alloc, pass, txn, ts, wants.as_slice(), longest) {
+            Ok(guard) => (Content::Guard(HeldGuard { table, guard }), DONE),
+            Err(EnterRefused { pass, error }) => (
+                Content::Pass(HeldPass { table, pass, wants }),
+                enter_code(error),
+            ),
+        }
+    }
+}
+
+impl HeldGuard {
+    ghost use Rattle.std.specs.Prelude.{◌≢◌, Some};
+    ghost use Rattle.lt_c.specs.Shared.{LeaveTells};
+
+    /// The request leaves.
+    pub fn leave(self, alloc: Global) -> (Content, u32)
+        ensures left { LeaveTells result.1 (Some (Content.Guard self)) (Some result.0) }
+        ensures opened { result.1 ≢ CLOSED }
+    {
+        let HeldGuard { table, guard } = self;
+        match table.leave(guard) {
+            Ok(Left { pass, answers }) => {
+                drop(answers);
+                let wants = Vec::new(alloc);
+                (Content::Pass(HeldPass { table, pass, wants }), DONE)
+            }
+            Err(LeaveStopped { guard, error }) => (
+                Content::Guard(HeldGuard { table, guard }),
+                try_code(error),
+            ),
+        }
+    }
+}

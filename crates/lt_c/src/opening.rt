@@ -1,0 +1,174 @@
+//! How does C open a table that threads share, and give each of them a pass?
+ghost use Rattle.std.specs.Prelude.{◌≡◌, ◌≢◌, true, false, Some, None, IsSome, IsNone, IfOk};
+ghost use Rattle.lt_c.specs.Shared.{IsNewShared, IsOpenedAs, GivesPass, GivesPassFrom, OnShared, OnPass, config_of, open_refusal, none_left, give_refusal, is_of_shared};
+ghost use Rattle.lt_c.specs.Content.{shared_in, pass_in};
+ghost use Rattle.lt_c.specs.Codes.{IsDoneUnless};
+
+use crate::codes::{CLOSED, DONE, MEMORY, OPEN_ALREADY};
+use crate::content::Content;
+use crate::handle::Handle;
+use crate::held_shared::{HeldPass, HeldShared};
+use crate::shapes::LtConfig;
+use crate::shared_codes::{NO_PASS, prepare_code};
+use lt_ids::MAX_STEPS;
+use lt_try::{Config, Keeping, LinkedTables, Ready, TryTable, abandon_all, prepare_with};
+use std::alloc::{AllocError, Global};
+use std::sync::Arc;
+
+/// The numbers with which C opens a table. It stores no step, so it asks for no bound on them.
+fn config_of(config: &LtConfig) -> Config
+    ensures { result ≡ config_of config.now }
+{
+    Config {
+        shards: config.shards,
+        passes: config.passes,
+        max_steps: MAX_STEPS,
+        max_requests: config.max_requests,
+        max_waits: config.max_waits,
+    }
+}
+
+/// The table that was made ready, with all of its passes.
+fn opened(alloc: Global, ready: Ready, start: u64) -> Result<HeldShared, AllocError>
+    requires { ready.of.keeping ≡ Keeping.Unrecorded }
+    ensures { IfOk result (λ held. IsNewShared ready.config ready.of held) }
+{
+    let tables = LinkedTables { alloc, start };
+    let (table, passes) = TryTable::open_telling(alloc, ready, tables)?;
+    match Arc::new(alloc, table) {
+        Ok(table) => Ok(HeldShared { table, passes }),
+        Err(_) => {
+            abandon_all(passes);
+            Err(AllocError)
+        }
+    }
+}
+
+/// Opens a table that threads share, and that stores no step. Its keys are hashed from this start: draw it, for each table,
+/// where nobody can guess it.
+#[unsafe(no_mangle)]
+pub extern "C" fn lt_shared_open(
+    alloc: Global,
+    handle: &mut Handle,
+    config: &LtConfig,
+    start: u64,
+) -> u32
+    ensures open_already { IsSome handle.old.slot.held → result ≡ OPEN_ALREADY }
+    ensures refused { IsNone handle.old.slot.held → IsDoneUnless (open_refusal config.now) result }
+    ensures opened { result ≡ DONE → OnShared (IsOpenedAs config.now) (shared_in handle.new.slot.held) }
+    ensures kept { result ≢ DONE → handle.new.slot.held ≡ handle.old.slot.held }
+{
+    if handle.is_open() {
+        return OPEN_ALREADY;
+    }
+    let ready = match prepare_with(alloc, config_of(config), Keeping::Unrecorded) {
+        Ok(ready) => ready,
+        Err(error) => return prepare_code(error),
+    };
+    let Ok(held) = opened(alloc, ready, start) else {
+        return MEMORY;
+    };
+    let Ok(content) = Box::new(alloc, Content::Shared(held)) else {
+        return MEMORY;
+    };
+    handle.put(content);
+    DONE
+}
+
+/// Gives the next pass out, through a closed handle.
+fn next_pass(alloc: Global, held: &mut HeldShared, out: &mut Handle) -> u32
+    ensures given { result ≡ DONE → OnPass (GivesPass held.old held.new) (pass_in out.new.slot.held) }
+    ensures refused { IsDoneUnless (none_left held.old) result }
+    ensures kept { result ≢ DONE → (held.new ≡ held.old) × (out.new.slot.held ≡ out.old.slot.held) }
+{
+    if held.passes.is_empty() {
+        return NO_PASS;
+    }
+    let Ok(mut given) = Box::new(alloc, Content::Nothing) else {
+        return MEMORY;
+    };
+    let Ok(table) = Arc::try_clone(&held.table) else {
+        return MEMORY;
+    };
+    let pass = held.passes.pop().unwrap();
+    let wants = Vec::new(alloc);
+    *given = Content::Pass(HeldPass { table, pass, wants });
+    out.put(given);
+    DONE
+}
+
+/// The same, if the content is a shared table.
+fn pass_from(alloc: Global, content: &mut Content, out: &mut Handle) -> u32
+    ensures given { result ≡ DONE → GivesPassFrom (Some content.old) (Some content.new) out.new.slot.held }
+    ensures refused { IsDoneUnless (give_refusal (Some content.old)) result }
+    ensures kept { result ≢ DONE → (content.new ≡ content.old) × (out.new.slot.held ≡ out.old.slot.held) }
+{
+    match content {
+        Content::Shared(held) => next_pass(alloc, held, out),
+        _ => CLOSED,
+    }
+}
+
+/// Gives the table's next pass out, to a handle of its own.
+#[unsafe(no_mangle)]
+pub extern "C" fn lt_shared_pass(alloc: Global, handle: &mut Handle, out: &mut Handle) -> u32
+    ensures open_already { IsSome out.old.slot.held → result ≡ OPEN_ALREADY }
+    ensures refused { IsNone out.old.slot.held → IsDoneUnless (give_refusal handle.old.slot.held) result }
+    ensures given { result ≡ DONE → GivesPassFrom handle.old.slot.held handle.new.slot.held out.new.slot.held }
+    ensures kept { result ≢ DONE → (handle.new.slot.held ≡ handle.old.slot.held) × (out.new.slot.held ≡ out.old.slot.held) }
+{
+    if out.is_open() {
+        return OPEN_ALREADY;
+    }
+    let Some(mut content) = handle.take(alloc) else {
+        return CLOSED;
+    };
+    let code = pass_from(alloc, &mut content, out);
+    handle.put(content);
+    code
+}
+
+/// Whether the content is what a caller has of a shared table.
+fn is_shared(content: &Content) -> bool
+    ensures { result ≡ is_of_shared (Some content.now) }
+{
+    match content {
+        Content::Shared(_) | Content::Pass(_) | Content::Guard(_) => true,
+        Content::Table(_) | Content::Check(_) | Content::Nothing => false,
+    }
+}
+
+/// Drops what a caller has of a shared table.
+fn close(alloc: Global, handle: &mut Handle) -> u32
+    ensures done { is_of_shared handle.old.slot.held ≡ true → (result ≡ DONE) × (handle.new.slot.held ≡ None) }
+    ensures closed { is_of_shared handle.old.slot.held ≡ false → (result ≡ CLOSED) × (handle.new.slot.held ≡ handle.old.slot.held) }
+{
+    let Some(content) = handle.take(alloc) else {
+        return CLOSED;
+    };
+    if !is_shared(&content) {
+        handle.put(content);
+        return CLOSED;
+    }
+    drop(content);
+    DONE
+}
+
+/// Closes the handle of a shared table. The table is freed with the last of its handles.
+#[unsafe(no_mangle)]
+pub extern "C" fn lt_shared_close(alloc: Global, handle: &mut Handle) -> u32
+    ensures done { is_of_shared handle.old.slot.held ≡ true → (result ≡ DONE) × (handle.new.slot.held ≡ None) }
+    ensures closed { is_of_shared handle.old.slot.held ≡ false → (result ≡ CLOSED) × (handle.new.slot.held ≡ handle.old.slot.held) }
+{
+    close(alloc, handle)
+}
+
+/// Closes the handle of a pass or of a request. A request that has not left stays queued at its keys for ever, so it leaves
+/// first.
+#[unsafe(no_mangle)]
+pub extern "C" fn lt_pass_close(alloc: Global, handle: &mut Handle) -> u32
+    ensures done { is_of_shared handle.old.slot.held ≡ true → (result ≡ DONE) × (handle.new.slot.held ≡ None) }
+    ensures closed { is_of_shared handle.old.slot.held ≡ false → (result ≡ CLOSED) × (handle.new.slot.held ≡ handle.old.slot.held) }
+{
+    close(alloc, handle)
+}

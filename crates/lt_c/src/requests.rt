@@ -1,0 +1,237 @@
+//! How does C make a request of a shared table? Its pass names the keys, enters, scans, polls and leaves, all through one
+//! handle: `lt_pass_enter` makes a request of the pass, and `lt_pass_leave` gives the pass back.
+ghost use Rattle.std.specs.Prelude.{◌≡◌, ◌≢◌, ◌∷◌, ◌++◌, [], Some, None, IsSome, IsNone};
+ghost use Rattle.std.specs.Arc.{arc_value};
+ghost use Rattle.lt_c.specs.Calls.{optional_txn};
+ghost use Rattle.lt_c.specs.Content.{pass_in, guard_in};
+ghost use Rattle.lt_c.specs.Looks.{bytes_refusal};
+ghost use Rattle.lt_c.specs.Codes.{IsDoneUnless};
+ghost use Rattle.lt_c.specs.Shared.{WantsMore, KeepsWants, KeepsHandle, OnPasses, OnGuards, Enters, ScanTells, PollTells, LeaveTells, SeesLegal, asked_access};
+
+use crate::codes::{CLOSED, DONE, MEMORY, key_code};
+use crate::content::Content;
+use crate::handle::Handle;
+use crate::held_shared::{HeldGuard, HeldPass};
+use crate::shapes::LtTerms;
+use crate::shared_codes::{poll_code, scan_code, scan_index};
+use lt_ids::{Access, Key, Timestamp, TxnId};
+use std::alloc::Global;
+use std::mem;
+
+/// The access of a request that writes, or only reads.
+fn asked_access(writes: bool) -> Access
+    ensures { result ≡ asked_access writes }
+{
+    if writes { Access::Write } else { Access::Read }
+}
+
+/// Adds an access to those that the pass's next request asks for.
+fn want(alloc: Global, held: &mut HeldPass, key: &[u8], writes: bool) -> u32
+    ensures refused { IsDoneUnless (bytes_refusal key.now) result }
+    ensures wanted { result ≡ DONE → WantsMore key.now writes held.old held.new }
+    ensures kept { result ≢ DONE → KeepsWants held.old held.new }
+    ensures opened { result ≢ CLOSED }
+{
+    let key = match Key::from_bytes(alloc, key) {
+        Ok(key) => key,
+        Err(error) => return key_code(&error),
+    };
+    let Ok(()) = held.wants.reserve(1) else {
+        return MEMORY;
+    };
+    held.wants.push_reserved((key, asked_access(writes)));
+    DONE
+}
+
+/// The same, if the content is a pass.
+fn want_at(content: &mut Content, alloc: Global, key: &[u8], writes: bool) -> u32
+    ensures closed { IsNone (pass_in (Some content.old)) → result ≡ CLOSED }
+    ensures refused { IsSome (pass_in (Some content.old)) → IsDoneUnless (bytes_refusal key.now) result }
+    ensures wanted { result ≡ DONE → OnPasses (WantsMore key.now writes) (pass_in (Some content.old)) (pass_in (Some content.new)) }
+    ensures kept { result ≢ DONE → KeepsHandle (Some content.old) (Some content.new) }
+{
+    match content {
+        Content::Pass(held) => want(alloc, held, key, writes),
+        _ => CLOSED,
+    }
+}
+
+/// Adds a key to those that the pass's next request asks for.
+#[unsafe(no_mangle)]
+pub extern "C" fn lt_pass_want(alloc: Global, handle: &mut Handle, key: &[u8], writes: bool) -> u32
+    ensures closed { IsNone (pass_in handle.old.slot.held) → result ≡ CLOSED }
+    ensures refused { IsSome (pass_in handle.old.slot.held) → IsDoneUnless (bytes_refusal key.now) result }
+    ensures wanted { result ≡ DONE → OnPasses (WantsMore key.now writes) (pass_in handle.old.slot.held) (pass_in handle.new.slot.held) }
+    ensures kept { result ≢ DONE → KeepsHandle handle.old.slot.held handle.new.slot.held }
+{
+    let Some(mut content) = handle.take(alloc) else {
+        return CLOSED;
+    };
+    let code = want_at(&mut content, alloc, key, writes);
+    handle.put(content);
+    code
+}
+
+impl Content {
+    ghost use Rattle.std.specs.Prelude.{Some};
+    ghost use Rattle.lt_c.specs.Shared.{SeesLegal};
+
+    /// Ghost call: tells the prover that what the pass has seen is legal.
+    pub(crate) fn legal(&self)
+        ensures { SeesLegal (Some self.now) }
+    {
+        match self {
+            Content::Pass(held) => held.pass.legal(),
+            Content::Guard(held) => held.guard.legal(),
+            _ => {}
+        }
+    }
+}
+
+/// Enters the request, if the content is a pass.
+fn enter(
+    content: Content,
+    alloc: Global,
+    txn: Option<TxnId>,
+    ts: Timestamp,
+    longest: u32,
+) -> (Content, u32)
+    ensures entered { result.1 ≢ CLOSED → Enters txn ts longest result.1 (Some content) (Some result.0) }
+    ensures kept { result.1 ≡ CLOSED → result.0 ≡ content }
+    ensures opened { IsSome (pass_in (Some content)) → result.1 ≢ CLOSED }
+{
+    match content {
+        Content::Pass(held) => held.enter(alloc, txn, ts, longest),
+        content => (content, CLOSED),
+    }
+}
+
+/// The pass's request enters with the keys that were named. The handle then holds the request.
+#[unsafe(no_mangle)]
+pub extern "C" fn lt_pass_enter(alloc: Global, handle: &mut Handle, terms: &LtTerms) -> u32
+    ensures entered { result ≢ CLOSED →
+        Enters (optional_txn terms.now.txn) (record { wall = terms.now.wall; logical = terms.now.logical }) terms.now.longest
+        result handle.old.slot.held handle.new.slot.held }
+    ensures kept { result ≡ CLOSED → handle.new.slot.held ≡ handle.old.slot.held }
+    ensures opened { IsSome (pass_in handle.old.slot.held) → result ≢ CLOSED }
+    ensures legal { SeesLegal handle.new.slot.held }
+{
+    let Some(mut content) = handle.take(alloc) else {
+        return CLOSED;
+    };
+    let ts = Timestamp {
+        wall: terms.wall,
+        logical: terms.logical,
+    };
+    let before = mem::replace(&mut *content, Content::Nothing);
+    let (after, code) = enter(before, alloc, TxnId::new(terms.txn), ts, terms.longest);
+    *content = after;
+    content.legal();
+    handle.put(content);
+    code
+}
+
+fn scan(held: &mut HeldGuard, index: &mut usize) -> u32
+    ensures opened { result ≢ CLOSED }
+    ensures tells { ScanTells result index.new held.old held.new }
+{
+    let found = held.table.scan(&mut held.guard);
+    *index = scan_index(&found);
+    scan_code(&found)
+}
+
+/// The same, if the content is a request.
+fn scan_at(content: &mut Content, index: &mut usize) -> u32
+    ensures scanned { result ≢ CLOSED → OnGuards (ScanTells result index.new) (guard_in (Some content.old)) (guard_in (Some content.new)) }
+    ensures kept { result ≡ CLOSED → content.new ≡ content.old }
+    ensures opened { IsSome (guard_in (Some content.old)) → result ≢ CLOSED }
+{
+    match content {
+        Content::Guard(held) => scan(held, index),
+        _ => CLOSED,
+    }
+}
+
+/// Visits the request's keys in order. `index` is set to the index of the key at which the scan ended, or to 0.
+#[unsafe(no_mangle)]
+pub extern "C" fn lt_pass_scan(alloc: Global, handle: &mut Handle, index: &mut usize) -> u32
+    ensures scanned { result ≢ CLOSED → OnGuards (ScanTells result index.new) (guard_in handle.old.slot.held) (guard_in handle.new.slot.held) }
+    ensures kept { result ≡ CLOSED → handle.new.slot.held ≡ handle.old.slot.held }
+    ensures opened { IsSome (guard_in handle.old.slot.held) → result ≢ CLOSED }
+    ensures legal { SeesLegal handle.new.slot.held }
+{
+    let Some(mut content) = handle.take(alloc) else {
+        return CLOSED;
+    };
+    let code = scan_at(&mut content, index);
+    content.legal();
+    handle.put(content);
+    code
+}
+
+fn poll(held: &mut HeldGuard) -> u32
+    ensures opened { result ≢ CLOSED }
+    ensures tells { PollTells result held.old held.new }
+{
+    poll_code(held.table.poll(&mut held.guard))
+}
+
+/// The same, if the content is a request.
+fn poll_at(content: &mut Content) -> u32
+    ensures polled { result ≢ CLOSED → OnGuards (PollTells result) (guard_in (Some content.old)) (guard_in (Some content.new)) }
+    ensures kept { result ≡ CLOSED → content.new ≡ content.old }
+    ensures opened { IsSome (guard_in (Some content.old)) → result ≢ CLOSED }
+{
+    match content {
+        Content::Guard(held) => poll(held),
+        _ => CLOSED,
+    }
+}
+
+/// Whether the request was let through. Enters no shard.
+#[unsafe(no_mangle)]
+pub extern "C" fn lt_pass_poll(alloc: Global, handle: &mut Handle) -> u32
+    ensures polled { result ≢ CLOSED → OnGuards (PollTells result) (guard_in handle.old.slot.held) (guard_in handle.new.slot.held) }
+    ensures kept { result ≡ CLOSED → handle.new.slot.held ≡ handle.old.slot.held }
+    ensures opened { IsSome (guard_in handle.old.slot.held) → result ≢ CLOSED }
+    ensures legal { SeesLegal handle.new.slot.held }
+{
+    let Some(mut content) = handle.take(alloc) else {
+        return CLOSED;
+    };
+    let code = poll_at(&mut content);
+    content.legal();
+    handle.put(content);
+    code
+}
+
+/// The request leaves, if the content is one.
+fn leave(content: Content, alloc: Global) -> (Content, u32)
+    ensures left { result.1 ≢ CLOSED → LeaveTells result.1 (Some content) (Some result.0) }
+    ensures kept { result.1 ≡ CLOSED → result.0 ≡ content }
+    ensures opened { IsSome (guard_in (Some content)) → result.1 ≢ CLOSED }
+{
+    match content {
+        Content::Guard(held) => held.leave(alloc),
+        content => (content, CLOSED),
+    }
+}
+
+/// The request leaves. The handle then holds its pass again. After `BUSY` the same call goes on from where it was.
+#[unsafe(no_mangle)]
+pub extern "C" fn lt_pass_leave(alloc: Global, handle: &mut Handle) -> u32
+    ensures left { result ≢ CLOSED → LeaveTells result handle.old.slot.held handle.new.slot.held }
+    ensures kept { result ≡ CLOSED → handle.new.slot.held ≡ handle.old.slot.held }
+    ensures opened { IsSome (guard_in handle.old.slot.held) → result ≢ CLOSED }
+    ensures legal { SeesLegal handle.new.slot.held }
+{
+    let Some(mut content) = handle.take(alloc) else {
+        return CLOSED;
+    };
+    let before = mem::replace(&mut *content, Content::Nothing);
+    let (after, code) = leave(before, alloc);
+    *content = after;
+    content.legal();
+    handle.put(content);
+    code
+}

@@ -1,0 +1,8 @@
+use Rattle.std.proofs.Common.{◌≡◌, map, vec_capacity}
+use Rattle.lt_words.specs.Row.{SeesMore}
+use Rattle.lt_walk.specs.Closed.{AreEnded}
+use Rattle.lt_try.proofs.closing.end_shards.Given as goal
+
+abbrev pub invariant-loop-room : goal.invariant-loop-room
+invariant-loop-room g l =
+    SeesMore l.initial.last l.last × AreEnded l.book l.initial.last l.last (map (λ r. r.shard.value) l.yielded) l.rests.items × (vec_capacity l.rests ≡ vec_capacity l.initial.rests)
