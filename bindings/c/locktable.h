@@ -52,10 +52,11 @@
  *
  * CODES. A call answers one code. From LT_FIRST_REPLY on it is a reply of the rules, and the call took effect. Below
  * that it is LT_DONE or a refusal. A call that is refused changes nothing: the table, the lets that are left, and what
- * the caller's pointers point to are as they were. (lt_check and lt_check_end fill their report also for a text that they
- * refuse. A check in pieces is over once it has answered a fault or LT_MEMORY, and then answers the same again. From LT_PROCEED
- * on a code is that of a scan, a poll or a let of a shared table; a scan and a leave of several keys may be refused between two
- * of them, and the functions say what then stands.)
+ * the caller's pointers point to are as they were. (Of a shared table this is proved of the handle and what the pointers point
+ * to: no clause speaks of the shards. After LT_LOST one of them would be empty. lt_check and lt_check_end fill their report
+ * also for a text that they refuse. A check in pieces is over once it has answered a fault or LT_MEMORY, and then answers the
+ * same again. From LT_PROCEED on a code is that of a scan, a poll or a let of a shared table; a scan and a leave of several keys
+ * may be refused between two of them, and the functions say what then stands.)
  * If a call has several reasons to refuse, it answers the first in the order that stands at the call. After LT_MEMORY
  * the caller may make the same call again.
  *
@@ -399,9 +400,9 @@ uint32_t lt_check_begin(struct lt_text_check *check);
 
 /*
  * Checks the next piece of the text. Answers LT_DONE if no fault was found so far. Once there is a fault, it answers this
- * fault, and every later piece is answered so too: whatever comes after does not change it. The fault of a line is found
- * at the latest with the piece that ends the line: no contract says that, a test does. If an allocation fails, the check is over:
- * it answers LT_MEMORY from then on.
+ * fault, and every later piece is answered so too, or LT_MEMORY: whatever comes after does not change it. The fault of a line
+ * is found at the latest with the piece that ends the line: no contract says that, a test does. If an allocation fails, the
+ * check is over: it answers LT_MEMORY from then on.
  *
  * Refuses: LT_CLOSED.
  */
@@ -409,7 +410,8 @@ uint32_t lt_check_piece(struct lt_text_check *check, const uint8_t *piece, size_
 
 /*
  * Ends the check, which is then closed, and says of the whole text what lt_check says: the same code and the same report.
- * After LT_MEMORY the report is as it was. Texts of 2^64 bytes are not spoken of.
+ * After LT_MEMORY the report is as it was. Texts of 2^64 - 8 bytes or more are not
+ * spoken of.
  *
  * Refuses: LT_CLOSED.
  */
@@ -458,8 +460,8 @@ uint32_t lt_check_end(struct lt_text_check *check, struct lt_report *report);
  *      those queued after it wait until it does.
  *   4. Register before the table is left. Whoever sleeps announces it before the scan or the poll that may answer LT_WAITING:
  *      what a waker writes after that scan or poll must keep the sleeper awake.
- *   5. Wake after the call. After each acquire, update, finish and leave, also one that answers LT_BUSY, ask lt_pass_let until it
- *      answers LT_NO_LET, and wake the callers of the passes that the lets name. Whoever is woken polls.
+ *   5. Wake after the call. After each acquire, update, finish and leave, also one that answers LT_BUSY, ask lt_pass_let of the
+ *      same handle until it answers LT_NO_LET, and wake the callers of the passes that the lets name. Whoever is woken polls.
  *   6. Whoever scans again first frees the locks that he holds, or the program finds deadlocks: a holder that waits for a
  *      reservation, whose owner waits for the held lock, waits for ever.
  *
@@ -495,13 +497,15 @@ struct lt_terms {
 };
 
 /*
- * Opens a table that stores no step. Draw `start` as for lt_table_open.
+ * Opens a table that stores no step. Draw `start` as for lt_table_open. It takes 16 bytes for each pair of passes, for their
+ * lets: 16 MiB for 1,024 passes.
  *
  * Answers LT_DONE, or refuses, in this order: LT_OPEN_ALREADY, LT_BAD_SHARDS, LT_BAD_PASSES, LT_BAD_REQUESTS, LT_BAD_WAITS,
  * LT_MEMORY. A refused call leaves the handle closed.
  *
  * Proved: it refuses so and in this order (`open_already`, `refused`); once it is done, the table has these numbers, stores no
- * step, and has all of its passes, of which nobody has used any (`opened`); a refused call has not changed the handle (`kept`).
+ * step, and has all of its passes, of which nobody has used any and each keeps the lets of its steps (`opened`); a refused call
+ * has not changed the handle (`kept`).
  */
 uint32_t lt_shared_open(struct lt_shared *table, const struct lt_config *config, uint64_t start);
 
@@ -546,7 +550,8 @@ uint32_t lt_pass_want(struct lt_pass *pass, const uint8_t *key, size_t key_len, 
  * The request with these keys enters. The handle is then the request's, until it has left. The call enters no shard.
  *
  * Answers LT_DONE, or refuses, in this order: LT_CLOSED (also while a request has the pass), LT_NO_KEYS, LT_TOO_MANY_KEYS; and
- * then LT_MEMORY or LT_NUMBERS_OUT. After a refusal no number was drawn, and the pass still names its keys.
+ * then LT_MEMORY or LT_NUMBERS_OUT. After a refusal the pass still names its keys, and no number was
+ * drawn for it. (Proved is less: that the pass has made no step and is as it was, but after LT_NUMBERS_OUT it may have seen more.)
  *
  * Proved: the handle of a pass is not refused as closed (`opened`); a request that entered has the keys that were named, each
  * once and in order, these terms, and a number of at most `max_requests` that its pass has just drawn, and one that did not enter
@@ -558,7 +563,8 @@ uint32_t lt_pass_enter(struct lt_pass *pass, const struct lt_terms *terms);
 /*
  * Visits the request's keys in order, from where the last scan ended. Sets `index` to the index of the key at which it waits
  * or at which the queue is too long, in the order of the request's keys (written ones first, each kind in byte order), and
- * otherwise to 0. A call that is refused as closed leaves `index` as it is.
+ * otherwise to 0. A call that is refused as closed leaves `index` as it is
+ * (`out_kept`).
  *
  * Answers LT_PROCEED, LT_RESCAN, LT_WAITING, LT_QUEUE_TOO_LONG, or refuses. Before any visit: LT_CLOSED, LT_LEAVING,
  * LT_STILL_WAITING. Before the next visit, while those that it has made stand: LT_WAITS_OUT, LT_BUSY, LT_MEMORY. After LT_BUSY
@@ -610,28 +616,30 @@ uint32_t lt_pass_look(struct lt_pass *pass, size_t index, uint64_t *txn);
  * The steps of a transaction, as those of the table of one thread, through a pass or through a request, which stays as it is.
  *
  * Answer the replies of lt_table_acquire, lt_table_update and lt_table_finish, or refuse, in this order: LT_BAD_TXN, LT_CLOSED,
- * LT_BAD_KEY_EMPTY, LT_BAD_KEY_LONG, LT_BAD_KEY_BYTE; and then LT_BUSY or LT_MEMORY. A refused call has made no step.
+ * LT_BAD_KEY_EMPTY, LT_BAD_KEY_LONG, LT_BAD_KEY_BYTE; and then LT_BUSY or LT_MEMORY. A refused call has made no step
+ * (the handle is as it was, and that is proved).
  * With a key of at most 22 bytes an update and a finish are never refused for memory.
  *
- * Proved: they refuse so and in this order (`refused`), and update and finish not for memory (`gives_up`); a step that is
- * answered was made at this key and is reported with the reply of the code, and the request stays as it is (`made`); a refused
- * call has not changed the handle (`kept`); what the pass has seen is legal (`legal`).
+ * Proved: they refuse so and in this order (`refused`), and update and finish with such a key not for memory (`gives_up`); a
+ * step that is answered was made at this key and is reported with the reply of the code, and the request stays as it is
+ * (`made`); a refused call has not changed the handle (`kept`); what the pass has seen is legal (`legal`).
  */
 uint32_t lt_pass_acquire(struct lt_pass *pass, const uint8_t *key, size_t key_len, const struct lt_txn *by);
 uint32_t lt_pass_update(struct lt_pass *pass, const uint8_t *key, size_t key_len, const struct lt_txn *by);
 uint32_t lt_pass_finish(struct lt_pass *pass, const uint8_t *key, size_t key_len, uint64_t txn);
 
 /*
- * Takes out a let of the table of which nobody was told yet: the number and the wait of the request that was let through, and the
- * number of its pass. Any pass or request of the table may ask, and may get a let of another caller's step: rule 5 says when to
- * ask, and whom to wake. Of two lets of one pass that nobody was told of, one is told. The call enters no shard and allocates
- * nothing.
+ * Takes out a let that a call of this pass or its request has made, and that it was not told yet: the number and the wait of the
+ * request that was let through, and the number of its pass, the lowest of those that are left. Rule 5 says when to ask, and whom
+ * to wake. If a pass was let through twice before you asked, you are told its latest let. Lets that are left when the handle is
+ * closed are told to nobody. The call enters no shard and allocates nothing.
  *
  * Answers LT_DONE, or LT_NO_LET if none is left, or refuses: LT_CLOSED.
  *
- * Proved: the handle of a pass or a request is not refused as closed, and any other is (`opened`, `closed`); the call has not
- * changed the handle (`same`), and has not written `through` unless it is done (`kept`). That each let is told to somebody is not
- * proved; crates/lt_try/src/letting.rt has the reason.
+ * Proved: the handle of a pass or a request is not refused as closed, and any other is (`opened`, `closed`); what is told is a let
+ * that was left, which is then left no more, and LT_NO_LET is answered only if none was (`tells`); unless it is done, the call has
+ * changed neither the handle nor `through` (`kept`). Each let of a reported step is left to be told: of each pass the latest one
+ * (the law `lets_are_left`). So whoever asks until LT_NO_LET forgets nobody.
  */
 uint32_t lt_pass_let(struct lt_pass *pass, struct lt_through *through);
 

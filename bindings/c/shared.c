@@ -442,7 +442,7 @@ static void life(void) {
     IS_FREE(LT_NOTHING, lt_pass_look(&b, 1, &txn));
     WANT(txn == 0);
     IS(LT_FREED, lt_pass_finish(&a, KEY(LONG), 1));
-    IS_LET(&c, 2, 1, &b);
+    IS_LET(&a, 2, 1, &b);
     IS_FREE(LT_LET_THROUGH, lt_pass_poll(&b));
     IS_FREE(LT_LET_THROUGH, lt_pass_poll(&b));
     IS(LT_WAITING, lt_pass_scan(&b, &index));
@@ -493,7 +493,7 @@ static void lets(void) {
     size_t index;
     at = "lets";
 
-    /* One step lets two readers and the first writer through. Each is told once, and by whichever pass asks. */
+    /* One step lets two readers and the first writer through. Each is told once, and only to the pass that made the step. */
     set_up(PASS);
     become(PASS, &given);
     enter_at(&mine.pass, "h", false, 1, LT_WAITING);
@@ -502,14 +502,15 @@ static void lets(void) {
     WANT(lt_pass_let(&third, &let) == LT_NO_LET && let.number == 0);
     WANT(lt_pass_finish(&other, KEY("h"), 9) == LT_FREED);
     bool told[4] = {false};
+    WANT(lt_pass_let(&mine.pass, &let) == LT_NO_LET && lt_pass_let(&third, &let) == LT_NO_LET && let.number == 0);
     for (int i = 0; i < 3; i++) {
-        WANT(lt_pass_let(i == 1 ? &third : &other, &let) == LT_DONE && let.wait == 1);
+        WANT(lt_pass_let(&other, &let) == LT_DONE && let.wait == 1);
         WANT(1 <= let.number && let.number <= 3 && !told[let.number]);
         struct lt_pass *of = let.number == 1 ? &mine.pass : let.number == 2 ? &given.pass : &third;
         WANT(let.pass == lt_pass_number(of) && lt_pass_poll(of) == LT_LET_THROUGH);
         told[let.number] = true;
     }
-    WANT(lt_pass_let(&mine.pass, &let) == LT_NO_LET);
+    WANT(lt_pass_let(&other, &let) == LT_NO_LET);
 
     /* A second writer waits for the reservation of the first. It is let through by the leave, and by no other step. */
     WANT(lt_pass_leave(&mine.pass) == LT_DONE && lt_pass_let(&mine.pass, &let) == LT_NO_LET);
@@ -520,7 +521,7 @@ static void lets(void) {
     WANT(lt_pass_scan(&mine.pass, &index) == LT_RESCAN);
     take_down();
 
-    /* A pass that is let through twice, and nobody asks in between: one of the two lets is told, here the later. */
+    /* A pass that is let through twice, and nobody asks in between: the later let is told. */
     set_up(PASS);
     const struct lt_txn nine = {.txn = 9, .wall = 9};
     enter_at(&mine.pass, "h", true, 1, LT_WAITING);
@@ -547,8 +548,8 @@ static void lets(void) {
     WANT(lt_pass_finish(&other, KEY("h"), 9) == LT_FREED);
     WANT(lt_pass_let(&other, &let) == LT_DONE && let.number == 1 && lt_pass_let(&other, &let) == LT_NO_LET);
     const struct lt_txn four = {.txn = 4, .wall = 9};
-    WANT(lt_pass_acquire(&mine.pass, KEY("h"), &four) == LT_TAKEN);
-    WANT(lt_pass_let(&other, &let) == LT_DONE && let.number == 2 && lt_pass_let(&other, &let) == LT_NO_LET);
+    WANT(lt_pass_acquire(&mine.pass, KEY("h"), &four) == LT_TAKEN && lt_pass_let(&other, &let) == LT_NO_LET);
+    WANT(lt_pass_let(&mine.pass, &let) == LT_DONE && let.number == 2 && lt_pass_let(&mine.pass, &let) == LT_NO_LET);
     take_down();
 
     /* Waits that are used up: no visit comes after the last one. The request keeps its place, and leaves. */

@@ -229,11 +229,13 @@ static void bury(size_t row) {
     WANT(lt_pass_scan(&behind, &index) == LT_WAITING);
     WANT(lt_pass_look(&behind, 0, &txn) == LT_WAIT_FIRST_RESERVED && txn == 5);
 
-    if (leaves) WANT(lt_pass_leave(&of_the_dead) == LT_DONE);
+    if (leaves) {
+        WANT(lt_pass_leave(&of_the_dead) == LT_DONE);
+        WANT(lt_pass_let(&of_the_dead, &let) == LT_DONE && let.pass == lt_pass_number(&behind));
+    }
     if (deaths[row].closes) WANT(lt_pass_close(&of_the_dead) == LT_DONE);
 
     if (leaves) {
-        WANT(lt_pass_let(&pass, &let) == LT_DONE && let.pass == lt_pass_number(&behind));
         WANT(lt_pass_poll(&behind) == LT_LET_THROUGH && lt_pass_scan(&behind, &index) == LT_RESCAN);
         WANT(lt_pass_scan(&behind, &index) == LT_PROCEED && lt_pass_acquire(&behind, KEY("m"), &six) == LT_TAKEN);
         WANT(lt_pass_leave(&behind) == LT_DONE && lt_pass_finish(&behind, KEY("m"), 6) == LT_FREED);

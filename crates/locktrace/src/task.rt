@@ -13,7 +13,7 @@ use lt_ids::Key;
 use lt_rules::KeyState;
 use lt_trace::{SortOptions, TraceForm, sort_trace};
 use lt_trace_picture::{
-    Layout, ShownRange, ShownStep, html, picture, put_heading, put_key, put_shown,
+    Layout, MOST_QUEUED, ShownRange, ShownStep, html, picture, put_heading, put_key, put_shown,
 };
 use std::alloc::Global;
 use std::fs::{File, Files};
@@ -73,7 +73,7 @@ impl<'a> StepTaker for Shower<'a> {
         if !is_in_range(&self.wanted, &line) {
             return Ok(text);
         }
-        let state = checker.state_before(self.alloc, &line.key)?;
+        let state = checker.front(self.alloc, MOST_QUEUED)?;
         let (key, step) = shown_step(line, state);
         let is_new = match &self.key {
             Some(latest) => *latest != key,

@@ -17,12 +17,12 @@ content_coded = coded_option the_row.coded
 
 -- the table that a handle holds, if it holds one
 abbrev pub table_in : Option ContentState → Option OneTableState
-table_in (Some (Table table)) = Some table
+table_in (Some (Table table)) = Some table.value
 table_in _ = None
 
 -- the check that a handle holds, if it holds one
 abbrev pub check_in : Option ContentState → Option HeldCheck
-check_in (Some (Check check)) = Some check
+check_in (Some (Check check)) = Some check.value
 check_in _ = None
 
 -- the shared table that a handle holds, if it holds one

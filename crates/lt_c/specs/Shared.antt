@@ -1,5 +1,5 @@
 -- What a call does to what a caller in C has of a shared table.
-use Rattle.std.specs.Prelude.{ℕ, Bool, true, false, ◌∷◌, ◌++◌, nat_eq, nat_lt, if◌then◌else◌, ◌≡◌, ◌≢◌, ◌<◌, ◌⊎◌, Option, Some, None, List, [], Result, Ok, Err, IfOk, length}
+use Rattle.std.specs.Prelude.{ℕ, Bool, true, false, ◌∷◌, ◌++◌, nat_eq, nat_lt, if◌then◌else◌, ◌≡◌, ◌≢◌, ◌<◌, ◌⊎◌, Option, Some, None, List, [], Result, Ok, Err, IfOk, length, replicate, slice_get, slice_set, ◌+◌}
 use Rattle.std.specs.Arc.{arc_value}
 use Rattle.std.specs.Option.{option_map}
 use Rattle.lt_ids.specs.declared.request.Access.{Access}
@@ -8,7 +8,8 @@ use Rattle.lt_ids.specs.declared.timestamp.Timestamp.{Timestamp}
 use Rattle.lt_ids.specs.declared.limits.TheConstants.{MAX_STEPS}
 use Rattle.lt_rules.specs.declared.call.Call.{Call}
 use Rattle.lt_words.specs.History.{IsLegalHistory}
-use Rattle.lt_words.specs.Row.{Opening, PassState, AreFresh}
+use Rattle.lt_ids.specs.declared.ticket.Through.{Through as Letting}
+use Rattle.lt_words.specs.Row.{Opening, PassState, AreFresh, AreTelling, NoneLeft}
 use Rattle.lt_words.specs.declared.keeping.Keeping.TheVariants.{Unrecorded}
 use Rattle.lt_shard.specs.declared.answer.Answer.{Answer}
 use Rattle.lt_walk.specs.declared.config.Config.{Config}
@@ -27,6 +28,8 @@ use Rattle.lt_walk.specs.Laws.{IsTooLong}
 use Rattle.lt_try.specs.declared.error.TryError.{TryError}
 use Rattle.lt_try.specs.declared.error.TryError.TheVariants.{HistoryFull, Memory}
 use Rattle.lt_c.specs.declared.shapes.LtConfig.{LtConfig}
+use Rattle.lt_c.specs.declared.shapes.LtThrough.{LtThrough}
+use Rattle.lt_c.specs.Shapes.{raw_let}
 use Rattle.lt_c.specs.declared.held_shared.HeldShared.{HeldShared}
 use Rattle.lt_c.specs.declared.held_shared.HeldPass.{HeldPass}
 use Rattle.lt_c.specs.declared.held_shared.HeldGuard.{HeldGuard}
@@ -51,6 +54,8 @@ pub record IsNewShared (config : Config) (of : Opening) (held : HeldShared) : Ty
   pub config_is : (arc_value held.table).config ≡ config
   pub of_is : (arc_value held.table).of ≡ of
   pub all : AreFresh of of.passes held.passes.items
+  -- each keeps the lets of its steps, so that its caller is told them
+  pub telling : AreTelling held.passes.items
 
 -- A new table was opened with these numbers, and it stores no step.
 pub record IsOpenedAs (c : LtConfig) (held : HeldShared) : Type 0 where
@@ -67,11 +72,13 @@ abbrev pub OnPass : (HeldPass → Type 0) → Option HeldPass → Type 0
 OnPass P None = ⊥
 OnPass P (Some held) = P held
 
--- The table gives its last pass out. Nobody has used the pass, and its next request asks for nothing yet.
+-- The table gives its last pass out. Nobody has used the pass, it keeps the lets of its steps, and its next request asks for
+-- nothing yet.
 pub record GivesPass (before after : HeldShared) (given : HeldPass) : Type 0 where
   pub same : (arc_value after.table) ≡ (arc_value before.table)
   pub of_table : (arc_value given.table) ≡ (arc_value before.table)
   pub taken : before.passes.items ≡ after.passes.items ++ given.pass ∷ []
+  pub telling : given.pass.wakes.untold ≡ replicate (given.pass.of.passes + 1) None
   pub wants_nothing : given.wants.items ≡ []
 
 -- why a table gives no pass out: it has none left
@@ -208,6 +215,13 @@ pub record LookTells (index code txn : ℕ) (before after : HeldGuard) : Type 0 
   pub reports : ReportsLook before.guard after.guard index answer
   pub same : after.guard.walk ≡ before.guard.walk
   pub same_table : (arc_value after.table) ≡ (arc_value before.table)
+
+-- The caller is told a let that was left of its pass's steps, which is then left no more; or none was left.
+abbrev pub TellsLet : ℕ → LtThrough → PassState → PassState → Type 0
+TellsLet code out p p' =
+    ((code ≡ 0) × ((t : Letting) × (out ≡ raw_let t) × (slice_get p.wakes.untold t.pass ≡ Some (Some t.ticket))
+    × (p' ≡ record p { wakes = record p.wakes { untold = slice_set p.wakes.untold t.pass None } })))
+    ⊎ ((code ≡ 73) × NoneLeft p.wakes.untold × (p' ≡ p))
 
 -- whether the handle holds a pass, or a request that has one
 abbrev pub has_pass : Option ContentState → Bool

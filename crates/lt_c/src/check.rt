@@ -63,7 +63,10 @@ pub extern "C" fn lt_check_begin(alloc: Global, handle: &mut Handle) -> u32
     if handle.is_open() {
         return OPEN_ALREADY;
     }
-    let Ok(content) = Box::new(alloc, Content::Check(HeldCheck::new(alloc))) else {
+    let Ok(check) = Box::new(alloc, HeldCheck::new(alloc)) else {
+        return MEMORY;
+    };
+    let Ok(content) = Box::new(alloc, Content::Check(check)) else {
         return MEMORY;
     };
     handle.put(content);
@@ -122,7 +125,7 @@ fn take_check(alloc: Global, handle: &mut Handle) -> Option<HeldCheck>
         return None;
     }
     match Box::into_inner(content) {
-        Content::Check(check) => Some(check),
+        Content::Check(check) => Some(Box::into_inner(check)),
         _ => None,
     }
 }

@@ -5,11 +5,12 @@ use crate::held::HeldTable;
 use crate::held_check::HeldCheck;
 use crate::held_shared::{HeldGuard, HeldPass, HeldShared};
 
-/// What an open handle holds.
+/// What an open handle holds. The table of one thread and the check are large, so each has a box of its own: a pass becomes
+/// a request and a request a pass by a move of the whole.
 #[derive(Drop)]
 pub enum Content {
-    Table(HeldTable),
-    Check(HeldCheck),
+    Table(Box<HeldTable>),
+    Check(Box<HeldCheck>),
     Shared(HeldShared),
     Pass(HeldPass),
     Guard(HeldGuard),

@@ -1,7 +1,8 @@
 //! What does a handle of a shared table hold? The table with the passes that it has still to give out, a pass, or the guard
 //! of a request, which has its pass. The table is freed with the last handle that knows it.
-ghost use Rattle.std.specs.Prelude.{◌≡◌, All};
+ghost use Rattle.std.specs.Prelude.{◌≡◌, [], All};
 ghost use Rattle.std.specs.Arc.{arc_value};
+ghost use Rattle.lt_words.specs.Row.{AreTelling};
 ghost use Rattle.lt_words.specs.declared.keeping.Keeping.TheVariants.{Unrecorded};
 
 use crate::codes::{CLOSED, DONE};
@@ -9,20 +10,19 @@ use crate::content::Content;
 use crate::shared_codes::{enter_code, try_code};
 use lt_ids::{Access, Key, Timestamp, TxnId};
 use lt_lock::LinkedTable;
-use lt_try::{
-    EnterRefused, Guard, LeaveStopped, Left, LetNotes, LinkedTables, Pass, TryTable, abandon_all,
-};
+use lt_try::{EnterRefused, Guard, LeaveStopped, Left, LinkedTables, Pass, TryTable, abandon_all};
 use std::alloc::Global;
 use std::sync::Arc;
 
-/// A table that threads share. It stores no step, and notes whom its steps let through.
-pub type SharedTable = TryTable<LinkedTable, LinkedTables, LetNotes>;
+/// A table that threads share. It stores no step, and its passes keep the lets of their steps.
+pub type SharedTable = TryTable<LinkedTable, LinkedTables>;
 
 /// A table, and the passes that no handle has yet.
 pub struct HeldShared {
     pub table: Arc<SharedTable>,
     pub passes: Vec<Pass>,
     pub ghost named: { All (λ p. p.of ≡ (arc_value table).of) passes.items },
+    pub ghost telling: { AreTelling passes.items },
     pub ghost stores_none: { (arc_value table).of.keeping ≡ Unrecorded },
 }
 
@@ -52,18 +52,21 @@ impl Drop for HeldPass {
     }
 }
 
-/// The guard of a request.
+/// The guard of a request, and the room for the accesses of the next one.
 pub struct HeldGuard {
     pub table: Arc<SharedTable>,
     pub guard: Guard,
+    pub room: Vec<(Key, Access)>,
+    pub ghost empty: { room.items ≡ [] },
     pub ghost of: { guard.pass.of ≡ (arc_value table).of },
     pub ghost stores_none: { (arc_value table).of.keeping ≡ Unrecorded },
 }
 
 impl Drop for HeldGuard {
     fn drop(self) {
-        let HeldGuard { table, guard } = self;
+        let HeldGuard { table, guard, room } = self;
         guard.abandon();
+        drop(room);
         drop(table);
     }
 }
@@ -83,9 +86,17 @@ impl HeldPass {
         ensures entered { Enters txn ts longest result.1 (Some (Content.Pass self)) (Some result.0) }
         ensures opened { result.1 ≢ CLOSED }
     {
-        let HeldPass { table, pass, wants } = self;
+        let HeldPass {
+            table,
+            pass,
+            mut wants,
+        } = self;
         match table.enter(alloc, pass, txn, ts, wants.as_slice(), longest) {
-            Ok(guard) => (Content::Guard(HeldGuard { table, guard }), DONE),
+            Ok(guard) => {
+                wants.clear();
+                let room = wants;
+                (Content::Guard(HeldGuard { table, guard, room }), DONE)
+            }
             Err(EnterRefused { pass, error }) => (
                 Content::Pass(HeldPass { table, pass, wants }),
                 enter_code(error),
@@ -99,19 +110,19 @@ impl HeldGuard {
     ghost use Rattle.lt_c.specs.Shared.{LeaveTells};
 
     /// The request leaves.
-    pub fn leave(self, alloc: Global) -> (Content, u32)
+    pub fn leave(self) -> (Content, u32)
         ensures left { LeaveTells result.1 (Some (Content.Guard self)) (Some result.0) }
         ensures opened { result.1 ≢ CLOSED }
     {
-        let HeldGuard { table, guard } = self;
+        let HeldGuard { table, guard, room } = self;
         match table.leave(guard) {
             Ok(Left { pass, answers }) => {
                 drop(answers);
-                let wants = Vec::new(alloc);
+                let wants = room;
                 (Content::Pass(HeldPass { table, pass, wants }), DONE)
             }
             Err(LeaveStopped { guard, error }) => (
-                Content::Guard(HeldGuard { table, guard }),
+                Content::Guard(HeldGuard { table, guard, room }),
                 try_code(error),
             ),
         }

@@ -1,54 +1,72 @@
 //! How does C learn whom its steps let through, so that it wakes them? It asks after each call that may let others through.
 ghost use Rattle.std.specs.Prelude.{◌≡◌, ◌≢◌, Some, true, false};
-ghost use Rattle.lt_c.specs.Shared.{has_pass, number_in};
+ghost use Rattle.lt_c.specs.Shared.{OnCaller, TellsLet, has_pass, number_in};
 
 use crate::codes::{CLOSED, DONE};
 use crate::content::Content;
 use crate::handle::Handle;
-use crate::held_shared::SharedTable;
+use crate::held_shared::{HeldGuard, HeldPass};
 use crate::shapes::{LtThrough, raw_let};
 use crate::shared_codes::NO_LET;
 use std::alloc::Global;
 
-/// Takes a let out, if one is left.
-fn next_of(table: &SharedTable, through: &mut LtThrough) -> u32
+/// Takes a let of the pass's steps out, if one is left.
+fn next_of_pass(by: &mut HeldPass, through: &mut LtThrough) -> u32
     ensures opened { result ≢ CLOSED }
-    ensures kept { result ≢ DONE → through.new ≡ through.old }
+    ensures tells { TellsLet result through.new by.old.pass by.new.pass }
+    ensures wants { by.new.wants ≡ by.old.wants }
+    ensures table { by.new.table ≡ by.old.table }
+    ensures kept { result ≢ DONE → (by.new ≡ by.old) × (through.new ≡ through.old) }
 {
-    match table.next_let() {
-        Some(next) => {
-            *through = raw_let(&next);
-            DONE
-        }
-        None => NO_LET,
-    }
+    let Some(next) = by.pass.next_untold() else {
+        return NO_LET;
+    };
+    *through = raw_let(&next);
+    DONE
+}
+
+/// The same of the pass of a request.
+fn next_of_guard(by: &mut HeldGuard, through: &mut LtThrough) -> u32
+    ensures opened { result ≢ CLOSED }
+    ensures tells { TellsLet result through.new by.old.guard.pass by.new.guard.pass }
+    ensures walk { by.new.guard.walk ≡ by.old.guard.walk }
+    ensures table { by.new.table ≡ by.old.table }
+    ensures kept { result ≢ DONE → (by.new ≡ by.old) × (through.new ≡ through.old) }
+{
+    let Some(next) = by.guard.next_untold() else {
+        return NO_LET;
+    };
+    *through = raw_let(&next);
+    DONE
 }
 
 /// The same, if the content is a pass or a request.
-fn next_at(content: &Content, through: &mut LtThrough) -> u32
-    ensures closed { has_pass (Some content.now) ≡ false → result ≡ CLOSED }
-    ensures opened { has_pass (Some content.now) ≡ true → result ≢ CLOSED }
-    ensures kept { result ≢ DONE → through.new ≡ through.old }
+fn next_at(content: &mut Content, through: &mut LtThrough) -> u32
+    ensures closed { has_pass (Some content.old) ≡ false → result ≡ CLOSED }
+    ensures opened { has_pass (Some content.old) ≡ true → result ≢ CLOSED }
+    ensures tells { result ≢ CLOSED → OnCaller (TellsLet result through.new) (Some content.old) (Some content.new) }
+    ensures kept { result ≢ DONE → (content.new ≡ content.old) × (through.new ≡ through.old) }
 {
     match content {
-        Content::Pass(by) => next_of(&by.table, through),
-        Content::Guard(by) => next_of(&by.table, through),
+        Content::Pass(by) => next_of_pass(by, through),
+        Content::Guard(by) => next_of_guard(by, through),
         _ => CLOSED,
     }
 }
 
-/// Takes out a let of the table of which nobody was told yet, if one is left.
+/// Takes out a let of the pass's steps of which its caller was not told yet, if one is left. Of each pass that was let
+/// through it is the latest let.
 #[unsafe(no_mangle)]
 pub extern "C" fn lt_pass_let(alloc: Global, handle: &mut Handle, through: &mut LtThrough) -> u32
     ensures closed { has_pass handle.old.slot.held ≡ false → result ≡ CLOSED }
     ensures opened { has_pass handle.old.slot.held ≡ true → result ≢ CLOSED }
-    ensures kept { result ≢ DONE → through.new ≡ through.old }
-    ensures same { handle.new.slot.held ≡ handle.old.slot.held }
+    ensures tells { result ≢ CLOSED → OnCaller (TellsLet result through.new) handle.old.slot.held handle.new.slot.held }
+    ensures kept { result ≢ DONE → (handle.new.slot.held ≡ handle.old.slot.held) × (through.new ≡ through.old) }
 {
-    let Some(content) = handle.take(alloc) else {
+    let Some(mut content) = handle.take(alloc) else {
         return CLOSED;
     };
-    let code = next_at(&content, through);
+    let code = next_at(&mut content, through);
     handle.put(content);
     code
 }

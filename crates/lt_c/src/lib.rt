@@ -1,4 +1,4 @@
-//! The check of histories and the lock table of one thread, for C and for Rust.
+//! The check of histories, the lock table of one thread, and a lock table that threads share, for C and for Rust.
 //!
 //! This static library has an export for each call. [`lt_check`](check::lt_check) decides whether a text is the text of
 //! legal histories, and `lt_check_begin` begins a check of a text in pieces. `lt_table_open` puts an empty table behind a
@@ -11,11 +11,16 @@
 //!
 //! - Each step of the table of one thread is the step of the rules (`lt_rules`) on its key alone, and its code is that of the
 //!   reply.
-//! - What the calls on a shared table report stands in its one legal history, as the main theorem says of the table whose
-//!   callers wait (`lt_table_core`).
-//! - A call that answers a refusal has changed neither the table nor what it was to write its answer to.
+//! - What the calls on a shared table report through a pass stands in what the pass has then seen, and that is legal. Of several
+//!   passes the law `theorem_so_far` of `lt_walk` speaks, if one legal history extends what each of them has seen; no clause of
+//!   an export gives that history.
+//! - A call that answers a refusal has changed neither the handle nor what it was to write its answer to, with two exceptions:
+//!   a refused scan and a refused leave of the shared table have made the steps before the refused one, and the scan has set
+//!   its index to 0; a check in pieces that got no memory is over.
 //! - No let of the table of one thread is lost or given twice: the lets that do not fit into the caller's array stay in the
 //!   handle, and no other step is made until the caller has taken them.
+//! - No let of a step of the shared table is lost on the way to the pass that made it: of each pass that was let through the
+//!   latest let is left to be told until it is taken out.
 //! - Every argument is tested. A call requires nothing of a key, a number or a length.
 //!
 //! What C must do, because no proof covers it: declare the structs of `shapes.rt` and the functions as they are here,

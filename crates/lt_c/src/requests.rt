@@ -144,6 +144,7 @@ fn scan(held: &mut HeldGuard, index: &mut usize) -> u32
 fn scan_at(content: &mut Content, index: &mut usize) -> u32
     ensures scanned { result ≢ CLOSED → OnGuards (ScanTells result index.new) (guard_in (Some content.old)) (guard_in (Some content.new)) }
     ensures kept { result ≡ CLOSED → content.new ≡ content.old }
+    ensures out_kept { result ≡ CLOSED → index.new ≡ index.old }
     ensures opened { IsSome (guard_in (Some content.old)) → result ≢ CLOSED }
 {
     match content {
@@ -157,6 +158,7 @@ fn scan_at(content: &mut Content, index: &mut usize) -> u32
 pub extern "C" fn lt_pass_scan(alloc: Global, handle: &mut Handle, index: &mut usize) -> u32
     ensures scanned { result ≢ CLOSED → OnGuards (ScanTells result index.new) (guard_in handle.old.slot.held) (guard_in handle.new.slot.held) }
     ensures kept { result ≡ CLOSED → handle.new.slot.held ≡ handle.old.slot.held }
+    ensures out_kept { result ≡ CLOSED → index.new ≡ index.old }
     ensures opened { IsSome (guard_in handle.old.slot.held) → result ≢ CLOSED }
     ensures legal { SeesLegal handle.new.slot.held }
 {
@@ -206,13 +208,13 @@ pub extern "C" fn lt_pass_poll(alloc: Global, handle: &mut Handle) -> u32
 }
 
 /// The request leaves, if the content is one.
-fn leave(content: Content, alloc: Global) -> (Content, u32)
+fn leave(content: Content) -> (Content, u32)
     ensures left { result.1 ≢ CLOSED → LeaveTells result.1 (Some content) (Some result.0) }
     ensures kept { result.1 ≡ CLOSED → result.0 ≡ content }
     ensures opened { IsSome (guard_in (Some content)) → result.1 ≢ CLOSED }
 {
     match content {
-        Content::Guard(held) => held.leave(alloc),
+        Content::Guard(held) => held.leave(),
         content => (content, CLOSED),
     }
 }
@@ -229,7 +231,7 @@ pub extern "C" fn lt_pass_leave(alloc: Global, handle: &mut Handle) -> u32
         return CLOSED;
     };
     let before = mem::replace(&mut *content, Content::Nothing);
-    let (after, code) = leave(before, alloc);
+    let (after, code) = leave(before);
     *content = after;
     content.legal();
     handle.put(content);

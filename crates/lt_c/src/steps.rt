@@ -34,7 +34,9 @@ pub extern "C" fn lt_table_open(alloc: Global, handle: &mut Handle, start: u64) 
     if handle.is_open() {
         return OPEN_ALREADY;
     }
-    let table = HeldTable::new(alloc, start);
+    let Ok(table) = Box::new(alloc, HeldTable::new(alloc, start)) else {
+        return MEMORY;
+    };
     let Ok(content) = Box::new(alloc, Content::Table(table)) else {
         return MEMORY;
     };

@@ -12,10 +12,11 @@
 //!
 //! Two calls explain a fault: [`Checker::state_before`] copies the record of a key before the next line, and
 //! [`Checker::expected`] gives the reply and the lets that the rules give for that line. [`Checker::lengths`] counts the
-//! requests that are queued at the latest key. Read next:
-//! `specs/Pieces.antt`, then `cursor.rt`.
+//! requests that are queued at the latest key, and [`Checker::front`] copies that key's record with the front of its
+//! queues alone. Read next: `specs/Pieces.antt`, then `cursor.rt`.
 ghost use Rattle.std.specs.Prelude.{◌≡◌, ◌==◌, ◌<◌, ◌+◌, ◌^◌, if◌then◌else◌, [], length, IfOk, IfErr, IfSome, IfNone, OnOk, OnErr, IsTrue, ◌↔◌, None};
 ghost use Rattle.lt_checker.specs.Cursor.{spot};
+ghost use Rattle.lt_row.specs.Front.{front_of};
 ghost use Rattle.lt_checker.specs.Text.{record_before};
 ghost use Rattle.lt_checker.specs.Version.{IsVersion, header_of};
 ghost use Rattle.lt_checker.specs.Verdict.{located};
@@ -286,6 +287,18 @@ impl Checker {
                 writers: 0,
                 readers: 0,
             },
+        }
+    }
+
+    /// A copy of the record of the latest line's key with at most so many entries of each queue, from the front. It is
+    /// empty before the first line. It takes time in proportion to what it copies, and fails only when an allocation
+    /// fails.
+    pub fn front(&self, alloc: Global, most: usize) -> Result<KeyState, AllocError>
+        ensures { IfOk result (λ state. state ≡ front_of most (spot self.now.cursor).state) }
+    {
+        match &self.cursor.linked {
+            Some(own) => own.front(alloc, most),
+            None => Ok(KeyState::empty(alloc)),
         }
     }
 

@@ -24,6 +24,7 @@ pub(crate) fn count_of(txns: &Txns, txn: TxnId) -> usize
 }
 
 /// Adds one to the count of a transaction. Memory ends long before a count does.
+#[inline(always)]
 fn add_one(txns: &mut Txns, txn: TxnId) -> Result<(), AllocError>
     ensures ok { OnOk result (SetsCount txns.old txns.new txn (suc (count_of txns.old txn))) }
     ensures err { OnErr result (KeepsCounts txns.old txns.new) }
@@ -44,6 +45,7 @@ fn add_one(txns: &mut Txns, txn: TxnId) -> Result<(), AllocError>
 }
 
 /// Counts a node that comes, if it has a transaction. After an error, nothing has changed.
+#[inline(always)]
 pub(crate) fn tally_in(txns: &mut Txns, txn: Option<TxnId>) -> Result<(), AllocError>
     ensures ok { OnOk result (CountsIn txns.old txns.new txn) }
     ensures err { OnErr result (KeepsCounts txns.old txns.new) }
@@ -55,6 +57,7 @@ pub(crate) fn tally_in(txns: &mut Txns, txn: Option<TxnId>) -> Result<(), AllocE
 }
 
 /// Takes one off the count of a transaction, which is dropped with its last node.
+#[inline(always)]
 fn take_one(txns: &mut Txns, txn: TxnId)
     requires { 0 < count_of txns.old txn }
     ensures { SetsCount txns.old txns.new txn (count_of txns.old txn - 1) }
@@ -70,6 +73,7 @@ fn take_one(txns: &mut Txns, txn: TxnId)
 }
 
 /// Counts a node that goes, if it has a transaction.
+#[inline(always)]
 pub(crate) fn tally_out(txns: &mut Txns, txn: Option<TxnId>)
     requires { IfSome txn (λ t. 0 < count_of txns.old t) }
     ensures { CountsOut txns.old txns.new txn }

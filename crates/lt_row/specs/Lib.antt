@@ -1,4 +1,5 @@
 pub mod Row
+pub mod Front
 pub mod Found
 pub mod RowStepped
 pub mod SameTxn

@@ -19,8 +19,8 @@
 //! of one key, over `one_call`, which makes a call that is given as a value, and
 //! `row` and `visit`, which have the calls. Below them, `settle` elects the distinguished
 //! waiter, `queue_walk` walks queues, `queue_edit` changes them, `find` finds a request's queue entry, `txn`
-//! compares transactions, `same_txn` asks whether other requests of a transaction are queued, and `copy` copies the state
-//! of a key.
+//! compares transactions, `same_txn` asks whether other requests of a transaction are queued, and `copy` copies the
+//! state of a key, whole or with the front of its queues alone.
 #![tactic(auto)]
 
 mod copy;

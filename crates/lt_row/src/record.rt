@@ -4,10 +4,11 @@ ghost use Rattle.std.specs.Prelude.{◌≡◌, ◌≤◌, [], false, length, IfO
 ghost use Rattle.lt_rules.specs.Rules.{empty, IsOutcome, TakesNoMemory};
 ghost use Rattle.lt_rules.specs.Step.{step};
 ghost use Rattle.lt_row.specs.Row.{record_of};
+ghost use Rattle.lt_row.specs.Front.{front_of};
 ghost use Rattle.lt_row.specs.RowStepped.{IsRow, has_nobody};
 ghost use Rattle.lt_ids.specs.declared.limits.TheConstants.{MAX_PASS};
 
-use crate::copy::state;
+use crate::copy::{front, state};
 use crate::one_call::step;
 use crate::row::{Row, has_nobody, lengths};
 use lt_ids::Through;
@@ -111,5 +112,13 @@ impl LinkedRecord {
         ensures { IfOk result (λ state. state ≡ self.now) }
     {
         state(&self.links, alloc, &self.row)
+    }
+
+    /// A copy of the record with at most so many entries of each queue, from the front. It takes time in proportion to
+    /// what it copies, and fails only when an allocation fails.
+    pub fn front(&self, alloc: Global, most: usize) -> Result<KeyState, AllocError>
+        ensures { IfOk result (λ state. state ≡ front_of most self.now) }
+    {
+        front(&self.links, alloc, &self.row, most)
     }
 }

@@ -3,12 +3,13 @@ ghost use Rattle.std.specs.Prelude.{◌≡◌, ◌&&◌, nat_eq, map, slice_get}
 ghost use Rattle.std.specs.List.{list_any, IsDistinct};
 ghost use Rattle.std.specs.Option.{option_map};
 ghost use Rattle.lt_links.specs.Maps.{IsSound};
-ghost use Rattle.lt_links.specs.declared.ids.QueueKind.TheVariants.{Reservation};
+ghost use Rattle.lt_links.specs.declared.ids.QueueKind.TheVariants.{Reservation, Writers};
 ghost use Rattle.lt_rules.specs.Rules.{distinguished_of, settle};
 ghost use Rattle.lt_rules.specs.Lawful.{numbers};
 ghost use Rattle.lt_row.specs.Row.{line, queue_at, record_of, request_of, eligible_at, HasQueues};
+ghost use Rattle.lt_row.specs.Found.{first_eligible_number};
 
-use crate::find::find;
+use crate::find::find_front;
 use crate::queue_walk::{first_eligible, is_eligible};
 use crate::row::{Row, queue};
 use lt_links::{Links, QueueKind, Stand};
@@ -28,7 +29,7 @@ fn is_among_eligible(links: &Links, row: &Row, number: u64) -> bool
     requires distinct { IsDistinct nat_eq (numbers (record_of links.now row.now)) }
     ensures { result ≡ list_any (λ m. nat_eq m number) (eligible_at links.now row.now) }
 {
-    let Some(found) = find(links, row.id, number) else {
+    let Some(found) = find_front(links, row.id, number) else {
         return false;
     };
     match found.kind {
@@ -38,6 +39,20 @@ fn is_among_eligible(links: &Links, row: &Row, number: u64) -> bool
     }
 }
 
+/// The number of the first writer that is eligible as the distinguished waiter. If nobody is queued to write, the
+/// reservation is not looked up.
+fn first_writer(links: &Links, row: &Row) -> Option<u64>
+    requires { HasQueues links.now row.now.id }
+    ensures { result ≡ first_eligible_number (slice_get (line links.now (queue_at row.now.id Reservation)) 0)
+        (line links.now (queue_at row.now.id Writers)) }
+{
+    let writers = queue(row, QueueKind::Writers);
+    if links.len(writers) == 0 {
+        return None;
+    }
+    first_eligible(links, &writers, &reserved(links, row))
+}
+
 /// The number of the first queued request that is eligible as the distinguished waiter.
 fn first_waiter(links: &Links, row: &Row) -> Option<u64>
     requires { HasQueues links.now row.now.id }
@@ -45,11 +60,7 @@ fn first_waiter(links: &Links, row: &Row) -> Option<u64>
 {
     match links.first(queue(row, QueueKind::Readers)) {
         Some(node) => Some(links.stand(node).number),
-        None => first_eligible(
-            links,
-            &queue(row, QueueKind::Writers),
-            &reserved(links, row),
-        ),
+        None => first_writer(links, row),
     }
 }
 

@@ -14,7 +14,7 @@ ghost use Rattle.lt_row.specs.Row.{line, queue_at, record_of, request_of, writer
 ghost use Rattle.lt_row.specs.Found.{Finds, PutsWriter};
 ghost use Rattle.lt_row.specs.RowStepped.{IsRow, IsRewritten, UpdatesRow, RowUsesNoMemory, VisitsRow, RowVisitUsesNoMemory, MakesRoom, taken_over, visit_by};
 
-use crate::find::{Found, find};
+use crate::find::{Found, find_front};
 use crate::queue_edit::{insert_first, move_to_front, renew_stand, replace_stand, take_out};
 use crate::queue_walk::{has_at_least, position_of};
 use crate::row::{Row, queue};
@@ -383,7 +383,7 @@ pub(crate) fn visit(
     ensures room { how_many (record_of links.old row.old) ≤ vec_capacity lets.old →
         how_many (record_of links.new row.new) ≤ vec_capacity lets.new }
 {
-    let found = find(links, row.id, stand.number);
+    let found = find_front(links, row.id, stand.number);
     let reply = match access {
         Access::Read => visit_to_read(links, row, &found, stand, lets)?,
         Access::Write => visit_to_write(links, row, &found, stand, longest, lets)?,

@@ -4,14 +4,14 @@
 ghost use Rattle.std.specs.Prelude.{◌≡◌, ◌≤◌, ◌^◌, IfOk, length, map};
 ghost use Rattle.std.specs.List.{All};
 ghost use Rattle.std.specs.FinMap as finmap;
-ghost use Rattle.lt_words.specs.Row.{AreFresh, AreNoting, OwesNoWakeUp, fresh_passes, quiet};
+ghost use Rattle.lt_words.specs.Row.{AreFresh, AreNoting, fresh_passes};
 ghost use Rattle.lt_walk.specs.Configs.{AreNewShards};
 ghost use Rattle.lt_table_core.specs.Slots.{AreInPlace};
 
 use crate::table::{Label, Slot, Table};
 use lt_rules::KeyTable;
 use lt_shard::Shard;
-use lt_walk::{Ready, ReadyParts, parts_of};
+use lt_walk::{Ready, ReadyParts, noting_lets, parts_of};
 use lt_words::{Book, Name, Pass, Waker, abandon_all};
 use std::alloc::{AllocError, Global};
 
@@ -113,23 +113,6 @@ pub fn open_with<N: Name, T: KeyTable + Drop>(
     Ok((table, passes))
 }
 
-/// Lets each pass note every let, for a waker. If an allocation fails, the passes are given up.
-fn noting_each(passes: Vec<Pass>) -> Result<Vec<Pass>, AllocError>
-    requires { All (λ p. OwesNoWakeUp p) passes.items }
-    ensures same { IfOk result (λ noting. map quiet noting.items ≡ map quiet passes.items) }
-    ensures noting { IfOk result (λ noting. AreNoting (length passes.items) noting.items) }
-{
-    let mut noting = passes;
-    let room = noting.len();
-    for index in 0..noting.len() {
-        if noting[index].note_each_let(room).is_err() {
-            abandon_all(noting);
-            return Err(AllocError);
-        }
-    }
-    Ok(noting)
-}
-
 /// [`open_with`], with a waker that is called for each let. Each pass allocates room for one let of each pass.
 pub fn open_waking_with<N: Name, T: KeyTable + Drop, W: Waker + Drop>(
     alloc: Global,
@@ -147,7 +130,7 @@ pub fn open_waking_with<N: Name, T: KeyTable + Drop, W: Waker + Drop>(
     ensures of { IfOk result (λ r. All (λ p. p.of ≡ N.of) r.1.items) }
 {
     let (table, passes) = open_with::<N, T>(alloc, ready, tables)?;
-    let passes = noting_each(passes)?;
+    let passes = noting_lets(passes)?;
     Ok((table.with_waker(waker), passes))
 }
 

@@ -12,7 +12,9 @@ use Rattle.lt_trace.specs.declared.sort.TraceForm.{TraceForm}
 use Rattle.lt_trace.specs.declared.sort.TraceForm.TheVariants.{Words, Json}
 use Rattle.lt_trace.specs.Step.{trace_line_of}
 use Rattle.lt_trace.specs.Trace.{parts_of_line}
-use Rattle.lt_trace.specs.Json.{json_line_of}
+use Rattle.serde_json.specs.Data.{Data}
+use Rattle.lt_text.specs.Maybe.{◌>>=◌}
+use Rattle.lt_trace.specs.Json.{json_step_of, json_parts_line, json_line_of}
 use Rattle.lt_trace.specs.Form.{IsReadInForm, IsInputLine, IsInputRefusal}
 
 pub with_end : (bytes text : List ℕ) → bytes_eq (drop (length bytes - 1) bytes) (10 ∷ []) ≡ true → text ≡ take (length bytes - 1) bytes → bytes ≡ text ++ 10 ∷ []
@@ -39,11 +41,19 @@ some_or_none : (o : Option (List ℕ × List ℕ)) (x : List ℕ × List ℕ) �
 some_or_none None x e f = absurd cc
 some_or_none (Some y) x e f = absurd cc
 
+no_step_no_line : (d : Data) → json_step_of d ≡ None → json_line_of d ≡ None
+no_step_no_line d e = ap (λ o. o >>= json_parts_line) e
+
+abbrev data_or : Option Data → Data → Data
+data_or None d = d
+data_or (Some x) d = x
+
 -- No bytes are both read and refused.
 one_reading : (form : TraceForm) (text : List ℕ) (line : TraceLine) (fault : TraceFault) → IsReadInForm form text (Ok line) → IsReadInForm form text (Err (refusals.Fault fault)) → ⊥
 one_reading Words text line faults.Shape a b = some_or_none (trace_line_of text) (parts_of_line line) a b
 one_reading Words text line faults.Json a b = b
-one_reading Json text line fault a b = some_or_none (json_line_of a.object) (parts_of_line line) a.spells (b a.object a.is_utf8 a.reads)
+one_reading Json text line faults.Json a b = some_or_none (json_line_of a.object) (parts_of_line line) a.spells (no_step_no_line a.object (b a.object a.is_utf8 a.reads))
+one_reading Json text line faults.Shape a b = some_or_none (json_line_of a.object) (parts_of_line line) a.spells (ap json_line_of (ap (λ o. data_or o a.object) (sym a.reads ∙ b.reads)) ∙ b.spells)
 
 -- A text that is refused makes no line, with a line end after it.
 pub refused_form : (form : TraceForm) (bytes text : List ℕ) (e : TraceLineError) → bytes ≡ text ++ 10 ∷ [] → eqb (length text) 0 ≡ false → IsReadInForm form text (Err e) → IsInputRefusal form bytes e

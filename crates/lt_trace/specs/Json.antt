@@ -141,11 +141,20 @@ pub record IsLineOfObject (bytes : List ℕ) (line : TraceLine) : Type 0 where
   pub reads : read_text bytes ≡ Some object
   pub spells : json_line_of object ≡ Some (parts_of_line line)
 
--- If the bytes are UTF-8 and the text of a JSON value, that value spells no line.
-abbrev pub SpellsNoLine : List ℕ → Type 0
-SpellsNoLine bytes = (d : Data) → IsUtf8 bytes → read_text bytes ≡ Some d → json_line_of d ≡ None
+-- The bytes are not the text of an object with the members of a step.
+abbrev pub HasNoMembers : List ℕ → Type 0
+HasNoMembers bytes = (d : Data) → IsUtf8 bytes → read_text bytes ≡ Some d → json_step_of d ≡ None
+
+-- The bytes are the text of an object with the members of a step, and it spells no line.
+pub record IsMisspelt (bytes : List ℕ) : Type 0 where
+  pub object : Data
+  pub is_utf8 : IsUtf8 bytes
+  pub reads : read_text bytes ≡ Some object
+  pub members : IsSome (json_step_of object)
+  pub spells : json_line_of object ≡ None
 
 -- The fault is right. Out of memory says nothing about the bytes.
 abbrev pub IsRefusalOf : List ℕ → TraceLineError → Type 0
 IsRefusalOf bytes refusals.Memory = ⊤
-IsRefusalOf bytes (refusals.Fault fault) = SpellsNoLine bytes
+IsRefusalOf bytes (refusals.Fault Json) = HasNoMembers bytes
+IsRefusalOf bytes (refusals.Fault Shape) = IsMisspelt bytes

@@ -173,7 +173,7 @@ fn read_value(alloc: Global, value: &Value) -> Result<TraceLine, TraceLineError>
 pub(crate) fn read_object(alloc: Global, bytes: &[u8]) -> Result<TraceLine, TraceLineError>
     // What was read is the line that the object spells.
     ensures line { IfOk result (IsLineOfObject bytes.now) }
-    // If the bytes are refused, they are not those of an object that spells a line.
+    // If the bytes are refused, they are not those of an object that spells a line, and the fault says what they lack.
     ensures fault { IfErr result (IsRefusalOf bytes.now) }
 {
     match Value::from_slice(alloc, bytes) {

@@ -1,9 +1,14 @@
 //! How wide is each column of the table? The columns fill the width of the terminal exactly. Each has its least width,
 //! and the rest goes first to what a usual step needs, and then to what a crowded key needs.
-ghost use Rattle.std.specs.Prelude.{◌≡◌, ◌≤◌, ◌+◌, ◌<◌, ◌^◌, ◌↔◌, All, IsSome, IfSome, sum};
+ghost use Rattle.std.specs.Prelude.{◌≡◌, ◌≤◌, ◌+◌, ◌*◌, ◌<◌, ◌^◌, ◌↔◌, All, IsSome, IfSome, get_or, sum};
+ghost use Rattle.lt_trace_picture.specs.declared.columns.TheConstants.{MOST_QUEUED};
 
 /// The columns: step, pass, call, reply, holder, reserved, writers, readers, let.
 pub(crate) const COLUMNS: usize = 9;
+
+/// How many entries of a queue decide what its cell shows. The column of a queue is at most 16 wide and an entry takes at
+/// least two, so nine are cut, and what is cut off does not show.
+pub const MOST_QUEUED: usize = 9;
 
 /// The least widths of all columns together.
 const LEAST: usize = 40;
@@ -47,7 +52,8 @@ impl Layout {
 
 /// Takes from what is left, at most this much.
 fn take(left: &mut usize, most: usize) -> usize
-    ensures { result + left.new ≡ left.old }
+    ensures sum { result + left.new ≡ left.old }
+    ensures most { result ≤ most }
 {
     let taken = most.min(*left);
     *left -= taken;
@@ -60,6 +66,8 @@ pub(crate) fn widths(width: usize) -> [usize; COLUMNS]
     requires bounded { width < 2 ^ 16 }
     ensures sum { sum result ≡ width }
     ensures each { All (λ w. 1 ≤ w) result }
+    ensures writers { get_or result 6 0 < 2 * MOST_QUEUED }
+    ensures readers { get_or result 7 0 < 2 * MOST_QUEUED }
 {
     let mut left = width - LEAST;
     let call = 8 + take(&mut left, 12);

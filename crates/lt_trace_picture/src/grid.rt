@@ -3,6 +3,7 @@
 use crate::lanes::Lanes;
 use crate::step::ShownStep;
 use crate::timeline::Lane;
+use crate::whose::Claim;
 use itoa::Buffer;
 
 /// The height of a lane.
@@ -16,6 +17,18 @@ pub(crate) const BAR: u64 = 18;
 
 /// The height of what is below the lanes: the steps' numbers and the legend.
 const BELOW: u64 = 144;
+
+/// The lanes' names and the legend are repeated after so many steps, some 1,100 pixels at the least.
+const STEPS_BETWEEN: u64 = 40;
+
+/// The numbers of the steps are repeated after so many lanes. A picture with more lanes has the legend at its top too.
+const LANES_BETWEEN: u64 = 20;
+
+/// The height of a row of the steps' numbers between lanes.
+const NUMBERS: u64 = 24;
+
+/// The height of the legend at the top.
+const LEGEND: u64 = 84;
 
 /// The least width of a picture, so that its legend fits.
 const LEAST_WIDTH: u64 = 800;
@@ -45,6 +58,17 @@ fn name_width(lane: &Lane) -> u64 {
     }
 }
 
+/// The width of the line that says whose a request is.
+fn owner_width(owner: &Option<Claim>) -> u64 {
+    match owner {
+        Some(claim) if claim.txn > 0 => digits(claim.pass)
+            .saturating_add(digits(claim.txn))
+            .saturating_add(11)
+            .saturating_mul(6),
+        _ => 0,
+    }
+}
+
 /// The width of a step: less for many steps, but always enough for the last step's number.
 fn step_width(steps: &[ShownStep]) -> u64 {
     let number = match steps.last() {
@@ -61,10 +85,13 @@ fn step_width(steps: &[ShownStep]) -> u64 {
 }
 
 impl Grid {
-    pub(crate) fn new(layout: &Lanes, steps: &[ShownStep]) -> Grid {
+    pub(crate) fn new(layout: &Lanes, owners: &[Option<Claim>], steps: &[ShownStep]) -> Grid {
         let mut left = 80;
         for lane in &layout.lanes {
             left = left.max(name_width(lane));
+        }
+        for owner in owners {
+            left = left.max(owner_width(owner));
         }
         Grid {
             left: left.saturating_add(24),
@@ -84,9 +111,23 @@ impl Grid {
         self.step
     }
 
+    /// In how many blocks the steps stand. Each block begins with the lanes' names.
+    pub(crate) fn blocks(self) -> u64 {
+        (self.steps.saturating_sub(1) / STEPS_BETWEEN).saturating_add(1)
+    }
+
+    /// The left edge of a block, from 0: where the column with the lanes' names begins.
+    pub(crate) fn block(self, index: u64) -> u64 {
+        self.left
+            .saturating_add(self.step.saturating_mul(STEPS_BETWEEN))
+            .saturating_mul(index)
+    }
+
     /// The middle of the step with this number.
     pub(crate) fn x(self, number: u64) -> u64 {
         self.left
+            .saturating_mul(number.saturating_sub(1) / STEPS_BETWEEN)
+            .saturating_add(self.left)
             .saturating_add(self.step.saturating_mul(number))
             .saturating_sub(self.step / 2)
     }
@@ -94,6 +135,7 @@ impl Grid {
     /// The right edge of the lanes.
     pub(crate) fn right(self) -> u64 {
         self.left
+            .saturating_mul(self.blocks())
             .saturating_add(self.step.saturating_mul(self.steps))
     }
 
@@ -107,9 +149,33 @@ impl Grid {
         self.x(number).min(self.right())
     }
 
+    /// Whether there are so many lanes that the top has the legend and numbers too.
+    pub(crate) fn is_tall(self) -> bool {
+        LANES_BETWEEN < self.lanes
+    }
+
+    /// Whether the numbers of the steps stand above the lane with this index.
+    pub(crate) fn has_numbers(self, lane: u64) -> bool {
+        self.is_tall() && lane % LANES_BETWEEN == 0
+    }
+
+    /// The height of the legend and the numbers above the lane with this index.
+    fn above(self, lane: u64) -> u64 {
+        if self.is_tall() {
+            (lane / LANES_BETWEEN)
+                .saturating_add(1)
+                .saturating_mul(NUMBERS)
+                .saturating_add(LEGEND)
+        } else {
+            0
+        }
+    }
+
     /// The top of the lane with this index.
     pub(crate) fn top(self, lane: u64) -> u64 {
-        LANE.saturating_mul(lane).saturating_add(TOP)
+        LANE.saturating_mul(lane)
+            .saturating_add(TOP)
+            .saturating_add(self.above(lane))
     }
 
     /// The middle of the lane with this index.
@@ -124,7 +190,7 @@ impl Grid {
 
     /// The bottom of the last lane.
     pub(crate) fn bottom(self) -> u64 {
-        self.top(self.lanes)
+        self.top(self.lanes.saturating_sub(1)).saturating_add(LANE)
     }
 
     /// The width of the picture.

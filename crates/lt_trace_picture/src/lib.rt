@@ -7,7 +7,7 @@
 //! [`lanes_of`] computes what the picture shows: who has a lane, which bar is in which lane, and who lets whom through.
 //!
 //! Read next: `step.rt` has the input; `cell.rt`, `columns.rt`, `terminal.rt` and `show.rt` make the table; `lanes.rt`
-//! computes the bars, and `svg.rt` draws them. `specs/` defines what is escaped and how, how a cell fits its width, and
+//! computes the bars, `whose.rt` finds whose a request is, and `svg.rt` draws them. `specs/` defines what is escaped and how, how a cell fits its width, and
 //! which bars a lane has. `docs/RULES.md` says what the steps of a key do.
 #![tactic(auto)]
 
@@ -25,9 +25,10 @@ mod step;
 mod svg;
 mod terminal;
 mod timeline;
+mod whose;
 mod words;
 
-pub use columns::Layout;
+pub use columns::{Layout, MOST_QUEUED};
 pub use error::PictureError;
 pub use escape::{put_escaped, put_printable};
 pub use lanes::{Arrow, Bar, Lanes, MOST_STEPS, lanes_of};

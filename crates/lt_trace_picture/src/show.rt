@@ -21,7 +21,7 @@ fn cells_line(alloc: Global, width: usize, step: Option<&ShownStep>) -> Result<V
     ensures printable { IfOk result (λ line. All IsPrintable line.items) }
 {
     let widths = widths(width);
-    let mut line = Vec::new(alloc);
+    let mut line = Vec::with_capacity(alloc, width)?;
     for column in 0..COLUMNS {
         let mut cell = Vec::new(alloc);
         match step {
@@ -132,7 +132,8 @@ pub fn put_heading(out: &mut Vec<u8>, layout: Layout) -> Result<(), AllocError>
 }
 
 /// Appends the line of one step. A cell that is wider than its column is cut and ends in `~`. Without colours, the line
-/// is at most as wide as the layout, and all of it is printable ASCII. With colours it has ANSI sequences besides.
+/// is at most as wide as the layout, and all of it is printable ASCII. With colours it has ANSI sequences besides. Of each
+/// queue, [`MOST_QUEUED`](crate::MOST_QUEUED) entries from the front give the same line as all.
 pub fn put_shown(out: &mut Vec<u8>, layout: Layout, step: &ShownStep) -> Result<(), AllocError>
     ensures { OnOk result (layout.colours ≡ false → AddsLine layout.width out.old.items out.new.items) }
 {

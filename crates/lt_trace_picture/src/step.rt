@@ -1,6 +1,8 @@
 //! What is drawn? Steps of one key, each with the key's state after it, and the state before the first of them.
+ghost use Rattle.std.specs.Prelude.{◌≡◌, ◌↔◌, IsTrue};
+
 use lt_ids::Ticket;
-use lt_rules::{Call, KeyState, Reply};
+use lt_rules::{Call, KeyState, QueuedRequest, QueuedWriter, Reply};
 
 /// A step of a key.
 #[derive(Drop)]
@@ -25,4 +27,29 @@ pub struct ShownRange {
     pub steps: Vec<ShownStep>,
     /// Whether the key has steps after these.
     pub goes_on: bool,
+}
+
+/// Whether the readers are the same.
+fn are_same_readers(before: &[QueuedRequest], after: &[QueuedRequest]) -> bool
+    ensures { IsTrue result ↔ (before.now ≡ after.now) }
+{
+    before == after
+}
+
+/// Whether the writers are the same.
+fn are_same_writers(before: &[QueuedWriter], after: &[QueuedWriter]) -> bool
+    ensures { IsTrue result ↔ (before.now ≡ after.now) }
+{
+    before == after
+}
+
+/// Whether both states of a key are the same: a step between them has changed nothing.
+pub(crate) fn are_equal(before: &KeyState, after: &KeyState) -> bool
+    ensures { IsTrue result ↔ (before.now ≡ after.now) }
+{
+    before.holder == after.holder
+        && before.reservation == after.reservation
+        && before.distinguished == after.distinguished
+        && are_same_writers(&before.writers, &after.writers)
+        && are_same_readers(&before.readers, &after.readers)
 }

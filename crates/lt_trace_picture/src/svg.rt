@@ -12,11 +12,12 @@ use crate::escape::put_escaped;
 use crate::grid::{BAR, Grid};
 use crate::lanes::{Arrow, Bar, Lanes, lanes_of};
 use crate::legend::put_legend;
-use crate::step::{ShownRange, ShownStep};
+use crate::step::{ShownRange, ShownStep, are_equal};
 use crate::timeline::{Lane, Phase, lane_of};
+use crate::whose::{Claim, owners_of};
 use crate::words::{put_state, put_step_words};
 use lt_ids::{Access, Key};
-use lt_rules::{Call, Reply};
+use lt_rules::{Call, KeyState};
 use lt_text::put::put_number;
 use std::alloc::{AllocError, Global};
 
@@ -28,8 +29,10 @@ const STYLE: &[u8] = b"<style>\
 text{font-family:Helvetica,Arial,sans-serif;font-size:13px;fill:#222}\
 .key{font-size:17px;font-weight:bold}\
 .steps,.number{fill:#555}\
-.number{font-size:11px;text-anchor:middle}\
-.name{text-anchor:end}\
+.number{font-size:11px;text-anchor:middle;paint-order:stroke;stroke:#fff;stroke-width:4px}\
+.name,.owner{text-anchor:end}\
+.owner{font-size:11px;fill:#555}\
+.between{fill:#fff;fill-opacity:.85}\
 .letter{font-size:11px;font-weight:bold;text-anchor:middle;pointer-events:none}\
 .even{fill:#f4f5f7}.odd{fill:#fff}\
 .column{fill:#000;fill-opacity:0}.column:hover{fill-opacity:.06}\
@@ -143,26 +146,107 @@ fn put_head(out: &mut Vec<u8>, key: &Key, range: &ShownRange) -> Result<(), Allo
     end_text(out)
 }
 
-/// Appends the background of a lane and its name.
-fn put_lane(out: &mut Vec<u8>, grid: Grid, index: u64, lane: Lane) -> Result<(), AllocError> {
+/// Appends the background of a lane.
+fn put_lane(out: &mut Vec<u8>, grid: Grid, index: u64) -> Result<(), AllocError> {
     let area = Area {
         x: grid.left(),
         y: grid.top(index),
         width: grid.right().saturating_sub(grid.left()),
         height: grid.lane(),
     };
-    put_rect(out, if index % 2 == 0 { b"even" } else { b"odd" }, area)?;
-    start_text(
-        out,
-        b"name",
-        grid.left().saturating_sub(10),
-        grid.middle(index).saturating_add(4),
-    )?;
+    put_rect(out, if index % 2 == 0 { b"even" } else { b"odd" }, area)
+}
+
+/// Appends whose a request is: its pass, and its transaction if it has one.
+fn put_owner(out: &mut Vec<u8>, claim: Claim) -> Result<(), AllocError> {
+    put(out, b"pass ")?;
+    put_number(out, claim.pass)?;
+    if claim.txn > 0 {
+        put(out, b", txn ")?;
+        put_number(out, claim.txn)?;
+    }
+    Ok(())
+}
+
+/// Appends the name of a lane, and below it whose its request is. They end at this x.
+fn put_lane_name(
+    out: &mut Vec<u8>,
+    x: u64,
+    middle: u64,
+    lane: Lane,
+    owner: Option<Claim>,
+) -> Result<(), AllocError> {
+    let Some(claim) = owner else {
+        start_text(out, b"name", x, middle.saturating_add(4))?;
+        put_name(out, lane)?;
+        return end_text(out);
+    };
+    start_text(out, b"name", x, middle.saturating_sub(2))?;
     put_name(out, lane)?;
+    end_text(out)?;
+    start_text(out, b"owner", x, middle.saturating_add(11))?;
+    put_owner(out, claim)?;
     end_text(out)
 }
 
-/// Appends the column of a step: a rule, an area that shows the step's words to a pointer, and the step's number.
+/// Appends the names of the lanes at the start of a block. From the second block on they stand on a white area, which
+/// lets the bars shine through.
+fn put_names(
+    out: &mut Vec<u8>,
+    grid: Grid,
+    block: u64,
+    lanes: &[Lane],
+    owners: &[Option<Claim>],
+) -> Result<(), AllocError> {
+    if block > 0 {
+        let area = Area {
+            x: grid.block(block),
+            y: grid.top(0),
+            width: grid.left(),
+            height: grid.bottom().saturating_sub(grid.top(0)),
+        };
+        put_rect(out, b"between", area)?;
+    }
+    let x = grid
+        .block(block)
+        .saturating_add(grid.left())
+        .saturating_sub(10);
+    for index in 0..lanes.len().min(owners.len()) {
+        put_lane_name(
+            out,
+            x,
+            grid.middle(index as u64),
+            lanes[index],
+            owners[index],
+        )?;
+    }
+    Ok(())
+}
+
+/// Appends the number of a step.
+fn put_step_number(out: &mut Vec<u8>, x: u64, y: u64, index: u64) -> Result<(), AllocError> {
+    start_text(out, b"number", x, y)?;
+    put_number(out, index)?;
+    end_text(out)
+}
+
+/// Appends the number of a step below the lanes, and above some of them if there are many.
+fn put_step_numbers(
+    out: &mut Vec<u8>,
+    grid: Grid,
+    lanes: u64,
+    x: u64,
+    index: u64,
+) -> Result<(), AllocError> {
+    for lane in 0..lanes {
+        if grid.has_numbers(lane) {
+            put_step_number(out, x, grid.top(lane).saturating_sub(8), index)?;
+        }
+    }
+    put_step_number(out, x, grid.bottom().saturating_add(18), index)
+}
+
+/// Appends the column of a step: a rule, and an area that shows the step's words to a pointer.
 fn put_step_column(
     out: &mut Vec<u8>,
     grid: Grid,
@@ -179,10 +263,7 @@ fn put_step_column(
     };
     start_titled_rect(out, b"column", area)?;
     put_step_words(out, step)?;
-    end_titled_rect(out)?;
-    start_text(out, b"number", x, grid.bottom().saturating_add(18))?;
-    put_number(out, step.index)?;
-    end_text(out)
+    end_titled_rect(out)
 }
 
 /// The class of a phase's bar, and what the phase is in words.
@@ -328,11 +409,12 @@ fn letter(call: Call) -> &'static [u8] {
     }
 }
 
-/// The class of the marker of a call with this reply. Some replies tell that nothing changed.
-fn marker_class(reply: Reply) -> &'static [u8] {
-    match reply {
-        Reply::TooLong | Reply::Other | Reply::Kept | Reply::Absent => b"marker none",
-        _ => b"marker",
+/// The class of the marker of a step: another one if the key's state after it is the one before it.
+fn marker_class(before: &KeyState, after: &KeyState) -> &'static [u8] {
+    if are_equal(before, after) {
+        b"marker none"
+    } else {
+        b"marker"
     }
 }
 
@@ -342,6 +424,7 @@ fn put_call_marker(
     grid: Grid,
     layout: &Lanes,
     number: u64,
+    before: &KeyState,
     step: &ShownStep,
 ) -> Result<(), AllocError> {
     let lane = lane_of(step.call);
@@ -353,7 +436,7 @@ fn put_call_marker(
     put(out, b"</title>\n")?;
     put_marker(
         out,
-        marker_class(step.reply),
+        marker_class(before, &step.state),
         grid.x(number),
         grid.middle(index as u64),
         letter(step.call),
@@ -368,14 +451,28 @@ fn put_background(
     layout: &Lanes,
     steps: &[ShownStep],
 ) -> Result<(), AllocError> {
-    let mut index = 0u64;
-    for lane in &layout.lanes {
-        put_lane(out, grid, index, *lane)?;
-        index = index.saturating_add(1);
+    let lanes = layout.lanes.len() as u64;
+    for index in 0..lanes {
+        put_lane(out, grid, index)?;
     }
     let mut number = 1u64;
     for step in steps {
         put_step_column(out, grid, number, step)?;
+        number = number.saturating_add(1);
+    }
+    Ok(())
+}
+
+/// Appends the numbers of the steps, over the arrows.
+fn put_numbers(
+    out: &mut Vec<u8>,
+    grid: Grid,
+    lanes: u64,
+    steps: &[ShownStep],
+) -> Result<(), AllocError> {
+    let mut number = 1u64;
+    for step in steps {
+        put_step_numbers(out, grid, lanes, grid.x(number), step.index)?;
         number = number.saturating_add(1);
     }
     Ok(())
@@ -393,8 +490,10 @@ fn put_foreground(
     }
     put_arrows(out, grid, &layout.arrows)?;
     let mut number = 1u64;
+    let mut before = &range.before;
     for step in &range.steps {
-        put_call_marker(out, grid, layout, number, step)?;
+        put_call_marker(out, grid, layout, number, before, step)?;
+        before = &step.state;
         number = number.saturating_add(1);
     }
     Ok(())
@@ -407,11 +506,16 @@ pub(crate) fn put_picture(
     layout: &Lanes,
     range: &ShownRange,
 ) -> Result<(), AllocError> {
-    let grid = Grid::new(layout, &range.steps);
+    let owners = owners_of(*out.allocator(), &layout.lanes, range)?;
+    let grid = Grid::new(layout, &owners, &range.steps);
     put_start(out, grid)?;
     put_head(out, key, range)?;
     put_background(out, grid, layout, &range.steps)?;
     put_foreground(out, grid, layout, range)?;
+    put_numbers(out, grid, layout.lanes.len() as u64, &range.steps)?;
+    for block in 0..grid.blocks() {
+        put_names(out, grid, block, &layout.lanes, &owners)?;
+    }
     put_legend(out, grid)?;
     put(out, b"</svg>\n")
 }

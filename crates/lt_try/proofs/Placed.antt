@@ -3,14 +3,14 @@ use Rattle.std.proofs.Common.{◌≡◌, ◌∙◌, ℕ, ◌+◌, ◌<◌, List,
 use Rattle.std.proofs.lemmas.List.{get_or-map, length-map, map-append}
 use Rattle.lt_words.specs.Row.{Opening}
 use Rattle.lt_shard.specs.Shards.{View}
-use Rattle.lt_try.specs.declared.slot.Home.{Home}
-use Rattle.lt_try.specs.Homes.{IsPlaced, LivesAt, ArePlaced, IsHome, AreHomes}
+use Rattle.lt_try.specs.declared.slot.ShardTag.{ShardTag}
+use Rattle.lt_try.specs.Tags.{IsPlaced, IsTagged, ArePlaced, IsTag, AreTags}
 use Rattle.lt_walk.proofs.Ends.{at_each}
 
 -- the shard in the slot at an index
-pub lives_here : (of : Opening) (max_steps : ℕ) (homes : List Home) (s : ℕ) (home : Home) (v : View) → AreHomes of max_steps homes → s < length homes → home ≡ get_or homes s home → LivesAt home v → IsPlaced of max_steps s v
-lives_here of max_steps homes s home v each lt is lives =
-    let here : IsHome of max_steps s home = subst (IsHome of max_steps s) (sym is) (each s home lt) in record {
+pub placed_by_tag : (of : Opening) (max_steps : ℕ) (tags : List ShardTag) (s : ℕ) (tag : ShardTag) (v : View) → AreTags of max_steps tags → s < length tags → tag ≡ get_or tags s tag → IsTagged tag v → IsPlaced of max_steps s v
+placed_by_tag of max_steps tags s tag v each lt is lives =
+    let here : IsTag of max_steps s tag = subst (IsTag of max_steps s) (sym is) (each s tag lt) in record {
       book_is = lives.book_is ∙ here.of_is;
       index_is = lives.index_is ∙ here.number_is;
       limit_is = lives.limit_is ∙ here.most_is;
@@ -23,9 +23,9 @@ one_more P f xs ys x each grown last =
     (λ s d lt. at_each P (map f xs) (f x) (length xs) (sym (length-map xs f)) (λ k e less. each k e (omega (arith, less, length-map xs f))) last s d (omega (arith, lt, length-append (map f xs) (f x ∷ []), length-map xs f)))
 
 -- one more slot
-pub home_more : (of : Opening) (max_steps : ℕ) (xs ys : List Home) (x : Home) → AreHomes of max_steps xs → ys ≡ xs ++ x ∷ [] → IsHome of max_steps (length xs) x → AreHomes of max_steps ys
-home_more of max_steps xs ys x each grown last =
-    subst (AreHomes of max_steps) (sym grown) (λ s d lt. at_each (IsHome of max_steps) xs x (length xs) refl each last s d (omega (arith, lt, length-append xs (x ∷ []))))
+pub tag_more : (of : Opening) (max_steps : ℕ) (xs ys : List ShardTag) (x : ShardTag) → AreTags of max_steps xs → ys ≡ xs ++ x ∷ [] → IsTag of max_steps (length xs) x → AreTags of max_steps ys
+tag_more of max_steps xs ys x each grown last =
+    subst (AreTags of max_steps) (sym grown) (λ s d lt. at_each (IsTag of max_steps) xs x (length xs) refl each last s d (omega (arith, lt, length-append xs (x ∷ []))))
 
 -- the shard at an index, seen through f
 pub placed_at : {A : Type 0} (f : A → View) (of : Opening) (max_steps : ℕ) (xs : List A) (k : ℕ) (x : A) → ArePlaced of max_steps (map f xs) → k < length xs → x ≡ get_or xs k x → IsPlaced of max_steps k (f x)

@@ -1,2 +1,2 @@
-pub mod Homes
+pub mod Tags
 pub mod Refused

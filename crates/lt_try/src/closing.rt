@@ -7,10 +7,10 @@ ghost use Rattle.std.specs.List.{All};
 ghost use Rattle.lt_shard.specs.Shards.{View};
 ghost use Rattle.lt_words.specs.Row.{SeesMore};
 ghost use Rattle.lt_walk.specs.Closed.{passes_of, AreCounted, IsMiscount, IsEnded, AreEnded, IsClosed, IsClosedRest, AreRestsOf, AreWhole, IsRoomFor, IsUnclosed, IsGivenBack};
-ghost use Rattle.lt_try.specs.Homes.{IsPlaced, LivesAt, ArePlaced, AreHomes};
+ghost use Rattle.lt_try.specs.Tags.{IsPlaced, IsTagged, ArePlaced, AreTags};
 
 use crate::error::TryError;
-use crate::slot::{Home, LodgedShard, ShardSlot};
+use crate::slot::{BoxedShard, ShardSlot, ShardTag};
 use crate::table::TryTable;
 use counted_slot::Counted;
 use lt_entry::Entry;
@@ -45,46 +45,46 @@ impl<T: KeyTable + Drop, M: EmptyTables<T> + Drop, W: Waker + Drop> TryCloseRefu
     }
 }
 
-/// Takes the shards out of their slots, in order. `rooms` is empty and has room for them. `None` if a shard is not there.
-fn rooms_of<T: KeyTable + Drop>(
+/// Takes the shards out of their slots, in order. `boxes` is empty and has room for them. `None` if a shard is not there.
+fn boxes_of<T: KeyTable + Drop>(
     book: &Book,
     slots: Vec<ShardSlot<T>>,
     max_steps: u64,
-    mut rooms: Vec<LodgedShard<T>>,
-) -> Option<Vec<LodgedShard<T>>>
-    requires homes { AreHomes book.now max_steps slots.items }
-    requires empty { rooms.items ≡ [] }
-    requires room { length slots.items ≤ vec_capacity rooms }
+    mut boxes: Vec<BoxedShard<T>>,
+) -> Option<Vec<BoxedShard<T>>>
+    requires tags { AreTags book.now max_steps slots.items }
+    requires empty { boxes.items ≡ [] }
+    requires room { length slots.items ≤ vec_capacity boxes }
     ensures many { IfSome result (λ all. length all.items ≡ length slots.items) }
     ensures each { IfSome result (λ all. ArePlaced book.now max_steps (map (λ r. r.shard.value) all.items)) }
 {
     for slot in slots {
-        let room = slot.into_inner()?;
-        rooms.push_reserved(room);
+        let boxed = slot.into_inner()?;
+        boxes.push_reserved(boxed);
     }
-    Some(rooms)
+    Some(boxes)
 }
 
 /// Puts each shard back into a slot, in order. `slots` is empty and has room for them.
 fn slots_of<T: KeyTable + Drop>(
     book: &Book,
-    rooms: Vec<LodgedShard<T>>,
+    boxes: Vec<BoxedShard<T>>,
     max_steps: u64,
     mut slots: Vec<ShardSlot<T>>,
 ) -> Vec<ShardSlot<T>>
-    requires placed { ArePlaced book.now max_steps (map (λ r. r.shard.value) rooms.items) }
+    requires placed { ArePlaced book.now max_steps (map (λ r. r.shard.value) boxes.items) }
     requires empty { slots.items ≡ [] }
-    requires room { length rooms.items ≤ vec_capacity slots }
-    ensures many { length result.items ≡ length rooms.items }
-    ensures each { AreHomes book.now max_steps result.items }
+    requires room { length boxes.items ≤ vec_capacity slots }
+    ensures many { length result.items ≡ length boxes.items }
+    ensures each { AreTags book.now max_steps result.items }
 {
-    for room in rooms {
-        let home = Home {
+    for boxed in boxes {
+        let tag = ShardTag {
             start: book.front(),
             index: slots.len(),
             max_steps,
         };
-        slots.push_reserved(Counted::new(Some(room), &home));
+        slots.push_reserved(Counted::new(Some(boxed), &tag));
     }
     slots
 }
@@ -92,20 +92,20 @@ fn slots_of<T: KeyTable + Drop>(
 /// Names the first shard that is not counted in the sense of `is_counted`.
 fn count_fault<T: KeyTable>(
     book: &Book,
-    rooms: &[LodgedShard<T>],
+    boxes: &[BoxedShard<T>],
     wanted: Wanted,
     passes: &[Pass],
     guards: &[Guard],
 ) -> Option<CloseError>
-    requires many { length rooms.now ≡ book.now.shards }
+    requires many { length boxes.now ≡ book.now.shards }
     requires passes { All (λ p. p.of ≡ book.now) passes.now }
     requires guards { All (λ g. g.pass.of ≡ book.now) guards.now }
-    ensures none { IfNone result (AreCounted wanted (passes_of passes.now guards.now) (map (λ r. r.shard.value) rooms.now) book.now.shards) }
-    ensures some { IfSome result (IsMiscount wanted (passes_of passes.now guards.now) (map (λ r. r.shard.value) rooms.now)) }
+    ensures none { IfNone result (AreCounted wanted (passes_of passes.now guards.now) (map (λ r. r.shard.value) boxes.now) book.now.shards) }
+    ensures some { IfSome result (IsMiscount wanted (passes_of passes.now guards.now) (map (λ r. r.shard.value) boxes.now)) }
 {
-    for index in 0..rooms.len() {
-        let room = &rooms[index];
-        if !is_counted(&room.shard, index, wanted, passes, guards) {
+    for index in 0..boxes.len() {
+        let boxed = &boxes[index];
+        if !is_counted(&boxed.shard, index, wanted, passes, guards) {
             return Some(CloseError::Counts(index));
         }
     }
@@ -113,13 +113,13 @@ fn count_fault<T: KeyTable>(
 }
 
 /// Lets the pass meet the shard, and returns what is left of the shard. `None` if the shard was lost.
-fn end_shard<T: KeyTable + Drop>(book: &Book, room: LodgedShard<T>, last: &mut Pass) -> Option<Rest>
-    requires book { room.shard.value.front.of ≡ book.now }
+fn end_shard<T: KeyTable + Drop>(book: &Book, boxed: BoxedShard<T>, last: &mut Pass) -> Option<Rest>
+    requires book { boxed.shard.value.front.of ≡ book.now }
     requires pass { last.old.of ≡ book.now }
-    ensures ended { IfSome result (IsEnded book.now last.old last.new room.shard.value.index room.shard.value) }
+    ensures ended { IfSome result (IsEnded book.now last.old last.new boxed.shard.value.index boxed.shard.value) }
     ensures more { SeesMore last.old last.new }
 {
-    let LodgedShard { shard } = room;
+    let BoxedShard { shard } = boxed;
     let mut shard = Box::into_inner(shard);
     if !shard.meet_once(book, last) {
         return None;
@@ -130,29 +130,29 @@ fn end_shard<T: KeyTable + Drop>(book: &Book, room: LodgedShard<T>, last: &mut P
 /// Lets the pass meet each shard, and returns what is left of each. `None` if a shard was lost.
 fn end_shards<T: KeyTable + Drop>(
     book: &Book,
-    rooms: Vec<LodgedShard<T>>,
+    boxes: Vec<BoxedShard<T>>,
     max_steps: u64,
     last: &mut Pass,
     mut rests: Vec<Rest>,
 ) -> Option<Vec<Rest>>
-    requires placed { ArePlaced book.now max_steps (map (λ r. r.shard.value) rooms.items) }
+    requires placed { ArePlaced book.now max_steps (map (λ r. r.shard.value) boxes.items) }
     requires pass { last.old.of ≡ book.now }
     requires empty { rests.items ≡ [] }
-    requires room { length rooms.items ≤ vec_capacity rests }
-    ensures ended { IfSome result (λ all. AreEnded book.now last.old last.new (map (λ r. r.shard.value) rooms.items) all.items) }
+    requires room { length boxes.items ≤ vec_capacity rests }
+    ensures ended { IfSome result (λ all. AreEnded book.now last.old last.new (map (λ r. r.shard.value) boxes.items) all.items) }
     ensures more { SeesMore last.old last.new }
 {
-    for room in rooms {
-        let rest = end_shard(book, room, last)?;
+    for boxed in boxes {
+        let rest = end_shard(book, boxed, last)?;
         rests.push_reserved(rest);
     }
     Some(rests)
 }
 
-/// LodgedShard for the shards, for their slots if the table comes back, for what is left of them, and for their histories.
+/// Room for the shards, for their slots if the table comes back, for what is left of them, and for their histories.
 #[derive(Drop)]
 struct EndingRoom<T: KeyTable> {
-    rooms: Vec<LodgedShard<T>>,
+    boxes: Vec<BoxedShard<T>>,
     slots: Vec<ShardSlot<T>>,
     rests: Vec<Rest>,
     histories: Vec<Vec<Entry>>,
@@ -165,7 +165,7 @@ fn take_room<T: KeyTable + Drop>(
     passes: &mut Vec<Pass>,
     guards: usize,
 ) -> Result<EndingRoom<T>, CloseError>
-    ensures rooms { IfOk result (λ room. IsRoomFor shards room.rooms) }
+    ensures boxes { IfOk result (λ room. IsRoomFor shards room.boxes) }
     ensures slots { IfOk result (λ room. IsRoomFor shards room.slots) }
     ensures rests { IfOk result (λ room. IsRoomFor shards room.rests) }
     ensures histories { IfOk result (λ room. IsRoomFor shards room.histories) }
@@ -175,7 +175,7 @@ fn take_room<T: KeyTable + Drop>(
 {
     passes.reserve(guards)?;
     Ok(EndingRoom {
-        rooms: Vec::with_capacity(alloc, shards)?,
+        boxes: Vec::with_capacity(alloc, shards)?,
         slots: Vec::with_capacity(alloc, shards)?,
         rests: Vec::with_capacity(alloc, shards)?,
         histories: Vec::with_capacity(alloc, shards)?,
@@ -186,19 +186,19 @@ fn take_room<T: KeyTable + Drop>(
 /// if a shard was lost.
 fn end<T: KeyTable + Drop>(
     book: &Book,
-    rooms: Vec<LodgedShard<T>>,
+    boxes: Vec<BoxedShard<T>>,
     wanted: Wanted,
     mut passes: Vec<Pass>,
     rests: Vec<Rest>,
 ) -> Option<Rests>
     requires some { 0 < length passes.items }
     requires passes { All (λ p. p.of ≡ book.now) passes.items }
-    requires many { length rooms.items ≡ book.now.shards }
-    requires placed { ArePlaced book.now wanted.max_steps (map (λ r. r.shard.value) rooms.items) }
-    requires counted { AreCounted wanted passes.items (map (λ r. r.shard.value) rooms.items) book.now.shards }
+    requires many { length boxes.items ≡ book.now.shards }
+    requires placed { ArePlaced book.now wanted.max_steps (map (λ r. r.shard.value) boxes.items) }
+    requires counted { AreCounted wanted passes.items (map (λ r. r.shard.value) boxes.items) book.now.shards }
     requires keeping { wanted.keeping ≡ book.now.keeping }
     requires empty { rests.items ≡ [] }
-    requires room { length rooms.items ≤ vec_capacity rests }
+    requires room { length boxes.items ≤ vec_capacity rests }
     ensures closed { IfSome result (λ r. IsClosedRest book.now passes.items r.shards.items r.draws) }
     ensures whole { IfSome result (λ r. wanted.whole ≡ true → AreWhole book.now r.shards.items) }
     ensures limit { IfSome result (λ r. All (λ t. length t.entries.items ≤ wanted.max_steps) r.shards.items) }
@@ -208,7 +208,7 @@ fn end<T: KeyTable + Drop>(
     };
     learn_all(&mut last, &passes);
     abandon_all(passes);
-    let Some(shards) = end_shards(book, rooms, wanted.max_steps, &mut last, rests) else {
+    let Some(shards) = end_shards(book, boxes, wanted.max_steps, &mut last, rests) else {
         last.abandon();
         return None;
     };
@@ -249,7 +249,7 @@ impl<T: KeyTable + Drop, M: EmptyTables<T> + Drop, W: Waker + Drop> TryTable<T, 
         requires passes { All (λ p. p.of ≡ self.of) passes.items }
         requires guards { All (λ g. g.pass.of ≡ self.of) guards.items }
         requires back { self.config.passes ≤ length passes.items + length guards.items }
-        requires rooms { IsRoomFor self.config.shards room.rooms }
+        requires boxes { IsRoomFor self.config.shards room.boxes }
         requires slots { IsRoomFor self.config.shards room.slots }
         requires rests { IsRoomFor self.config.shards room.rests }
         requires histories { IsRoomFor self.config.shards room.histories }
@@ -269,7 +269,7 @@ impl<T: KeyTable + Drop, M: EmptyTables<T> + Drop, W: Waker + Drop> TryTable<T, 
             tables,
             waker,
         } = self;
-        let Some(rooms) = rooms_of(&book, slots, config.max_steps, room.rooms) else {
+        let Some(boxes) = boxes_of(&book, slots, config.max_steps, room.boxes) else {
             abandon_all(passes);
             abandon_guards(guards);
             return Err(TryError::Lost);
@@ -279,8 +279,8 @@ impl<T: KeyTable + Drop, M: EmptyTables<T> + Drop, W: Waker + Drop> TryTable<T, 
             max_steps: config.max_steps,
             keeping: book.keeping(),
         };
-        if let Some(error) = count_fault(&book, &rooms, wanted, &passes, &guards) {
-            let slots = slots_of(&book, rooms, config.max_steps, room.slots);
+        if let Some(error) = count_fault(&book, &boxes, wanted, &passes, &guards) {
+            let slots = slots_of(&book, boxes, config.max_steps, room.slots);
             let table = TryTable {
                 config,
                 book,
@@ -291,7 +291,7 @@ impl<T: KeyTable + Drop, M: EmptyTables<T> + Drop, W: Waker + Drop> TryTable<T, 
             return Ok(Err(refusal(table, passes, guards, error)));
         }
         let passes = all_passes(passes, guards);
-        let Some(rests) = end(&book, rooms, wanted, passes, room.rests) else {
+        let Some(rests) = end(&book, boxes, wanted, passes, room.rests) else {
             return Err(TryError::Lost);
         };
         Ok(Ok(ClosedTable {

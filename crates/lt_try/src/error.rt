@@ -1,7 +1,8 @@
 use lt_shard::OnceError;
 use thiserror::Error;
 
-/// Why a call was refused. Nothing was done.
+/// Why a step was refused. The pass or the guard is as it was. After `Lost` the shard is a new one, over an empty table; after
+/// the others no step was made.
 #[derive(Clone, Copy, Debug, PartialEq, Eq, Drop, Error)]
 pub enum TryError {
     /// The shard holds as many steps as it may.
@@ -13,8 +14,8 @@ pub enum TryError {
     /// Another caller is in the shard. Call again.
     #[error("another caller is in the shard")]
     Busy,
-    /// Another value of this shard made a step in the book. No table that was opened has two values of one shard, but no
-    /// contract knows that: it cannot see what a slot holds.
+    /// Another value of this shard made a step in the book, or a shard was not in its slot at the close. No table that was
+    /// opened has two values of one shard, but no contract knows that: it cannot see what a slot holds.
     #[error("the shard is not the one of its table")]
     Lost,
 }

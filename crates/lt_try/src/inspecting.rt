@@ -26,11 +26,11 @@ impl<T: KeyTable + Drop, M: EmptyTables<T>, W: Waker> TryTable<T, M, W> {
         ensures never_full { result ≢ Err TryError.HistoryFull }
     {
         let index = self.shard_of(key);
-        let Some(mut room) = self.take_shard(index) else {
+        let Some(mut boxed) = self.take_shard(index) else {
             return Err(TryError::Busy);
         };
-        let found = room.shard.inspect_once(&self.book, pass, key);
-        self.put_shard(index, room);
+        let found = boxed.shard.inspect_once(&self.book, pass, key);
+        self.put_shard(index, boxed);
         Ok(found?)
     }
 
@@ -56,11 +56,11 @@ impl<T: KeyTable + Drop, M: EmptyTables<T>, W: Waker> TryTable<T, M, W> {
         ensures err { OnErr result (pass.new ≡ pass.old) }
         ensures never_full { result ≢ Err TryError.HistoryFull }
     {
-        let Some(mut room) = self.take_shard(shard) else {
+        let Some(mut boxed) = self.take_shard(shard) else {
             return Err(TryError::Busy);
         };
-        let all = room.shard.locked_keys_once(&self.book, pass);
-        self.put_shard(shard, room);
+        let all = boxed.shard.locked_keys_once(&self.book, pass);
+        self.put_shard(shard, boxed);
         Ok(all?)
     }
 
@@ -85,13 +85,13 @@ impl<T: KeyTable + Drop, M: EmptyTables<T>, W: Waker> TryTable<T, M, W> {
         ensures err { OnErr result (pass.new ≡ pass.old) }
         ensures never_full { result ≢ Err TryError.HistoryFull }
     {
-        let Some(mut room) = self.take_shard(shard) else {
+        let Some(mut boxed) = self.take_shard(shard) else {
             return Err(TryError::Busy);
         };
-        let first = room
+        let first = boxed
             .shard
             .locked_keys_after_once(&self.book, pass, after, at_most);
-        self.put_shard(shard, room);
+        self.put_shard(shard, boxed);
         Ok(first?)
     }
 }

@@ -24,7 +24,6 @@ mod taking;
 
 pub use closing::TryCloseRefused;
 pub use error::TryError;
-pub use letting::LetNotes;
 pub use linked::LinkedTables;
 pub use lt_shard::{Answer, EmptyTables, KeyState, Rest};
 pub use lt_walk::{

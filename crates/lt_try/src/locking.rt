@@ -14,12 +14,12 @@ use lt_shard::{Answer, EmptyTables};
 use lt_walk::{Guard, KeySteps, look_on, step_in};
 use lt_words::{Keeping, Pass, Waker};
 
-/// Each call makes one key step in the key's shard. It is refused if another caller is in the shard, if the shard holds
-/// as many steps as it may (a shard that records none never does), or if an allocation fails. After a refusal nothing
-/// has changed.
+/// Each call makes one key step in the key's shard. It is refused if another caller is in the shard (`Busy`), if the shard
+/// holds as many steps as it may (a shard that records none never does), or if an allocation fails. After a refusal the
+/// pass is as it was ([`TryError`] says more of `Lost`).
 ///
-/// In a table that records no steps, an update, a finish and a look are refused only while another caller is in the
-/// shard: whoever holds a lock can always give it up.
+/// In a table that records no steps, an update, a finish and a look are refused only as `Busy` or `Lost`: whoever holds a
+/// lock can give it up as soon as nobody else is in the shard.
 impl<T: KeyTable + Drop, M: EmptyTables<T>, W: Waker> TryTable<T, M, W> {
     /// The transaction takes the lock of the key, or raises the timestamp of the lock that it holds.
     pub fn acquire(

@@ -2,15 +2,15 @@
 //! `lt_walk` make the book, in one of the three ways of keeping steps.
 ghost use Rattle.std.specs.Prelude.{◌≡◌, ◌≤◌, ◌<◌, ◌^◌, IfOk, length, map};
 ghost use Rattle.std.specs.List.{All};
-ghost use Rattle.lt_words.specs.Row.{AreFresh, AreNoting, OwesNoWakeUp, fresh_passes, quiet};
-ghost use Rattle.lt_try.specs.Homes.{AreHomes, IsHome};
+ghost use Rattle.lt_words.specs.Row.{AreFresh, AreNoting, fresh_passes};
+ghost use Rattle.lt_try.specs.Tags.{AreTags, IsTag};
 
-use crate::slot::{Home, LodgedShard, ShardSlot};
+use crate::slot::{BoxedShard, ShardSlot, ShardTag};
 use crate::table::TryTable;
 use counted_slot::Counted;
 use lt_rules::KeyTable;
 use lt_shard::{EmptyTables, Shard};
-use lt_walk::{Ready, ReadyParts, parts_of};
+use lt_walk::{Ready, ReadyParts, noting_lets, parts_of};
 use lt_words::{Book, Pass, Waker, abandon_all};
 use std::alloc::{AllocError, Global};
 
@@ -25,16 +25,16 @@ fn new_slot<T: KeyTable + Drop, M: EmptyTables<T>>(
     requires index { index < book.now.shards }
     requires low { 1 ≤ max_steps }
     requires high { max_steps ≤ 2 ^ 32 }
-    ensures { IfOk result (λ home. IsHome book.now max_steps index home) }
+    ensures { IfOk result (λ tag. IsTag book.now max_steps index tag) }
 {
     let shard = Shard::new(alloc, tables.empty_table(), book, index, max_steps);
     let shard = Box::new(alloc, shard)?;
-    let home = Home {
+    let tag = ShardTag {
         start: book.front(),
         index,
         max_steps,
     };
-    Ok(Counted::new(Some(LodgedShard { shard }), &home))
+    Ok(Counted::new(Some(BoxedShard { shard }), &tag))
 }
 
 /// The slots of a new book's shards, in order.
@@ -49,30 +49,13 @@ fn new_slots<T: KeyTable + Drop, M: EmptyTables<T>>(
     requires low { 1 ≤ max_steps }
     requires high { max_steps ≤ 2 ^ 32 }
     ensures many { IfOk result (λ slots. length slots.items ≡ shards) }
-    ensures each { IfOk result (λ slots. AreHomes book.now max_steps slots.items) }
+    ensures each { IfOk result (λ slots. AreTags book.now max_steps slots.items) }
 {
     let mut slots = Vec::new(alloc);
     for index in 0..shards {
         slots.push(new_slot(alloc, book, tables, index, max_steps)?)?;
     }
     Ok(slots)
-}
-
-/// Lets each pass note every let, for a waker. If an allocation fails, the passes are given up.
-fn noting_lets(passes: Vec<Pass>) -> Result<Vec<Pass>, AllocError>
-    requires { All (λ p. OwesNoWakeUp p) passes.items }
-    ensures same { IfOk result (λ noting. map quiet noting.items ≡ map quiet passes.items) }
-    ensures noting { IfOk result (λ noting. AreNoting (length passes.items) noting.items) }
-{
-    let mut noting = passes;
-    let room = noting.len();
-    for index in 0..noting.len() {
-        if noting[index].note_each_let(room).is_err() {
-            abandon_all(noting);
-            return Err(AllocError);
-        }
-    }
-    Ok(noting)
 }
 
 impl<T: KeyTable + Drop, M: EmptyTables<T> + Drop> TryTable<T, M> {

@@ -4,11 +4,11 @@ ghost use Rattle.lt_entry.specs.Ranges.{NamesNumber};
 ghost use Rattle.lt_words.specs.History.{shard_of};
 ghost use Rattle.lt_words.specs.Row.{awoken};
 ghost use Rattle.lt_walk.specs.Reported.{ReportsCall};
-ghost use Rattle.lt_try.specs.Homes.{IsPlaced};
+ghost use Rattle.lt_try.specs.Tags.{IsPlaced};
 ghost use Rattle.lt_try.specs.Refused.{RefusesCallWith};
 
 use crate::error::TryError;
-use crate::slot::{LodgedShard, ShardSlot, put_back, take_out};
+use crate::slot::{BoxedShard, ShardSlot, put_back, take_out};
 use lt_ids::Key;
 use lt_rules::{Call, KeyTable};
 use lt_shard::{Answer, EmptyTables};
@@ -30,7 +30,7 @@ pub struct TryTable<T: KeyTable, M: EmptyTables<T>, W: Waker = ()> {
 impl<T: KeyTable, M: EmptyTables<T>, W: Waker> Model for TryTable<T, M, W> {
     ghost use Rattle.std.specs.Prelude.{◌≡◌, length};
     ghost use Rattle.lt_walk.specs.Configs.{IsOpened};
-    ghost use Rattle.lt_try.specs.Homes.{TableState, AreHomes};
+    ghost use Rattle.lt_try.specs.Tags.{TableState, AreTags};
 
     ghost Value = { TableState };
 
@@ -38,31 +38,31 @@ impl<T: KeyTable, M: EmptyTables<T>, W: Waker> Model for TryTable<T, M, W> {
 
     ghost invariant = { λ t.
         IsOpened t.config t.book × (length t.slots.items ≡ t.book.shards)
-        × AreHomes t.book t.config.max_steps t.slots.items };
+        × AreTags t.book t.config.max_steps t.slots.items };
 }
 
 /// Makes the call at the key, which is in this shard. The pass has then still to wake whom the step let through.
 #[inline(always)]
 fn step_inside<T: KeyTable + Drop, M: EmptyTables<T>>(
-    room: &mut LodgedShard<T>,
+    boxed: &mut BoxedShard<T>,
     tables: &M,
     book: &Book,
     pass: &mut Pass,
     key: &Key,
     call: &Call,
 ) -> Result<Answer, TryError>
-    requires book { book.now ≡ room.old.shard.value.front.of }
+    requires book { book.now ≡ boxed.old.shard.value.front.of }
     requires pass { pass.old.of ≡ book.now }
-    requires home { room.old.shard.value.index ≡ shard_of key.now book.now.shards }
+    requires shard { boxed.old.shard.value.index ≡ shard_of key.now book.now.shards }
     requires number { NamesNumber call.now }
     ensures ok { IfOk result (λ a. ReportsCall pass.old (awoken pass.new) key.now call.now a) }
     ensures err { OnErr result (pass.new ≡ pass.old) }
     ensures refused { IfErr result (λ e. RefusesCallWith book.now.keeping call.now e) }
-    ensures of { room.new.shard.value.front.of ≡ room.old.shard.value.front.of }
-    ensures index { room.new.shard.value.index ≡ room.old.shard.value.index }
-    ensures max_steps { room.new.shard.value.max_steps ≡ room.old.shard.value.max_steps }
+    ensures of { boxed.new.shard.value.front.of ≡ boxed.old.shard.value.front.of }
+    ensures index { boxed.new.shard.value.index ≡ boxed.old.shard.value.index }
+    ensures max_steps { boxed.new.shard.value.max_steps ≡ boxed.old.shard.value.max_steps }
 {
-    match room.shard.step_once(tables, book, pass, key, call) {
+    match boxed.shard.step_once(tables, book, pass, key, call) {
         Ok(answer) => Ok(answer),
         Err(error) => Err(TryError::from(error)),
     }
@@ -79,21 +79,21 @@ impl<T: KeyTable + Drop, M: EmptyTables<T>, W: Waker> TryTable<T, M, W> {
 
     /// Takes the shard with this index out of its slot, if no other caller is in it.
     #[inline(always)]
-    pub(crate) fn take_shard(&self, index: usize) -> Option<LodgedShard<T>>
+    pub(crate) fn take_shard(&self, index: usize) -> Option<BoxedShard<T>>
         requires { index < self.now.of.shards }
-        ensures { IfSome result (λ room. IsPlaced self.now.of self.now.config.max_steps index room.shard.value) }
+        ensures { IfSome result (λ boxed. IsPlaced self.now.of self.now.config.max_steps index boxed.shard.value) }
     {
-        let room = take_out(&self.slots[index])?;
-        Some(room)
+        let boxed = take_out(&self.slots[index])?;
+        Some(boxed)
     }
 
     /// Puts the shard back into its slot.
     #[inline(always)]
-    pub(crate) fn put_shard(&self, index: usize, room: LodgedShard<T>)
+    pub(crate) fn put_shard(&self, index: usize, boxed: BoxedShard<T>)
         requires index { index < self.now.of.shards }
-        requires placed { IsPlaced self.now.of self.now.config.max_steps index room.shard.value }
+        requires placed { IsPlaced self.now.of self.now.config.max_steps index boxed.shard.value }
     {
-        let _ = put_back(&self.slots[index], room);
+        let _ = put_back(&self.slots[index], boxed);
     }
 }
 
@@ -113,11 +113,11 @@ impl<T: KeyTable + Drop, M: EmptyTables<T>, W: Waker> KeySteps for TryTable<T, M
     #[inline(always)]
     fn step(&self, pass: &mut Pass, key: &Key, call: &Call) -> Result<Answer, TryError> {
         let index = self.shard_of(key);
-        let Some(mut room) = self.take_shard(index) else {
+        let Some(mut boxed) = self.take_shard(index) else {
             return Err(TryError::Busy);
         };
-        let answered = step_inside(&mut room, &self.tables, &self.book, pass, key, call);
-        self.put_shard(index, room);
+        let answered = step_inside(&mut boxed, &self.tables, &self.book, pass, key, call);
+        self.put_shard(index, boxed);
         let answer = answered?;
         // The slot is free again, so the callers that are woken do not find it taken.
         self.book.hand_out(pass, &self.waker);

@@ -1,5 +1,5 @@
 -- The premises of the laws hold together in the example.
-use Rattle.std.proofs.Common.{◌≡◌, ◌≢◌, ℕ, zero, suc, ◌+◌, ◌<◌, ◌≤◌, Bool, true, false, cond, inl, inr, Some, List, [], ◌∷◌, length, map, slice_get, get_or, refl, ap, arith}
+use Rattle.std.proofs.Common.{◌≡◌, ◌≢◌, ℕ, zero, suc, ◌+◌, ◌<◌, ◌≤◌, Bool, true, false, cond, inl, inr, Some, List, [], ◌∷◌, length, map, slice_get, get_or, refl, ap, sym, arith}
 use Rattle.std.specs.Prelude.{slice_index, IsTrue}
 use Rattle.std.specs.Str.{bytes_eq}
 use Rattle.std.specs.List.{AllByRecursion}
@@ -16,7 +16,7 @@ use Rattle.lt_ids.specs.Key.{IsKey, is_key_byte}
 use Rattle.lt_entry.specs.Ranges.{IsInRange, IsTicket}
 use Rattle.lt_words.specs.History.{part, steps_of, IsLegalHistory}
 use Rattle.lt_words.specs.Shown.{AreShown}
-use Rattle.lt_words.specs.Row.{PassState, MakesNoStep, fresh}
+use Rattle.lt_words.specs.Row.{PassState, MakesNoStep, fresh, with_lets}
 use Rattle.lt_walk.specs.Closed.{IsFinal}
 use Rattle.lt_walk.specs.Reported.{Reported, IsPoll}
 use Rattle.lt_walk.specs.declared.scan_results.Poll.TheVariants.{Through}
@@ -44,6 +44,11 @@ no_other : (s a b : ℕ) → s ≢ 0 → slice_index (a ∷ []) s ≡ slice_inde
 no_other zero a b other = absurd (other refl)
 no_other (suc s) a b other = refl
 
+-- a pass that keeps no lets
+none_kept : (lets : List Letting) → with_lets [] lets ≡ []
+none_kept [] = refl
+none_kept (t ∷ ts) = none_kept ts
+
 -- A step at the key that a pass makes and reports, if it stands at this index after all that the pass had seen, and each of
 -- its lets was shown.
 abbrev reported : (number made at : ℕ) (seen seen' : List Event) (shown shown' lets : List Letting) (call : Call) (reply : Reply) → let e = waited_step number call reply lets in
@@ -61,6 +66,7 @@ reported number made at seen seen' shown shown' lets call reply stands later beg
     shown = also_shown;
     takes = (_, refl);
     lets_shown = lets_shown;
+    untold = sym (none_kept lets);
     counted = refl;
     others = λ s other. no_other s (made + 1) made other;
     taken = refl;

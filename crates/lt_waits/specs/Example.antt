@@ -60,7 +60,7 @@ waited_table = record { book = brand_opening.book; shards = 1; passes = 2; keepi
 
 -- a pass that has seen these events and lets, and made this many steps
 abbrev pub pass_after : ℕ → List Event → List Letting → ℕ → PassState
-pass_after number seen shown made = record { of = waited_table; number = number; seen = seen; shown = shown; takes = []; counts = made ∷ []; taken = 0 ∷ []; wakes = wake_ups 0 [] 0 }
+pass_after number seen shown made = record { of = waited_table; number = number; seen = seen; shown = shown; takes = []; counts = made ∷ []; taken = 0 ∷ []; wakes = wake_ups 0 [] 0 [] }
 
 -- pass 1 once it has taken the lock, and once it has freed it
 abbrev pub one_took : PassState

@@ -13,6 +13,8 @@ pub mod Found
 pub mod Passing
 pub mod Ends
 pub mod Waking
+pub mod Noted
+mod LetsLeft
 pub mod Takes
 pub mod Waits
 pub mod Lives

@@ -1,12 +1,13 @@
 -- What a call of the table tells of the steps that it made through a pass.
-use Rattle.std.specs.Prelude.{ℕ, ◌≡◌, ◌≢◌, ◌+◌, nat_eq, if◌then◌else◌, ◌<◌, List, [], ◌∷◌, Result, Ok, Err, Some, slice_get}
+use Rattle.std.specs.Prelude.{ℕ, ◌≡◌, ◌≢◌, ◌+◌, nat_eq, if◌then◌else◌, ◌<◌, List, [], ◌∷◌, ◌++◌, Result, Ok, Err, Some, None, length, slice_get, slice_index_or}
 use Rattle.std.specs.Option.{option_map}
 use mathlib.Core.List.{IsPrefix}
 use Rattle.lt_ids.specs.Ids.{Wait}
+use Rattle.lt_ids.specs.declared.ticket.Through.{Through}
 use Rattle.lt_entry.specs.declared.entry.Entry.{Entry}
-use Rattle.lt_words.specs.History.{shard_of, IsStatus, LetIn}
+use Rattle.lt_words.specs.History.{shard_of, IsStatus, LetIn, IsLetAmong}
 use Rattle.lt_words.specs.Shown.{word_of}
-use Rattle.lt_words.specs.Row.{PassState, SeesMore, Reports, OwesNoWakeUp}
+use Rattle.lt_words.specs.Row.{PassState, SeesMore, Reports, OwesNoWakeUp, with_lets}
 use Rattle.lt_rules.specs.declared.call.Call.{Call}
 use Rattle.lt_rules.specs.declared.call.Call.TheVariants.{Look}
 use Rattle.lt_shard.specs.declared.answer.Answer.{Answer}
@@ -41,6 +42,21 @@ ReportsCall old new key call answer = Reported old new (record { key = key; call
 abbrev pub AreReported : PassState → List Step → PassState → Type 0
 AreReported p [] q = q ≡ p
 AreReported p (x ∷ xs) q = (m : PassState) × Reported p m x × AreReported m xs q
+
+-- the lets of these steps, in order
+abbrev pub lets_reported : (old : PassState) (xs : List Step) (new : PassState) → AreReported old xs new → List Through
+lets_reported old [] new r = []
+lets_reported old (x ∷ xs) new r = r.1.entry.lets ++ lets_reported r.0 xs new r.2
+
+-- Of a pass that keeps lets, exactly the lets of these steps are then left to be told beside those that were left before: the
+-- latest one of each pass that they let through.
+pub record LeavesLets (old new : PassState) (lets : List Through) : Type 0 where
+  pub exact : new.wakes.untold ≡ with_lets old.wakes.untold lets
+  pub each : (pass : ℕ) (ticket : Wait) → IsLetAmong lets pass ticket → pass < length old.wakes.untold → slice_index_or new.wakes.untold pass None ≢ None
+
+-- No let of a reported step is lost on the way to the caller whose step it was.
+abbrev pub LetsAreLeft : Type 0
+LetsAreLeft = (old new : PassState) (xs : List Step) → (r : AreReported old xs new) → LeavesLets old new (lets_reported old xs new r)
 
 -- how many of the steps are of shard s, if there are this many shards
 abbrev pub steps_at : ℕ → ℕ → List Step → ℕ

@@ -3,16 +3,16 @@
 //!
 //! Read next `src/scan_and_poll.rt` and `src/leaving.rt`, the calls that a guard makes, and `GuardState` in
 //! `specs/Reported.antt`, what contracts see of it.
-ghost use Rattle.std.specs.Prelude.{◌≡◌};
+ghost use Rattle.std.specs.Prelude.{◌≡◌, Some, None, IfSome, IfNone, slice_get, slice_set};
 ghost use mathlib.Core.List.{IsPrefix};
 ghost use Rattle.lt_ids.specs.Ids.{IsNumber};
 ghost use Rattle.lt_words.specs.History.{IsLegalHistory};
-ghost use Rattle.lt_words.specs.Row.{SeesMore};
+ghost use Rattle.lt_words.specs.Row.{SeesMore, NoneLeft};
 ghost use Rattle.lt_walk.specs.Reported.{SeesLet};
 
 use crate::walk::Walk;
 use crate::walk_progress::Mode;
-use lt_ids::{Access, Key};
+use lt_ids::{Access, Key, Through};
 use lt_shard::Answer;
 use lt_words::{Front, Pass};
 use std::marker::Model;
@@ -104,6 +104,17 @@ impl Guard {
         ensures walk { self.new.walk ≡ self.old.walk }
     {
         self.pass.learn(front);
+    }
+
+    /// Takes out a let that a step of the guard's pass has made, and of which its caller was not told ([`Pass::next_untold`]).
+    pub fn next_untold(&mut self) -> Option<Through>
+        ensures some { IfSome result (λ t. slice_get self.old.pass.wakes.untold t.pass ≡ Some (Some t.ticket)) }
+        ensures taken { IfSome result (λ t. self.new.pass.wakes.untold ≡ slice_set self.old.pass.wakes.untold t.pass None) }
+        ensures none { IfNone result (NoneLeft self.old.pass.wakes.untold × (self.new ≡ self.old)) }
+        ensures same { self.new.pass ≡ record self.old.pass { wakes = record self.old.pass.wakes { untold = self.new.pass.wakes.untold } } }
+        ensures walk { self.new.walk ≡ self.old.walk }
+    {
+        self.pass.next_untold()
     }
 
     pub(crate) fn into_pass(self) -> Pass

@@ -3,7 +3,7 @@
 //! Each law is the contract of a function that does no work; `specs/Laws.antt` has the statements, over the
 //! definitions alone.
 ghost use Rattle.lt_walk.specs.Laws.{OneKeyList, ReportedStand, ProceedHasPassedEach, ThroughGoesOn, ShownIsThrough, ShownGoesOn, NoWakeUpIsLost, NumbersOfGuardsDiffer, ReportedStandAtClose, OneHolderAtClose, ReadsPassAtClose, NoStepIsMade, LivesGoOn, EachStepIsReportedOnce, ResumedHasPassedEach, ResumedIsOneScan, RefusedPartwayGoesOn};
-ghost use Rattle.lt_walk.specs.Reported.{StepIndicesRise};
+ghost use Rattle.lt_walk.specs.Reported.{StepIndicesRise, LetsAreLeft};
 ghost use Rattle.lt_walk.specs.Taken.{RestFollowsOneReader, RestJoins, TakesJoin};
 ghost use Rattle.lt_walk.specs.Theorem.{TheMainTheorem, TheTheoremSoFar, FreshHaveHeardNothing, HearingGoesOn, ThroughIsTold, CloseIsEnd, RestIsEnd};
 
@@ -71,6 +71,12 @@ pub fn no_wake_up_is_lost()
 /// Two steps that a pass reports of one shard never share an index: the later step has the greater one.
 pub fn indices_rise()
     ensures { StepIndicesRise }
+{}
+
+/// If a pass keeps lets for its caller, each let of its reported steps is left to be told: of each pass the latest one. So a
+/// caller who takes the lets out until none is left, and wakes whom they name, forgets nobody.
+pub fn lets_are_left()
+    ensures { LetsAreLeft }
 {}
 
 /// Two guards do not share a number, if one legal history extends what their passes have seen, and they entered by

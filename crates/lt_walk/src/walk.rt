@@ -179,7 +179,7 @@ impl Walk {
     {
         let must_wait = matches!(&answer.reply, Reply::MustWait);
         let too_long = matches!(&answer.reply, Reply::TooLong);
-        self.progress = met_as(self.progress, must_wait, too_long);
+        met_as(&mut self.progress, must_wait, too_long);
         put(&mut self.answers, answer);
     }
 
@@ -236,7 +236,7 @@ impl Walk {
         requires leaving { self.old.progress.mode ≡ Mode.Leaving }
         ensures { self.new ≡ walk_answered self.old (passed self.old.progress) answer }
     {
-        self.progress = passed(self.progress);
+        passed(&mut self.progress);
         put(&mut self.answers, answer);
     }
 
@@ -256,7 +256,7 @@ fn put(answers: &mut Vec<Answer>, answer: Answer)
     ensures capacity { vec_capacity answers.old ≤ vec_capacity answers.new }
 {
     let reply: Reply = answer.reply;
-    let _room = answers.push(Answer {
+    answers.push_reserved(Answer {
         reply,
         at: answer.at,
     });

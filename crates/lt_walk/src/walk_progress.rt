@@ -83,13 +83,11 @@ pub(crate) fn scan_start(progress: Progress) -> Result<Progress, ScanError>
     match progress.mode {
         Mode::Leaving => Err(ScanError::Leaving),
         Mode::Awaiting => Err(ScanError::StillWaiting),
-        Mode::Let => {
-            let next = passed(progress);
-            Ok(Progress {
-                mode: Mode::Free,
-                ..next
-            })
-        }
+        Mode::Let => Ok(Progress {
+            index: progress.index + 1,
+            mode: Mode::Free,
+            ..progress
+        }),
         Mode::Stopped => Ok(restarted(progress)),
         Mode::Free => Ok(progress),
     }
@@ -102,38 +100,30 @@ pub(crate) fn may_visit(keys: usize, max_waits: u32, progress: Progress) -> bool
     progress.mode == Mode::Free && progress.index < keys && progress.waits < max_waits
 }
 
-/// The progress after a visit: the request has to wait, met a queue that is too long for it, or passed.
-pub(crate) fn met_as(progress: Progress, must_wait: bool, too_long: bool) -> Progress
-    requires index { progress.index < 2 ^ 63 }
-    requires waits { progress.waits < 2 ^ 24 }
-    ensures { result ≡ met_as progress must_wait too_long }
+/// Moves on after a visit: the request has to wait, met a queue that is too long for it, or passed. Only what changes
+/// is written.
+pub(crate) fn met_as(progress: &mut Progress, must_wait: bool, too_long: bool)
+    requires index { progress.old.index < 2 ^ 63 }
+    requires waits { progress.old.waits < 2 ^ 24 }
+    ensures { progress.new ≡ met_as progress.old must_wait too_long }
 {
     if must_wait {
-        Progress {
-            waits: progress.waits + 1,
-            waited: true,
-            mode: Mode::Awaiting,
-            ..progress
-        }
+        progress.waits += 1;
+        progress.waited = true;
+        progress.mode = Mode::Awaiting;
     } else if too_long {
-        Progress {
-            mode: Mode::Stopped,
-            ..progress
-        }
+        progress.mode = Mode::Stopped;
     } else {
-        passed(progress)
+        passed(progress);
     }
 }
 
-/// The progress at the next key.
-pub(crate) fn passed(progress: Progress) -> Progress
-    requires { progress.index < 2 ^ 63 }
-    ensures { result ≡ passed progress }
+/// Moves on to the next key.
+pub(crate) fn passed(progress: &mut Progress)
+    requires { progress.old.index < 2 ^ 63 }
+    ensures { progress.new ≡ passed progress.old }
 {
-    Progress {
-        index: progress.index + 1,
-        ..progress
-    }
+    progress.index += 1;
 }
 
 /// The progress back at the list's start, with nothing to wait for.

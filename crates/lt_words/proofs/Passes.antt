@@ -18,7 +18,7 @@ use Rattle.lt_words.proofs.Cells.{part_snoc}
 
 -- whom a pass has to wake, by what it keeps
 abbrev pub wakes_of : PassRest → WakeUps
-wakes_of r = wake_ups (vec_capacity r.noted) r.noted.items r.sleepers.many
+wakes_of r = wake_ups (vec_capacity r.noted) r.noted.items r.sleepers.many r.untold.tickets.items
 
 -- a seen prefix that grew twice grew
 pub grows_on : (old mid new : FrontState) → FrontGrows old mid → FrontGrows mid new → FrontGrows old new
@@ -184,4 +184,4 @@ commits n old mid new front counts taken w s c count e a b more is many g =
 
 -- a pass that nobody has to be woken for any more, with what it saw before
 pub reports_awoken : (old new : PassState) (s at : ℕ) (e : Entry) → Reports old new s at e → Reports old (awoken new) s at e
-reports_awoken old new s at e r = record { own = r.own; stands = r.stands; later = r.later; seen = r.seen; shown = r.shown; takes = r.takes; lets_shown = r.lets_shown; counted = r.counted; others = r.others; taken = r.taken; of = r.of; number = r.number }
+reports_awoken old new s at e r = record { own = r.own; stands = r.stands; later = r.later; seen = r.seen; shown = r.shown; takes = r.takes; lets_shown = r.lets_shown; untold = r.untold; counted = r.counted; others = r.others; taken = r.taken; of = r.of; number = r.number }

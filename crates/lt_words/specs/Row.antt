@@ -1,8 +1,9 @@
 -- The row of words of a book, what a pass and a front carry, and what a step tells the pass that made it.
-use Rattle.std.specs.Prelude.{ℕ, nat_lt, if◌then◌else◌, ◌≡◌, ◌+◌, ◌<◌, ◌≤◌, List, [], ◌∷◌, ◌++◌, length, slice_index, slice_index_or, slice_set, replicate, map, zero, suc, ◌≢◌, Some, slice_get, Bool, MatchBool}
+use Rattle.std.specs.Prelude.{ℕ, nat_lt, if◌then◌else◌, ◌≡◌, ◌+◌, ◌<◌, ◌≤◌, List, [], ◌∷◌, ◌++◌, length, slice_index, slice_index_or, slice_set, replicate, map, zero, suc, ◌≢◌, Option, Some, None, slice_get, Bool, MatchBool}
 use mathlib.Core.List.{IsPrefix}
 use Rattle.std.specs.List.{All}
 use Rattle.logbook.specs.Pages.{Book}
+use Rattle.lt_ids.specs.Ids.{Wait}
 use Rattle.lt_ids.specs.declared.ticket.Through.{Through}
 use Rattle.lt_words.specs.declared.event.Event.{Event}
 use Rattle.lt_words.specs.declared.event.Event.TheVariants.{Draw, Step}
@@ -76,18 +77,35 @@ pub record FrontGrows (old new : FrontState) : Type 0 where
   pub takes : IsPrefix old.takes new.takes
 
 -- Whom a pass has still to wake for the lets that it showed: for how many lets it has room, so that a waker is called for
--- each; the lets that it has noted for the waker; and how often it has noted that a let's caller sleeps.
+-- each; the lets that it has noted for the waker; how often it has noted that a let's caller sleeps; and the lets of which
+-- its own caller was not told, so that he wakes whom they name: at the index of each pass's number the ticket of its latest
+-- let, or none. A pass whose table wakes everybody itself keeps none, and the list is empty.
 pub record WakeUps : Type 0 where
   pub room : ℕ
   pub lets : List Through
   pub sleepers : ℕ
+  pub untold : List (Option Wait)
 
-abbrev pub wake_ups : ℕ → List Through → ℕ → WakeUps
-wake_ups room lets sleepers = record { room = room; lets = lets; sleepers = sleepers }
+abbrev pub wake_ups : ℕ → List Through → ℕ → List (Option Wait) → WakeUps
+wake_ups room lets sleepers untold = record { room = room; lets = lets; sleepers = sleepers; untold = untold }
 
--- The let was noted if there was room for it, and its caller may have been noted as one that sleeps.
+-- nobody is left to be told of
+abbrev pub NoneLeft : List (Option Wait) → Type 0
+NoneLeft untold = (pass : ℕ) → slice_index_or untold pass None ≡ None
+
+-- the lets of which the caller was not told, with one more
+abbrev pub with_let : List (Option Wait) → Through → List (Option Wait)
+with_let untold t = slice_set untold t.pass (Some t.ticket)
+
+-- the same with these lets, in order
+abbrev pub with_lets : List (Option Wait) → List Through → List (Option Wait)
+with_lets untold [] = untold
+with_lets untold (t ∷ ts) = with_lets (with_let untold t) ts
+
+-- The let was noted if there was room for it, its caller may have been noted as one that sleeps, and it is left to be told.
 pub record NotesLet (old : WakeUps) (t : Through) (new : WakeUps) : Type 0 where
   pub room : new.room ≡ old.room
+  pub untold : new.untold ≡ with_let old.untold t
   pub lets : new.lets ≡ (if nat_lt (length old.lets) old.room then old.lets ++ t ∷ [] else old.lets)
   pub sleepers : old.sleepers ≤ new.sleepers
 
@@ -113,7 +131,7 @@ pass_state number sight counts taken wakes = record { of = sight.of; number = nu
 
 -- the pass when nobody is left to be woken
 abbrev pub awoken : PassState → PassState
-awoken p = record p { wakes = wake_ups p.wakes.room [] 0 }
+awoken p = record p { wakes = wake_ups p.wakes.room [] 0 p.wakes.untold }
 
 -- The pass has nobody to wake.
 abbrev pub OwesNoWakeUp : PassState → Type 0
@@ -197,11 +215,11 @@ pub record MakesNoStep (old new : PassState) : Type 0 where
 
 -- a pass that has seen nothing, made no step and taken none out
 abbrev pub fresh : Opening → ℕ → PassState
-fresh of number = record { of = of; number = number; seen = []; shown = []; takes = []; counts = replicate of.shards 0; taken = replicate of.shards 0; wakes = wake_ups 0 [] 0 }
+fresh of number = record { of = of; number = number; seen = []; shown = []; takes = []; counts = replicate of.shards 0; taken = replicate of.shards 0; wakes = wake_ups 0 [] 0 [] }
 
 -- the pass, but for the wake-ups that it has room for or has still to make
 abbrev pub quiet : PassState → PassState
-quiet p = record p { wakes = wake_ups 0 [] 0 }
+quiet p = record p { wakes = wake_ups 0 [] 0 [] }
 
 -- the passes of a new book, numbered from 1
 abbrev pub fresh_passes : Opening → ℕ → List PassState
@@ -211,7 +229,8 @@ fresh_passes of (suc n) = fresh_passes of n ++ fresh of (suc n) ∷ []
 -- What a step tells its caller. A call of a table that makes one step can pass it on unchanged. Between the states
 -- old and new the pass made this step: the entry names the pass, and it is at this index of the shard's part of
 -- what the pass has then seen, after everything that the pass had seen before. Each of its lets was shown to the
--- pass that waits. The pass counts one more step at this shard, and no more at any other.
+-- pass that waits, and is left to be told if the pass keeps lets for its caller. The pass counts one more step at this
+-- shard, and no more at any other.
 pub record Reports (old new : PassState) (shard at : ℕ) (entry : Entry) : Type 0 where
   pub own : entry.pass ≡ old.number
   pub stands : slice_get (part shard new.seen) at ≡ Some entry
@@ -220,6 +239,7 @@ pub record Reports (old new : PassState) (shard at : ℕ) (entry : Entry) : Type
   pub shown : IsPrefix old.shown new.shown
   pub takes : IsPrefix old.takes new.takes
   pub lets_shown : AreShown new.shown entry.lets
+  pub untold : new.wakes.untold ≡ with_lets old.wakes.untold entry.lets
   pub counted : slice_index new.counts shard ≡ slice_index old.counts shard + 1
   pub others : (s : ℕ) → s ≢ shard → slice_index new.counts s ≡ slice_index old.counts s
   pub taken : new.taken ≡ old.taken
@@ -254,3 +274,7 @@ AreFresh of n ps = map quiet ps ≡ map quiet (fresh_passes of n)
 -- Each of them has room to note this many lets of one step, and has nobody to wake.
 abbrev pub AreNoting : ℕ → List PassState → Type 0
 AreNoting room ps = All (λ p. (room ≤ p.wakes.room) × OwesNoWakeUp p) ps
+
+-- Each of them keeps the lets of its steps for its caller, has none yet, and has nobody to wake.
+abbrev pub AreTelling : List PassState → Type 0
+AreTelling ps = All (λ p. (p.wakes.untold ≡ replicate (p.of.passes + 1) None) × OwesNoWakeUp p) ps

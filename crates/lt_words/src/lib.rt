@@ -35,6 +35,7 @@ mod parking;
 mod pass;
 mod sharding;
 mod sleepers;
+mod untold;
 mod waker;
 
 pub use book::Book;

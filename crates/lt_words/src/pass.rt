@@ -3,18 +3,20 @@
 //!
 //! Read next `src/book.rt`, the calls that a pass makes, and `PassState` in `specs/Row.antt`, what contracts see of
 //! a pass.
-ghost use Rattle.std.specs.Prelude.{◌≡◌, ◌+◌, ◌<◌, ◌≤◌, ◌∷◌, ◌++◌, [], length, slice_index, IfOk, IfSome, IfNone, OnOk, OnErr};
+ghost use Rattle.std.specs.Prelude.{◌≡◌, ◌+◌, ◌<◌, ◌≤◌, ◌∷◌, ◌++◌, [], length, slice_index, IfOk, IfSome, IfNone, OnOk, OnErr, Some, None, replicate, slice_get, slice_set};
 ghost use mathlib.Core.List.{IsPrefix};
+ghost use Rattle.lt_ids.specs.declared.limits.TheConstants.{MAX_PASS};
 ghost use Rattle.lt_words.specs.History.{part, IsLegalHistory};
 ghost use Rattle.lt_words.specs.Shown.{AreLet};
 ghost use Rattle.lt_words.specs.Takes.{taken_of};
-ghost use Rattle.lt_words.specs.Row.{SeesMore, NotesLet, fresh};
+ghost use Rattle.lt_words.specs.Row.{SeesMore, NotesLet, NoneLeft, fresh};
 
 use crate::front::Front;
 use crate::parking::Sleeper;
 use crate::sleepers::Sleepers;
+use crate::untold::Untold;
 use crate::waker::OwedLet;
-use lt_ids::{Access, Key};
+use lt_ids::{Access, Key, Through};
 use std::alloc::{AllocError, Global};
 use std::marker::Model;
 use std::mem;
@@ -40,6 +42,8 @@ pub(crate) struct PassRest {
     pub sleepers: Sleepers,
     /// The lets of the pass's latest step, as far as there is room. There is none, unless a waker is to be called for each.
     pub noted: Vec<OwedLet>,
+    /// The lets that the pass's caller has to be told. There is none, unless the pass keeps them for its caller.
+    pub untold: Untold,
     /// The key list of the latest request, emptied: room for that of the next one.
     pub list: Vec<(Key, Access)>,
 }
@@ -52,6 +56,7 @@ impl PassRest {
             taken: _,
             sleepers: _,
             mut noted,
+            untold: _,
             list: _,
         } = self;
         while let Some(owed) = noted.pop() {
@@ -68,10 +73,10 @@ impl Model for Pass {
     ghost Value = { PassState };
 
     ghost view = { λ p. pass_state p.number p.seen p.rest.value.counts.items p.rest.value.taken.items
-        (wake_ups (vec_capacity p.rest.value.noted) p.rest.value.noted.items p.rest.value.sleepers.many) };
+        (wake_ups (vec_capacity p.rest.value.noted) p.rest.value.noted.items p.rest.value.sleepers.many p.rest.value.untold.tickets.items) };
 
     ghost invariant = { λ p. IsPass (pass_state p.number p.seen p.rest.value.counts.items p.rest.value.taken.items
-        (wake_ups (vec_capacity p.rest.value.noted) p.rest.value.noted.items p.rest.value.sleepers.many)) };
+        (wake_ups (vec_capacity p.rest.value.noted) p.rest.value.noted.items p.rest.value.sleepers.many p.rest.value.untold.tickets.items)) };
 }
 
 impl Pass {
@@ -97,6 +102,7 @@ impl Pass {
             taken,
             sleepers: Sleepers::none(),
             noted: Vec::new(alloc),
+            untold: Untold::none(alloc),
             list: Vec::new(alloc),
         };
         match Box::new(alloc, rest) {
@@ -175,6 +181,31 @@ impl Pass {
         self.rest.noted.reserve(room)
     }
 
+    /// From now on the pass keeps the lets of its steps for its caller, who takes them out with [`Pass::next_untold`] and
+    /// wakes whom they name. `passes` is the number of the book's passes.
+    pub fn keep_lets(&mut self, alloc: Global, passes: usize) -> Result<(), AllocError>
+        requires passes { passes ≡ self.old.of.passes }
+        requires few { passes ≤ MAX_PASS }
+        ensures untold { OnOk result (self.new.wakes.untold ≡ replicate (self.old.of.passes + 1) None) }
+        ensures same { self.new ≡ record self.old { wakes = record self.old.wakes { untold = self.new.wakes.untold } } }
+        ensures err { OnErr result (self.new ≡ self.old) }
+    {
+        let untold = Untold::of_passes(alloc, passes)?;
+        self.rest.untold = untold;
+        Ok(())
+    }
+
+    /// Takes out a let that a step of the pass has made, and of which its caller was not told. If a pass was let through
+    /// twice meanwhile, only its latest let is left.
+    pub fn next_untold(&mut self) -> Option<Through>
+        ensures some { IfSome result (λ t. slice_get self.old.wakes.untold t.pass ≡ Some (Some t.ticket)) }
+        ensures taken { IfSome result (λ t. self.new.wakes.untold ≡ slice_set self.old.wakes.untold t.pass None) }
+        ensures none { IfNone result (NoneLeft self.old.wakes.untold × (self.new ≡ self.old)) }
+        ensures same { self.new ≡ record self.old { wakes = record self.old.wakes { untold = self.new.wakes.untold } } }
+    {
+        self.rest.untold.take()
+    }
+
     /// Takes out the room for the key list of a request: an empty list. It has the room of the list that was put back
     /// last, so a request that names no more keys than that one allocates nothing for its list.
     pub fn take_list(&mut self, alloc: Global) -> Vec<(Key, Access)>
@@ -202,12 +233,14 @@ impl Pass {
         self.rest.sleepers.add(sleeper);
     }
 
-    /// Notes a let for the waker, if there is room. There is none if no waker is to be called.
+    /// Notes a let for the waker, if there is room, and for the pass's caller, if the pass keeps lets. There is no room if no
+    /// waker is to be called.
     pub(crate) fn note(&mut self, owed: OwedLet)
         ensures noted { NotesLet self.old.wakes owed self.new.wakes }
         ensures same { self.new ≡ record self.old { wakes = self.new.wakes } }
     {
         let rest = &mut self.rest;
+        rest.untold.add(owed.through());
         if rest.noted.len() < rest.noted.capacity() {
             rest.noted.push_reserved(owed);
         } else {

@@ -51,6 +51,13 @@ impl OwedLet {
         self.through.pass
     }
 
+    /// The let.
+    pub fn through(&self) -> &Through
+        ensures { result.now ≡ self.now }
+    {
+        &self.through
+    }
+
     /// Calls the waker.
     pub fn hand_to<W: Waker>(self, waker: &W) {
         let OwedLet { through } = self;

@@ -1,9 +1,5 @@
 use Rattle.std.proofs.Common.{◌∙◌, ap, Some, slice_get, sym}
-use Rattle.std.specs.Option.{option_map}
-use Rattle.std.specs.List.{find}
-use Rattle.lt_rules.specs.Rules.{is_eligible}
 use Rattle.lt_links.specs.Maps.{queue}
-use Rattle.lt_row.specs.Row.{request_of, writer_of, record_of, line}
 use Rattle.lt_row.proofs.Rows.{first_cut, first_reader, first_after_readers}
 use Rattle.lt_row.proofs.Written.{stand_is}
 use Rattle.lt_row.proofs.settle.first_waiter.Goals as goal
@@ -17,7 +13,5 @@ returns-in-Some c =
 pub returns-in-None : goal.returns-in-None
 returns-in-None c =
     let m = c.args.links.now in
-    c.first_eligible.ensures
-    ∙ ap (λ o. option_map (λ s. s.number) (find (λ s. is_eligible (option_map request_of o) (writer_of s)) (line m c.queue-in-None.result))) c.reserved.ensures.stand
-    ∙ ap (λ q. option_map (λ s. s.number) (find (λ s. is_eligible (record_of m c.args.row.now).reservation (writer_of s)) (line m q))) c.queue-in-None.ensures
+    c.first_writer.ensures
     ∙ first_after_readers m c.args.row.now (c.in-None.ensures.first ∙ ap (λ q. slice_get (queue m q) 0) c.queue.ensures)

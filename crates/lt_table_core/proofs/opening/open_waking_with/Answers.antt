@@ -1,11 +1,11 @@
 use Rattle.std.proofs.Common.{◌∙◌, ap, length, subst, sym}
 use Rattle.std.specs.List.{All}
 use Rattle.lt_words.specs.Row.{AreNoting, OwesNoWakeUp}
-use Rattle.lt_table_core.proofs.Starts.{fresh_owe_none, many_fresh, quiet_are_of}
+use Rattle.lt_walk.proofs.Noted.{fresh_owe_none, many_fresh, quiet_are_of}
 use Rattle.lt_table_core.proofs.opening.open_waking_with.Goals as goal
 
-pub noting_each-requires : goal.noting_each-requires
-noting_each-requires g c =
+pub noting_lets-requires : goal.noting_lets-requires
+noting_lets-requires g c =
     let of = g.N.Name.of in
     subst (All (λ p. OwesNoWakeUp p)) (sym c.in_ok-table.ensures.passes) (fresh_owe_none of of.passes)
 

@@ -2,7 +2,7 @@ use Rattle.std.proofs.Common.{◌∙◌, ◌≤◌, ◌^◌, subst, sym}
 use Rattle.lt_words.specs.Row.{Opening}
 use Rattle.lt_walk.specs.declared.config.Config.{Config}
 use Rattle.lt_walk.specs.Configs.{IsOpened}
-use Rattle.lt_table_core.proofs.Starts.{handed_are_of}
+use Rattle.lt_walk.proofs.Noted.{handed_are_of}
 use Rattle.lt_table_core.proofs.opening.open_with.Goals as goal
 
 pub slots_over-requires-clause-many : goal.slots_over-requires-clause-many

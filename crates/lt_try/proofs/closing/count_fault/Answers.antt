@@ -37,22 +37,22 @@ is_counted-requires-clause-guards g c = λ k d less. within c.args.book.now _ _ 
 
 pub returns-then-not-is_counted-clause-some : goal.returns-then-not-is_counted-clause-some
 returns-then-not-is_counted-clause-some g c =
-    let room = c.index-rooms-index.result in
-    let here = seen_at (λ r. r.shard.value) c.args.rooms.now c.loop-index.index room c.loop-index-test.true c.index-rooms-index.is in
-    let lt : c.loop-index.index < length (map (λ r. r.shard.value) c.args.rooms.now) = omega (arith, c.loop-index-test.true, length-map c.args.rooms.now (λ r. r.shard.value)) in (
+    let boxed = c.index-boxes-index.result in
+    let here = seen_at (λ r. r.shard.value) c.args.boxes.now c.loop-index.index boxed c.loop-index-test.true c.index-boxes-index.is in
+    let lt : c.loop-index.index < length (map (λ r. r.shard.value) c.args.boxes.now) = omega (arith, c.loop-index-test.true, length-map c.args.boxes.now (λ r. r.shard.value)) in (
       lt,
       c.loop-index.invariant,
       λ v counted. c.if-not-is_counted.ensures.no refl
           (subst (λ (w : View). IsCounted c.args.wanted (passes_of c.args.passes.now c.args.guards.now) c.loop-index.index w)
-          (same_at (map (λ r. r.shard.value) c.args.rooms.now) c.loop-index.index v room.shard.value lt ∙ (sym here ∙ sym c.deref.ensures)) counted),
+          (same_at (map (λ r. r.shard.value) c.args.boxes.now) c.loop-index.index v boxed.shard.value lt ∙ (sym here ∙ sym c.deref.ensures)) counted),
     )
 
 pub loop-index-preserved : goal.loop-index-preserved
 loop-index-preserved g c =
-    let room = c.index-rooms-index.result in
-    let here = seen_at (λ r. r.shard.value) c.args.rooms.now c.loop-index.index room c.loop-index-test.true c.index-rooms-index.is in
-    let lt : c.loop-index.index < length (map (λ r. r.shard.value) c.args.rooms.now) = omega (arith, c.loop-index-test.true, length-map c.args.rooms.now (λ r. r.shard.value)) in
-    one_view_more (IsCounted c.args.wanted (passes_of c.args.passes.now c.args.guards.now)) (map (λ r. r.shard.value) c.args.rooms.now) c.loop-index.index room.shard.value lt here
+    let boxed = c.index-boxes-index.result in
+    let here = seen_at (λ r. r.shard.value) c.args.boxes.now c.loop-index.index boxed c.loop-index-test.true c.index-boxes-index.is in
+    let lt : c.loop-index.index < length (map (λ r. r.shard.value) c.args.boxes.now) = omega (arith, c.loop-index-test.true, length-map c.args.boxes.now (λ r. r.shard.value)) in
+    one_view_more (IsCounted c.args.wanted (passes_of c.args.passes.now c.args.guards.now)) (map (λ r. r.shard.value) c.args.boxes.now) c.loop-index.index boxed.shard.value lt here
     (subst (λ (w : View). IsCounted c.args.wanted (passes_of c.args.passes.now c.args.guards.now) c.loop-index.index w) c.deref.ensures (c.if-not-is_counted.ensures.yes refl)) c.loop-index.invariant
 
 pub returns-clause-none : goal.returns-clause-none

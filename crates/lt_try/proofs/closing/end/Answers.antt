@@ -46,11 +46,11 @@ returns-clause-closed g c =
     let shown : AllByRecursion (λ p. IsPrefix p.shown one.shown) c.args.passes.items = rw joined (all_and_last (λ p. p.shown) c.pop.new.self.items c.in-Some.last one.shown (rw (← c.deref.ensures.value) c.learn_all.ensures.shown) c.learn_all.ensures.more.shown) in
     let of : three.of ≡ c.args.book.now = c.drawn-draws.ensures.more.of ∙ (c.end_shards.ensures.more.of ∙ (c.learn_all.ensures.more.of ∙ of_last (λ p. p.of ≡ c.args.book.now) c.args.passes.items c.pop.new.self.items c.in-Some.last joined c.requires.passes)) in
     let legal : IsLegalHistory c.args.book.now.shards three.seen = subst (λ n. IsLegalHistory n three.seen) (ap (λ o. o.shards) of) c.legal.ensures.legal in
-    ends c.args.book.now c.args.wanted c.args.passes.items (map (λ r. r.shard.value) c.args.rooms.items) c.in-Some-end_shards.shards.items one two three c.drawn-draws.result seen shown c.end_shards.ensures.more.shown c.drawn-draws.ensures.more.shown c.legal.ensures.let_through c.in-Some-end_shards.ensures.ended c.end_shards.ensures.more.seen c.drawn-draws.ensures.more.seen legal c.drawn-draws.ensures.draws
-    (length-map c.args.rooms.items (λ r. r.shard.value) ∙ c.requires.many) c.requires.counted c.requires.keeping (new_shard c.args.book.now 0 0)
+    ends c.args.book.now c.args.wanted c.args.passes.items (map (λ r. r.shard.value) c.args.boxes.items) c.in-Some-end_shards.shards.items one two three c.drawn-draws.result seen shown c.end_shards.ensures.more.shown c.drawn-draws.ensures.more.shown c.legal.ensures.let_through c.in-Some-end_shards.ensures.ended c.end_shards.ensures.more.seen c.drawn-draws.ensures.more.seen legal c.drawn-draws.ensures.draws
+    (length-map c.args.boxes.items (λ r. r.shard.value) ∙ c.requires.many) c.requires.counted c.requires.keeping (new_shard c.args.book.now 0 0)
 
 pub returns-clause-whole : goal.returns-clause-whole
-returns-clause-whole g c = λ yes. ends_whole c.args.book.now c.args.wanted c.args.passes.items (map (λ r. r.shard.value) c.args.rooms.items) c.in-Some-end_shards.shards.items c.learn_all.new.last c.end_shards.new.last c.in-Some-end_shards.ensures.ended (length-map c.args.rooms.items (λ r. r.shard.value) ∙ c.requires.many) c.requires.counted (new_shard c.args.book.now 0 0) yes
+returns-clause-whole g c = λ yes. ends_whole c.args.book.now c.args.wanted c.args.passes.items (map (λ r. r.shard.value) c.args.boxes.items) c.in-Some-end_shards.shards.items c.learn_all.new.last c.end_shards.new.last c.in-Some-end_shards.ensures.ended (length-map c.args.boxes.items (λ r. r.shard.value) ∙ c.requires.many) c.requires.counted (new_shard c.args.book.now 0 0) yes
 
 pub returns-clause-limit : goal.returns-clause-limit
-returns-clause-limit g c = ends_short c.args.book.now c.args.wanted c.args.passes.items (map (λ r. r.shard.value) c.args.rooms.items) c.in-Some-end_shards.shards.items c.learn_all.new.last c.end_shards.new.last c.in-Some-end_shards.ensures.ended (length-map c.args.rooms.items (λ r. r.shard.value) ∙ c.requires.many) c.requires.counted (new_shard c.args.book.now 0 0)
+returns-clause-limit g c = ends_short c.args.book.now c.args.wanted c.args.passes.items (map (λ r. r.shard.value) c.args.boxes.items) c.in-Some-end_shards.shards.items c.learn_all.new.last c.end_shards.new.last c.in-Some-end_shards.ensures.ended (length-map c.args.boxes.items (λ r. r.shard.value) ∙ c.requires.many) c.requires.counted (new_shard c.args.book.now 0 0)

@@ -1,5 +1,5 @@
 use Rattle.std.proofs.Common.{refl}
-use Rattle.lt_try.proofs.Noting.{handed_are_of}
+use Rattle.lt_walk.proofs.Noted.{handed_are_of}
 use Rattle.lt_try.proofs.opening.TryTable+T+M.open.Goals as goal
 
 pub returns-clause-of : goal.returns-clause-of

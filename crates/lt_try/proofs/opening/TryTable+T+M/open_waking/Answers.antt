@@ -1,7 +1,7 @@
 use Rattle.std.proofs.Common.{◌∙◌, ap, length, subst, sym}
 use Rattle.std.specs.List.{All}
 use Rattle.lt_words.specs.Row.{AreNoting, OwesNoWakeUp}
-use Rattle.lt_try.proofs.Noting.{fresh_owe_none, many_fresh, quiet_are_of}
+use Rattle.lt_walk.proofs.Noted.{fresh_owe_none, many_fresh, quiet_are_of}
 use Rattle.lt_try.proofs.opening.TryTable+T+M.open_waking.Goals as goal
 
 pub noting_lets-requires : goal.noting_lets-requires
