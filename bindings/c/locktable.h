@@ -630,9 +630,9 @@ uint32_t lt_pass_finish(struct lt_pass *pass, const uint8_t *key, size_t key_len
 
 /*
  * Takes out a let that a call of this pass or its request has made, and that it was not told yet: the number and the wait of the
- * request that was let through, and the number of its pass, the lowest of those that are left. Rule 5 says when to ask, and whom
- * to wake. If a pass was let through twice before you asked, you are told its latest let. Lets that are left when the handle is
- * closed are told to nobody. The call enters no shard and allocates nothing.
+ * request that was let through, and the number of its pass, in no promised order. Rule 5 says when to ask, and whom to wake. If a
+ * pass was let through twice before you asked, you are told its latest let. Lets that are left when the handle is closed are told
+ * to nobody. The call enters no shard and allocates nothing.
  *
  * Answers LT_DONE, or LT_NO_LET if none is left, or refuses: LT_CLOSED.
  *
