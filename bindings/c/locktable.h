@@ -113,6 +113,7 @@ enum lt_code {
     LT_BAD_STEPS = 24,      /* the number of steps that a shard may store is out of its range */
     LT_BAD_REQUESTS = 25,   /* a table takes 1 to 2^40 - 1 requests */
     LT_BAD_WAITS = 26,      /* a request begins 1 to 2^24 - 1 waits */
+    LT_BAD_SHARD = 27,      /* the table has no shard with this index */
     LT_NO_KEYS = 28,        /* the request names no key */
     LT_TOO_MANY_KEYS = 29,  /* the request names more than 256 keys */
     LT_NUMBERS_OUT = 30,    /* as many requests entered as may */
@@ -611,6 +612,38 @@ uint32_t lt_pass_leave(struct lt_pass *pass);
  * (`kept`); what the pass has seen is legal (`legal`).
  */
 uint32_t lt_pass_look(struct lt_pass *pass, size_t index, uint64_t *txn);
+
+/*
+ * The record of the key, and of its writers and its readers as many of the first as fit into each array: the writers in the
+ * order of their numbers, the latest reader first. `out` says how many there are, which may be more. The rest of each array
+ * stays as it was. The call goes through a pass or through a request, which stays as it is. It takes time and memory in
+ * proportion to the key's queues, because it copies them in the shard.
+ *
+ * Answers LT_DONE, or refuses, in this order: LT_CLOSED, LT_BAD_KEY_EMPTY, LT_BAD_KEY_LONG, LT_BAD_KEY_BYTE; and then LT_BUSY or
+ * LT_MEMORY.
+ *
+ * Proved: it refuses so and in this order (`refused`); the record is that of the key after steps of its shard that the pass has
+ * then seen, and the arrays have the first of its queues (`shown`); a refused call has changed neither the handle (`kept`) nor
+ * what it was to write (`out_kept`).
+ */
+uint32_t lt_pass_inspect(struct lt_pass *pass, const uint8_t *key, size_t key_len, struct lt_key *out,
+                         struct lt_queued *writers, size_t writers_room, struct lt_queued *readers, size_t readers_room);
+
+/*
+ * The keys of the shard with this index that have a record, from the first one that comes after the key `after`, or from the
+ * very first if `after_len` is 0: as lt_table_keys lists those of a table of one thread. The shards have the indices from 0 to
+ * their number less 1. Each call lists the keys as of one moment, and two calls as of two. The call goes through a pass that has
+ * no request. It is in the shard while it looks at all of the shard's keys.
+ *
+ * Answers LT_DONE, or refuses, in this order: LT_CLOSED, LT_BAD_SHARD, LT_BAD_KEY_LONG, LT_BAD_KEY_BYTE; and then LT_BUSY or
+ * LT_MEMORY.
+ *
+ * Proved: it refuses so and in this order (`refused`); the keys are the first of those that have a record after the steps of the
+ * shard that the pass has then seen (`listed`); a refused call has changed neither the handle (`kept`) nor what it was to write
+ * (`out_kept`).
+ */
+uint32_t lt_pass_keys(struct lt_pass *pass, size_t shard, const uint8_t *after, size_t after_len, struct lt_key_name *array,
+                      size_t room, size_t *count);
 
 /*
  * The steps of a transaction, as those of the table of one thread, through a pass or through a request, which stays as it is.

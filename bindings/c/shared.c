@@ -91,7 +91,7 @@ union handle {
 enum kind { CLOSED, TABLE, CHECK, SHARED, PASS, REQUEST, KINDS };
 
 enum call {
-    GIVE, CLOSE_SHARED, CLOSE_PASS, WANT_KEY, ENTER, SCAN, POLL, LEAVE, LOOK, ACQUIRE, UPDATE, FINISH, LET, NUMBER,
+    GIVE, CLOSE_SHARED, CLOSE_PASS, WANT_KEY, ENTER, SCAN, POLL, LEAVE, LOOK, INSPECT, KEYS, ACQUIRE, UPDATE, FINISH, LET, NUMBER,
     TABLE_FINISH, TABLE_CLOSE, CHECK_PIECE, CHECK_END
 };
 
@@ -142,12 +142,16 @@ static void take_down(void) {
 static size_t index_at;
 static uint64_t txn_at;
 static struct lt_through through_at;
+static struct lt_key key_at;
+static struct lt_queued writers_at[2], readers_at[2];
+static struct lt_key_name names_at[2];
 
 static bool is_unwritten(void) {
-    return index_at == 77 && txn_at == 77 && through_at.number == 77 && through_at.wait == 77 && through_at.pass == 77;
+    return index_at == 77 && txn_at == 77 && through_at.number == 77 && through_at.wait == 77 && through_at.pass == 77
+        && key_at.holder == 77 && writers_at[0].number == 77 && readers_at[0].number == 77 && names_at[0].len == 77;
 }
 
-/* Makes the call on the handle. `number` is the transaction, or the index of a look. */
+/* Makes the call on the handle. `number` is the transaction, the index of a look, or that of a shard. */
 static uint32_t make(enum call call, union handle *handle, const char *key, uint64_t number) {
     const struct lt_txn by = {.txn = number, .wall = 1};
     const struct lt_terms terms = {.txn = 1, .wall = 1};
@@ -155,6 +159,7 @@ static uint32_t make(enum call call, union handle *handle, const char *key, uint
     struct lt_report report;
     size_t count;
     index_at = 77, txn_at = 77, through_at = (struct lt_through){77, 77, 77};
+    key_at.holder = 77, writers_at[0].number = 77, readers_at[0].number = 77, names_at[0].len = 77;
     switch (call) {
     case GIVE: return lt_shared_pass(&handle->shared, &given.pass);
     case CLOSE_SHARED: return lt_shared_close(&handle->shared);
@@ -165,6 +170,8 @@ static uint32_t make(enum call call, union handle *handle, const char *key, uint
     case POLL: return lt_pass_poll(&handle->pass);
     case LEAVE: return lt_pass_leave(&handle->pass);
     case LOOK: return lt_pass_look(&handle->pass, number, &txn_at);
+    case INSPECT: return lt_pass_inspect(&handle->pass, KEY(key), &key_at, writers_at, 2, readers_at, 2);
+    case KEYS: return lt_pass_keys(&handle->pass, number, KEY(key), names_at, 2, &index_at);
     case ACQUIRE: return lt_pass_acquire(&handle->pass, KEY(key), &by);
     case UPDATE: return lt_pass_update(&handle->pass, KEY(key), &by);
     case FINISH: return lt_pass_finish(&handle->pass, KEY(key), number);
@@ -238,6 +245,8 @@ static const struct {
     {POLL,         {REFUSED, REFUSED,  REFUSED,  REFUSED, REFUSED,        LT_NOT_WAITING}},
     {LEAVE,        {REFUSED, REFUSED,  REFUSED,  REFUSED, REFUSED,        LT_DONE}},
     {LOOK,         {REFUSED, REFUSED,  REFUSED,  REFUSED, REFUSED,        LT_NOTHING}},
+    {INSPECT,      {REFUSED, REFUSED,  REFUSED,  REFUSED, LT_DONE,        LT_DONE}},
+    {KEYS,         {REFUSED, REFUSED,  REFUSED,  REFUSED, LT_DONE,        REFUSED}},
     {ACQUIRE,      {REFUSED, REFUSED,  REFUSED,  REFUSED, LT_TAKEN,       LT_TAKEN}},
     {UPDATE,       {REFUSED, REFUSED,  REFUSED,  REFUSED, LT_OTHER,       LT_OTHER}},
     {FINISH,       {REFUSED, REFUSED,  REFUSED,  REFUSED, LT_OTHER,       LT_OTHER}},
@@ -300,6 +309,18 @@ static const struct {
     {LOOK, REQUEST, CLOSED, "", 2, true, LT_BAD_INDEX},
     {LOOK, REQUEST, CLOSED, "", UINT64_MAX, true, LT_BAD_INDEX},
     {LOOK, REQUEST, CLOSED, "", 1, true, LT_NOTHING},
+    {INSPECT, SHARED, CLOSED, "", 0, true, LT_CLOSED},
+    {INSPECT, PASS, CLOSED, "", 0, true, LT_BAD_KEY_EMPTY},
+    {INSPECT, REQUEST, CLOSED, TOO_LONG " ", 0, true, LT_BAD_KEY_LONG},
+    {INSPECT, PASS, CLOSED, "a b", 0, true, LT_BAD_KEY_BYTE},
+    {INSPECT, PASS, CLOSED, LONG, 0, true, LT_MEMORY},
+    {KEYS, REQUEST, CLOSED, TOO_LONG, 2, true, LT_CLOSED},
+    {KEYS, PASS, CLOSED, TOO_LONG, 2, true, LT_BAD_SHARD},
+    {KEYS, PASS, CLOSED, "", SIZE_MAX, true, LT_BAD_SHARD},
+    {KEYS, PASS, CLOSED, TOO_LONG " ", 1, true, LT_BAD_KEY_LONG},
+    {KEYS, PASS, CLOSED, "a b", 0, true, LT_BAD_KEY_BYTE},
+    {KEYS, PASS, CLOSED, LONG, 1, true, LT_MEMORY},
+    {KEYS, PASS, CLOSED, "", 0, true, LT_MEMORY},
     {ACQUIRE, CLOSED, CLOSED, "", 0, true, LT_BAD_TXN},
     {ACQUIRE, PASS, CLOSED, "", 1, true, LT_BAD_KEY_EMPTY},
     {ACQUIRE, PASS, CLOSED, TOO_LONG " ", 1, true, LT_BAD_KEY_LONG},
@@ -408,6 +429,9 @@ static void life(void) {
     const struct lt_txn one = {.txn = 1, .wall = 1}, later = {.txn = 1, .wall = 5}, two = {.txn = 2, .wall = 2};
     struct lt_shared shared = {0};
     struct lt_pass a = {0}, b = {0}, c = {0};
+    struct lt_key state;
+    struct lt_queued waiting[2] = {{.number = 77}, {.number = 77}}, reading[1] = {{.number = 77}};
+    struct lt_key_name names[3];
     size_t index = 9;
     uint64_t txn = 99;
     IS(LT_DONE, lt_shared_open(&shared, &config, START));
@@ -464,7 +488,26 @@ static void life(void) {
     IS(LT_DONE, lt_pass_enter(&c, &bounded));
     IS(LT_QUEUE_TOO_LONG, lt_pass_scan(&c, &index));
     WANT(index == 0);
+    /* So says its record, to a request and to a pass. Each of its queues fits, or its first part. */
+    IS(LT_DONE, lt_pass_inspect(&c, KEY(LONG), &state, waiting, 2, reading, 1));
+    WANT(state.holder == 0 && state.reservation.number == 2 && state.reservation.txn == 2 && state.distinguished == 3);
+    WANT(state.writers == 1 && state.readers == 0 && waiting[0].number == 3 && waiting[0].wait == 1 && waiting[0].active);
+    WANT(waiting[1].number == 77 && reading[0].number == 77);
     IS_FREE(LT_DONE, lt_pass_leave(&c));
+    waiting[0].number = 77;
+    IS(LT_DONE, lt_pass_inspect(&c, KEY(LONG), &state, waiting, 0, reading, 0));
+    WANT(state.writers == 1 && waiting[0].number == 77);
+    /* Two keys have a record: LONG, and x. Request 2 has passed y, which has none. */
+    for (size_t shard = 0; shard < 3; shard++) {
+        size_t wanted = (shard == lt_shard_of(KEY("x"), 3)) + (shard == lt_shard_of(KEY(LONG), 3)), count = 9;
+        IS(LT_DONE, lt_pass_keys(&c, shard, KEY(""), names, 3, &count));
+        WANT(count == wanted);
+        bool has_x = false;
+        for (size_t i = 0; i < count; i++) has_x |= names[i].len == 1 && names[i].bytes[0] == 'x';
+        WANT(has_x == (shard == lt_shard_of(KEY("x"), 3)));
+        IS(LT_DONE, lt_pass_keys(&c, shard, KEY("x"), names, 3, &count));
+        WANT(count == 0);
+    }
     IS_FREE(LT_WAITING, lt_pass_poll(&a));
     IS_FREE(LT_DONE, lt_pass_leave(&b));
     IS_LET(&b, 3, 1, &a);
@@ -585,6 +628,10 @@ static const struct {
     {FINISH, REQUEST, "b", 1, LT_OTHER, LT_OTHER},
     {LOOK, REQUEST, "", 0, LT_BUSY, LT_NOTHING},
     {LOOK, REQUEST, "", 1, LT_NOTHING, LT_NOTHING},
+    {INSPECT, REQUEST, "a", 0, LT_BUSY, LT_DONE},
+    {INSPECT, PASS, "b", 0, LT_DONE, LT_DONE},
+    {KEYS, PASS, "", 1, LT_BUSY, LT_DONE},
+    {KEYS, PASS, "", 0, LT_DONE, LT_DONE},
     {SCAN, REQUEST, "", 0, LT_BUSY, LT_PROCEED},
     {LEAVE, REQUEST, "", 0, LT_BUSY, LT_DONE},
     {POLL, REQUEST, "", 0, LT_NOT_WAITING, LT_NOT_WAITING},
@@ -602,7 +649,8 @@ static void call_inside(void) {
     union handle before = mine;
     inside = make(busy[row].call, &mine, busy[row].key, busy[row].number);
     bool is_same = memcmp(&before, &mine, sizeof before) == 0;
-    untouched = inside != LT_BUSY || (is_same && txn_at == 77 && index_at == (busy[row].call == SCAN ? 0 : 77));
+    if (busy[row].call == SCAN && index_at == 0) index_at = 77;
+    untouched = inside != LT_BUSY || (is_same && is_unwritten());
 }
 
 /* The first key of a shard needs no memory. The second does, inside the shard: then `call` is made. */

@@ -13,7 +13,8 @@ use lt_ids::Key;
 use lt_rules::KeyState;
 use lt_trace::{SortOptions, TraceForm, sort_trace};
 use lt_trace_picture::{
-    Layout, MOST_QUEUED, ShownRange, ShownStep, html, picture, put_heading, put_key, put_shown,
+    Layout, MOST_QUEUED, PageRows, ShownRange, ShownStep, html, picture, put_heading, put_key,
+    put_shown,
 };
 use std::alloc::Global;
 use std::fs::{File, Files};
@@ -97,6 +98,8 @@ struct Collector<'a> {
     /// The key of the steps.
     key: Option<Key>,
     range: ShownRange,
+    /// The rows of a page, if one is wanted.
+    rows: Option<PageRows>,
 }
 
 impl<'a> Collector<'a> {
@@ -123,11 +126,14 @@ impl<'a> StepTaker for Collector<'a> {
         }
         let state = checker.state_before(self.alloc, &line.key)?;
         if line.step.index < self.wanted.from {
-            self.range.before = state;
+            self.range = ShownRange::new(self.alloc, state);
             return Ok(Vec::new(self.alloc));
         }
         let (key, step) = shown_step(line, state);
-        self.range.steps.push(step)?;
+        if let Some(rows) = &mut self.rows {
+            rows.push(&step)?;
+        }
+        self.range.push(step)?;
         self.key = Some(key);
         Ok(Vec::new(self.alloc))
     }
@@ -155,14 +161,13 @@ fn show<R: BufRead, W: Write>(
 }
 
 /// Draws the steps that were collected.
-fn drawn(alloc: Global, collected: &Collector, is_html: bool) -> Result<Vec<u8>, TraceFailure> {
+fn drawn(alloc: Global, collected: &Collector) -> Result<Vec<u8>, TraceFailure> {
     let Some(key) = &collected.key else {
         return Err(TraceFailure::NoStep);
     };
-    let text = if is_html {
-        html(alloc, key, &collected.range)
-    } else {
-        picture(alloc, key, &collected.range)
+    let text = match &collected.rows {
+        Some(rows) => html(alloc, key, &collected.range, rows),
+        None => picture(alloc, key, &collected.range),
     };
     match text {
         Ok(text) => Ok(text),
@@ -199,14 +204,15 @@ fn draw<F: Files, R: BufRead, W: Write>(
         alloc,
         wanted: *wanted,
         key: None,
-        range: ShownRange {
-            before: KeyState::empty(alloc),
-            steps: Vec::new(alloc),
-            goes_on: false,
+        range: ShownRange::new(alloc, KeyState::empty(alloc)),
+        rows: if picture.html {
+            Some(PageRows::new(alloc))
+        } else {
+            None
         },
     };
     follow_steps(alloc, reader, output, &mut collector)?;
-    let text = drawn(alloc, &collector, picture.html)?;
+    let text = drawn(alloc, &collector)?;
     write_picture(files, output, picture.out, &text)
 }
 

@@ -13,3 +13,4 @@ pub mod Checks
 pub mod CheckPieces
 pub mod SharedCodes
 pub mod Shared
+pub mod PassLooks

@@ -6,10 +6,11 @@ use Rattle.lt_ids.specs.declared.request.Access.{Access}
 use Rattle.lt_ids.specs.declared.request.Access.TheVariants.{Read, Write}
 use Rattle.lt_ids.specs.declared.timestamp.Timestamp.{Timestamp}
 use Rattle.lt_ids.specs.declared.limits.TheConstants.{MAX_STEPS}
+use Rattle.lt_rules.specs.Rules.{Record}
 use Rattle.lt_rules.specs.declared.call.Call.{Call}
 use Rattle.lt_words.specs.History.{IsLegalHistory}
 use Rattle.lt_ids.specs.declared.ticket.Through.{Through as Letting}
-use Rattle.lt_words.specs.Row.{Opening, PassState, AreFresh, AreTelling, NoneLeft}
+use Rattle.lt_words.specs.Row.{Opening, PassState, SeesMore, AreFresh, AreTelling, NoneLeft}
 use Rattle.lt_words.specs.declared.keeping.Keeping.TheVariants.{Unrecorded}
 use Rattle.lt_shard.specs.declared.answer.Answer.{Answer}
 use Rattle.lt_walk.specs.declared.config.Config.{Config}
@@ -24,6 +25,7 @@ use Rattle.lt_walk.specs.declared.walk_progress.Mode.TheVariants.{Let}
 use Rattle.lt_walk.specs.Configs.{fault, IsOpened}
 use Rattle.lt_walk.specs.Reported.{ReportsCall, ReportsLook, TellsScan, IsPoll, GuardStays, GoesOnOnlyIfLet, SeesLet, AllLeft, StoppedLeaving, PassStays}
 use Rattle.lt_walk.specs.Entered.{IsEntered, IsRefused}
+use Rattle.lt_walk.specs.Inspected.{seen_record}
 use Rattle.lt_walk.specs.Laws.{IsTooLong}
 use Rattle.lt_try.specs.declared.error.TryError.{TryError}
 use Rattle.lt_try.specs.declared.error.TryError.TheVariants.{HistoryFull, Memory}
@@ -222,6 +224,10 @@ TellsLet code out p p' =
     ((code ≡ 0) × ((t : Letting) × (out ≡ raw_let t) × (slice_get p.wakes.untold t.pass ≡ Some (Some t.ticket))
     × (p' ≡ record p { wakes = record p.wakes { untold = slice_set p.wakes.untold t.pass None } })))
     ⊎ ((code ≡ 73) × NoneLeft p.wakes.untold × (p' ≡ p))
+
+-- The pass has then seen steps of the key's shard after which the key has this record. Nothing else of the pass has changed.
+abbrev pub SeesRecord : List ℕ → Record → PassState → PassState → Type 0
+SeesRecord key state p p' = (state ≡ seen_record key p'.of.shards p'.seen) × SeesMore p p'
 
 -- whether the handle holds a pass, or a request that has one
 abbrev pub has_pass : Option ContentState → Bool

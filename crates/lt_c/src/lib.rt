@@ -30,10 +30,10 @@
 //! with `rattle_`.
 //!
 //! Read next: `steps.rt`, `looks.rt`, `lists.rt`, `check.rt` and `shard.rt` have the exports, and `codes.rt` has what they
-//! answer. `opening.rt`, `requests.rt`, `pass_steps.rt` and `letting.rt` have those of the shared table, and
+//! answer. `opening.rt`, `requests.rt`, `pass_steps.rt`, `letting.rt`, `pass_looks.rt` and `pass_keys.rt` have those of the shared table, and
 //! `shared_codes.rt` has what they answer beside. `handle.rt` and `slot.rt` have the handle, `content.rt` says what an open
-//! one holds, and `calls.rt` has the visit that C asks for. In `specs/`, `Steps`, `Looks`, `Lists`, `CheckPieces` and
-//! `Shared` define what the contracts of the exports say.
+//! one holds, and `calls.rt` has the visit that C asks for. In `specs/`, `Steps`, `Looks`, `Lists`, `CheckPieces`,
+//! `Shared` and `PassLooks` define what the contracts of the exports say.
 #![tactic(auto)]
 
 mod calls;
@@ -49,6 +49,8 @@ mod lists;
 mod looks;
 mod opening;
 mod pass_call;
+mod pass_keys;
+mod pass_looks;
 mod pass_steps;
 mod requests;
 mod shapes;

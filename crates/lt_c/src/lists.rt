@@ -22,7 +22,7 @@ use lt_rules::{QueuedRequest, QueuedWriter};
 use std::alloc::Global;
 
 /// Writes these writers to the front of the array, which has room for them.
-fn write_writers(writers: &[QueuedWriter], array: &mut [LtQueued])
+pub(crate) fn write_writers(writers: &[QueuedWriter], array: &mut [LtQueued])
     requires { length writers.now ≤ length array.old }
     ensures { array.new ≡ map raw_writer writers.now ++ drop (length writers.now) array.old }
 {
@@ -32,7 +32,7 @@ fn write_writers(writers: &[QueuedWriter], array: &mut [LtQueued])
 }
 
 /// Writes these readers to the front of the array, which has room for them.
-fn write_readers(readers: &[QueuedRequest], array: &mut [LtQueued])
+pub(crate) fn write_readers(readers: &[QueuedRequest], array: &mut [LtQueued])
     requires { length readers.now ≤ length array.old }
     ensures { array.new ≡ map raw_reader readers.now ++ drop (length readers.now) array.old }
 {
@@ -42,7 +42,7 @@ fn write_readers(readers: &[QueuedRequest], array: &mut [LtQueued])
 }
 
 /// Writes these keys to the front of the array, which has room for them.
-fn write_keys(keys: &[Key], array: &mut [LtKeyName])
+pub(crate) fn write_keys(keys: &[Key], array: &mut [LtKeyName])
     requires { length keys.now ≤ length array.old }
     ensures { array.new ≡ map raw_key_name keys.now ++ drop (length keys.now) array.old }
 {
@@ -124,6 +124,22 @@ fn keys_behind(
     }
 }
 
+/// The key after which keys are listed: the one with these bytes, or none if there are no bytes. Otherwise the code of what
+/// is wrong with them.
+pub(crate) fn after_key(alloc: Global, bytes: &[u8]) -> Result<Option<Key>, u32>
+    ensures key { IfOk result (λ key. key ≡ after_key bytes.now) }
+    ensures refused { IfErr result (λ code. IsDoneUnless (after_refusal bytes.now) code × (code ≢ DONE)) }
+    ensures sound { OnOk result (after_refusal bytes.now ≡ None) }
+{
+    if bytes.is_empty() {
+        return Ok(None);
+    }
+    match Key::from_bytes(alloc, bytes) {
+        Ok(key) => Ok(Some(key)),
+        Err(error) => Err(key_code(&error)),
+    }
+}
+
 /// Copies of the first keys of the table that come after the key with these bytes, or of its first keys if there are
 /// none: at most `at_most`. Otherwise the code of what went wrong.
 fn next_keys(
@@ -136,12 +152,9 @@ fn next_keys(
     ensures refused { IfErr result (λ code. IsDoneUnless (after_refusal after.now) code × (code ≢ DONE)) }
     ensures sound { OnOk result (after_refusal after.now ≡ None) }
 {
-    if after.is_empty() {
-        return keys_behind(table, alloc, None, at_most);
-    }
-    match Key::from_bytes(alloc, after) {
-        Ok(key) => keys_behind(table, alloc, Some(&key), at_most),
-        Err(error) => Err(key_code(&error)),
+    match after_key(alloc, after) {
+        Ok(key) => keys_behind(table, alloc, key.as_ref(), at_most),
+        Err(code) => Err(code),
     }
 }
 

@@ -33,6 +33,9 @@ pub const BAD_REQUESTS: u32 = 25;
 /// A request begins 1 to 2^24 - 1 waits.
 pub const BAD_WAITS: u32 = 26;
 
+/// The table has no shard with this index.
+pub const BAD_SHARD: u32 = 27;
+
 /// The request names no key.
 pub const NO_KEYS: u32 = 28;
 

@@ -1,5 +1,5 @@
 -- What is read is a line, and the bytes are its text. Reading the text of a line gives that line.
-use Rattle.std.proofs.Common.{◌≡◌, ◌≢◌, ℕ, ◌<◌, List, [], ◌∷◌, ◌++◌, false, length, Option, Some, None, Result, Ok, Err, eqb, sym, ap, subst, ◌∙◌, append_assoc, arith}
+use Rattle.std.proofs.Common.{◌≡◌, ◌≢◌, ℕ, ◌<◌, List, [], ◌∷◌, ◌++◌, false, length, Option, Some, None, Result, Ok, Err, eqb, refl, sym, ap, subst, ◌∙◌, append_assoc, arith}
 use Rattle.std.specs.Prelude.{IfOk, IfErr}
 use Rattle.std.specs.List.{slice_split, join_with_byte, All, position_or_len, before_first, after_first}
 use Rattle.std.proofs.lemmas.Option.{some_pair_parts, cond_some}
@@ -11,10 +11,13 @@ use Rattle.lt_checker.specs.declared.error.HistoryLineError.{HistoryLineError}
 use Rattle.lt_checker.specs.declared.error.HistoryLineError.TheVariants as refusals
 use Rattle.lt_checker.specs.declared.line.Line.{Line}
 use Rattle.lt_text.specs.Words.{cut_of}
-use Rattle.lt_checker.specs.Lines.{Parts, IsLine, line_words, line_text, parts_at, parts_of, IsReadAs, IsShapeless}
+use Rattle.lt_ids.specs.Key.{IsKey}
+use Rattle.lt_ids.specs.Ids.{Wait}
+use Rattle.lt_checker.specs.declared.line.LineStep.{LineStep}
+use Rattle.lt_checker.specs.Lines.{Parts, IsLine, line_words, line_text, parts_at, parts_of, parts_with, key_if_legal, step_at, lets_in_words, IsMisread, IsReadAs, IsNoKey, IsShapeless}
 use Rattle.lt_checker.specs.Text.{Spot, IsOf, IsShapelessIn, IsWrongOr, HasFault, HasFaultOr}
 use Rattle.lt_text.proofs.Plain.{cut_again, cut_takes, split_join, no_line_end}
-use Rattle.lt_checker.proofs.PartsLaws.{parts_takes, parts_again, parts_plain}
+use Rattle.lt_checker.proofs.PartsLaws.{key_takes, parts_takes, parts_again, parts_plain, parts_at_words, no_key_no_parts, no_step_no_parts, no_lets_no_parts, no_words_no_parts}
 
 text_is : (bytes : List ℕ) (p : Parts) → slice_split (λ b. eqb b 32) bytes ≡ line_words p → line_text p ≡ bytes ++ 10 ∷ []
 unfolding line_text
@@ -144,3 +147,48 @@ pub of_other_version : (version : ℕ) (bytes : List ℕ) (p : Parts) → IsLine
 of_other_version version bytes p line e other = λ q line' old e'.
     let same = one_line p q [] [] line line' (ap (λ (t : List ℕ). t ++ []) (e ∙ sym e')) in
     other (subst (IsOf version) (sym same.0) old)
+
+-- ---- a line that is read word by word
+
+-- What makes nothing of the parts makes nothing of the line.
+misread_more : {A B : Type 0} (e : HistoryLineError) (o : Option A) (p : Option B) → (o ≡ None → p ≡ None) → IsMisread e o → IsMisread e p
+misread_more refusals.Memory o p f h = tt
+misread_more (refusals.Fault Shape) o p f h = f h
+misread_more (refusals.Fault Header) o p f h = h
+misread_more (refusals.Fault KeyOrder) o p f h = h
+misread_more (refusals.Fault Index) o p f h = h
+misread_more (refusals.Fault WrongReply) o p f h = h
+misread_more (refusals.Fault WrongLets) o p f h = h
+
+misread_line : (version : ℕ) (bytes : List ℕ) (words : List (List ℕ)) (e : HistoryLineError) → slice_split (λ b. eqb b 32) bytes ≡ words → IsMisread e (parts_at words) → IsShapelessIn version e bytes
+misread_line version bytes words e split h = shapeless_in version e bytes (unread bytes (Err e) (subst (λ (ws : List (List ℕ)). IsMisread e (parts_at ws)) (sym split) h))
+
+pub without_words : (version : ℕ) (bytes : List ℕ) → slice_split (λ b. eqb b 32) bytes ≡ [] → IsShapelessIn version (refusals.Fault Shape) bytes
+without_words version bytes split = misread_line version bytes [] (refusals.Fault Shape) split no_words_no_parts
+
+pub without_key : (version : ℕ) (bytes key : List ℕ) (words : List (List ℕ)) (e : HistoryLineError) → slice_split (λ b. eqb b 32) bytes ≡ key ∷ words → IsNoKey key e → IsShapelessIn version e bytes
+without_key version bytes key words e split h = misread_line version bytes (key ∷ words) e split (misread_more e (key_if_legal key) (parts_at (key ∷ words)) (no_key_no_parts key words) h)
+
+pub without_step : (version : ℕ) (bytes key : List ℕ) (words : List (List ℕ)) → slice_split (λ b. eqb b 32) bytes ≡ key ∷ words → step_at words ≡ None → IsShapelessIn version (refusals.Fault Shape) bytes
+without_step version bytes key words split none = misread_line version bytes (key ∷ words) (refusals.Fault Shape) split (no_step_no_parts key words none)
+
+pub without_lets : (version : ℕ) (bytes key : List ℕ) (words rest : List (List ℕ)) (s : LineStep) (e : HistoryLineError) → slice_split (λ b. eqb b 32) bytes ≡ key ∷ words → step_at words ≡ Some (s, rest) → IsMisread e (lets_in_words rest) → IsShapelessIn version e bytes
+without_lets version bytes key words rest s e split step h =
+    misread_line version bytes (key ∷ words) e split (misread_more e (lets_in_words rest) (parts_at (key ∷ words)) (no_lets_no_parts key words rest s step) h)
+
+pub with_parts : (bytes key : List ℕ) (words rest : List (List ℕ)) (s : LineStep) (ts : List Wait) → slice_split (λ b. eqb b 32) bytes ≡ key ∷ words → step_at words ≡ Some (s, rest) → lets_in_words rest ≡ Some ts → IsKey key → IsLine (parts_with key s ts) × (line_text (parts_with key s ts) ≡ bytes ++ 10 ∷ [])
+with_parts bytes key words rest s ts split step lets is =
+    let t = parts_takes (slice_split (λ b. eqb b 32) bytes) (parts_with key s ts) (ap parts_at split ∙ parts_at_words key words rest s ts is step lets) in
+    (t.1, text_is bytes (parts_with key s ts) t.0)
+
+of_other_by : (version : ℕ) (bytes key : List ℕ) (words rest : List (List ℕ)) (s : LineStep) (ts : List Wait) (o : Option (List ℕ)) → key_if_legal key ≡ o → slice_split (λ b. eqb b 32) bytes ≡ key ∷ words → step_at words ≡ Some (s, rest) → lets_in_words rest ≡ Some ts
+    → (IsOf version (parts_with key s ts) → ⊥) → IsShapelessIn version (refusals.Fault Shape) bytes
+of_other_by version bytes key words rest s ts None none split step lets other = without_key version bytes key words (refusals.Fault Shape) split none
+of_other_by version bytes key words rest s ts (Some own) legal split step lets other =
+    let k = key_takes key own legal in
+    let p = with_parts bytes key words rest s ts split step lets (subst IsKey (sym k.0) k.1) in
+    of_other_version version bytes (parts_with key s ts) p.0 p.1 other
+
+pub with_other_parts : (version : ℕ) (bytes key : List ℕ) (words rest : List (List ℕ)) (s : LineStep) (ts : List Wait) → slice_split (λ b. eqb b 32) bytes ≡ key ∷ words → step_at words ≡ Some (s, rest) → lets_in_words rest ≡ Some ts
+    → (IsOf version (parts_with key s ts) → ⊥) → IsShapelessIn version (refusals.Fault Shape) bytes
+with_other_parts version bytes key words rest s ts split step lets other = of_other_by version bytes key words rest s ts (key_if_legal key) refl split step lets other

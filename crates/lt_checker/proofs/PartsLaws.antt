@@ -2,6 +2,7 @@
 -- that line.
 use Rattle.std.proofs.Common.{◌≡◌, ℕ, ◌^◌, Bool, true, false, cond, not, eqb, ltb, leb, List, [], ◌∷◌, ◌++◌, length, get_or, Option, Some, None, refl, sym, ap, subst, ◌∙◌, append_assoc, suc, rules, arith}
 use Rattle.std.specs.Prelude.{codes, position, IsTrue}
+use Rattle.lt_ids.specs.Ids.{Wait}
 use Rattle.lt_ids.specs.declared.error.IdError.{IdError}
 use Rattle.lt_ids.specs.declared.error.IdError.TheVariants.{KeyEmpty, KeyTooLong, KeyByte}
 use Rattle.std.proofs.lemmas.List.Sums.{fails_before_first, position_or_len_is}
@@ -18,7 +19,7 @@ use Rattle.lt_text.specs.Maybe.{◌>>=◌}
 use Rattle.lt_text.specs.Fields.{number_within}
 use Rattle.lt_text.specs.Calls.{call_words, field_at, call_at}
 use Rattle.lt_text.specs.Replies.{reply_words, is_reply_of, reply_at}
-use Rattle.lt_checker.specs.Lines.{Parts, IsLine, IsReadStep, step_words, lets_words, line_words, if_no_fault, key_if_legal, key_at, equals_of, step_at, lets_in_words, parts_at}
+use Rattle.lt_checker.specs.Lines.{Parts, IsLine, IsReadStep, step_words, lets_words, line_words, if_no_fault, key_if_legal, key_at, equals_of, step_at, lets_in_words, parts_at, parts_with}
 use Rattle.lt_text.proofs.Plain.{above, ArePlain}
 use Rattle.lt_text.proofs.FieldLaws.{bind_some, IsField, IsWithin, number_field, txn_field, field_takes, field_again}
 use Rattle.lt_text.proofs.CallLaws.{call_takes, call_again, call_plain}
@@ -86,7 +87,7 @@ plain_key : (key : List ℕ) → All (λ b. IsTrue (is_key_byte b)) key → abov
 plain_key [] h = refl
 plain_key (b ∷ bs) h = and_from _ _ (plain_byte b (h 0 0 (omega arith))) (plain_key bs (λ k d lt. h (suc k) d (omega arith)))
 
-key_takes : (word key : List ℕ) → key_if_legal word ≡ Some key → (word ≡ key) × IsKey key
+pub key_takes : (word key : List ℕ) → key_if_legal word ≡ Some key → (word ≡ key) × IsKey key
 key_takes word key e = let p = no_fault_takes (key_fault word) word key e in (p.1, subst IsKey p.1 (is_key word p.0))
 
 key_again : (key : List ℕ) → IsKey key → key_if_legal key ≡ Some key
@@ -103,7 +104,7 @@ step_joined words after_index after_pass after_call after_equals rest s index pa
     call ∙ (ap (λ (ws : List (List ℕ)). call_words s.call ++ ws) last ∙ sym (append_assoc (call_words s.call) (codes "=" ∷ reply_words s.reply) rest)) in
     index ∙ (ap (λ (ws : List (List ℕ)). decimal s.index ∷ ws) pass ∙ ap (λ (ws : List (List ℕ)). decimal s.index ∷ decimal s.pass ∷ ws) tail)
 
-step_takes : (words : List (List ℕ)) (s : LineStep) (rest : List (List ℕ)) → step_at words ≡ Some (s, rest) → (words ≡ step_words s ++ rest) × IsReadStep s
+pub step_takes : (words : List (List ℕ)) (s : LineStep) (rest : List (List ℕ)) → step_at words ≡ Some (s, rest) → (words ≡ step_words s ++ rest) × IsReadStep s
 unfolding step_at
 step_takes words s rest e =
     let a = bind_some (field_at (number_within 1 (2 ^ 64)) words) (λ index. field_at (number_within 1 1025) index.1 >>= λ pass. call_at pass.1 >>= λ call. field_at equals_of call.1 >>= λ equals. reply_at equals.1 >>= λ reply.
@@ -174,3 +175,40 @@ parts_plain p h = (
     ),
   ),
 )
+
+-- ---- parts that are read one after the other
+
+pub parts_at_words : (key : List ℕ) (words rest : List (List ℕ)) (s : LineStep) (ts : List Wait) → IsKey key → step_at words ≡ Some (s, rest) → lets_in_words rest ≡ Some ts → parts_at (key ∷ words) ≡ Some (parts_with key s ts)
+unfolding parts_at
+parts_at_words key words rest s ts is step lets = rw (no_key_fault key is, step, lets) refl
+
+pub no_key_no_parts : (key : List ℕ) (words : List (List ℕ)) → key_if_legal key ≡ None → parts_at (key ∷ words) ≡ None
+unfolding parts_at
+no_key_no_parts key words none = rw none refl
+
+-- the key and the words after it
+abbrev before : List (List ℕ) → List ℕ → Option (List ℕ × List (List ℕ))
+before words key = Some (key, words)
+
+abbrev parts_after : List ℕ × List (List ℕ) → Option Parts
+parts_after key = step_at key.1 >>= λ step. lets_in_words step.1 >>= λ tickets. Some (parts_with key.0 step.0 tickets)
+
+step_missing : (o : Option IdError) (key : List ℕ) (words : List (List ℕ)) → step_at words ≡ None → ((if_no_fault o key >>= before words) >>= parts_after) ≡ None
+step_missing None key words none = rw none refl
+step_missing (Some f) key words none = refl
+
+pub no_step_no_parts : (key : List ℕ) (words : List (List ℕ)) → step_at words ≡ None → parts_at (key ∷ words) ≡ None
+unfolding parts_at
+no_step_no_parts key words none = step_missing (key_fault key) key words none
+
+lets_missing : (o : Option IdError) (key : List ℕ) (words rest : List (List ℕ)) (s : LineStep) → step_at words ≡ Some (s, rest) → lets_in_words rest ≡ None → ((if_no_fault o key >>= before words) >>= parts_after) ≡ None
+lets_missing None key words rest s step none = rw (step, none) refl
+lets_missing (Some f) key words rest s step none = refl
+
+pub no_lets_no_parts : (key : List ℕ) (words rest : List (List ℕ)) (s : LineStep) → step_at words ≡ Some (s, rest) → lets_in_words rest ≡ None → parts_at (key ∷ words) ≡ None
+unfolding parts_at
+no_lets_no_parts key words rest s step none = lets_missing (key_fault key) key words rest s step none
+
+pub no_words_no_parts : parts_at [] ≡ None
+unfolding parts_at
+no_words_no_parts = refl

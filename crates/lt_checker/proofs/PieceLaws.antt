@@ -1,7 +1,7 @@
 -- A checker takes a text piece by piece, and two checkers are joined.
 use Rattle.std.proofs.Common.{◌≡◌, ◌≢◌, ℕ, ◌+◌, ◌<◌, ◌≤◌, ◌^◌, false, cond, eqb, ◌==◌, map, List, [], ◌∷◌, ◌++◌, length, Option, Some, None, Result, Ok, Err, refl, sym, ap, subst, ◌∙◌, inl, inr, append_assoc, arith}
-use Rattle.std.specs.Prelude.{IfErr}
-use Rattle.std.specs.List.{flat_map, AllByRecursion}
+use Rattle.std.specs.Prelude.{IfOk, IfErr}
+use Rattle.std.specs.List.{slice_split, flat_map, AllByRecursion}
 use Rattle.std.specs.Str.{bytes_eq}
 use Rattle.std.proofs.lemmas.List.{append-nil, length-append, append_cancel_left}
 use Rattle.std.proofs.lemmas.Grind.{flat_map-append}
@@ -18,13 +18,15 @@ use Rattle.lt_checker.specs.declared.error.HistoryLineError.TheVariants as refus
 use Rattle.lt_checker.specs.declared.pieces.Checker.{Checker}
 use Rattle.lt_checker.specs.Cursor.{spot, latest_key}
 use Rattle.lt_checker.specs.Histories.{precedes}
-use Rattle.lt_checker.specs.Lines.{Parts, IsLine, line_text}
+use Rattle.lt_ids.specs.Ids.{Wait}
+use Rattle.lt_checker.specs.declared.line.LineStep.{LineStep}
+use Rattle.lt_checker.specs.Lines.{Parts, IsLine, line_text, parts_with, step_at, lets_in_words}
 use Rattle.lt_checker.specs.Text.{Spot, IsOf, IsOrdered, HasItsIndex, IsShapelessIn, MayNotComeNext, start, text_by, spot_after, spot_from, outcome, index_after, Follows, AreLegal, AreLegalFrom, key_count, HasFault, HasFaultOr, FailsAt, Fails}
 use Rattle.lt_checker.specs.Verdict.{IsReported, FailsOr, GoesOn, Judges, IsLegalText, IsOrMemory, located}
 use Rattle.lt_checker.specs.Version.{IsVersion, header_of}
-use Rattle.lt_checker.specs.Pieces.{IsCountable, first_key, HasTaken, ReportsLegal, HasBegun, LacksHeader, IsFaultyLine, IsNoNextLine, key_or, TakesOneLine, MovesOver, RefusesFrom, JudgesAtEnd, SaysAtEnd, AcceptsAtEnd, RefusesAtEnd, RisesTo, MayJoin, TakesBoth, first_of_both, IsJoined}
+use Rattle.lt_checker.specs.Pieces.{IsCountable, first_key, HasTaken, ReportsLegal, HasBegun, LacksHeader, IsFaultyLine, IsNoNextLine, key_or, TakesOneLine, TakesParts, IsFaultyParts, MovesOver, RefusesFrom, JudgesAtEnd, SaysAtEnd, AcceptsAtEnd, RefusesAtEnd, RisesTo, MayJoin, TakesBoth, first_of_both, IsJoined}
 use Rattle.lt_checker.proofs.Keys.{not_back, apart_back}
-use Rattle.lt_checker.proofs.LineLaws.{shapeless, wrong, cut_more, uncut_is_shapeless, one_line}
+use Rattle.lt_checker.proofs.LineLaws.{shapeless, wrong, cut_more, uncut_is_shapeless, one_line, without_key, with_parts, with_other_parts}
 use Rattle.lt_checker.proofs.Loop.{legal_push, spot_push, text_push, one_more_of, keys_push, room_of}
 use Rattle.lt_checker.proofs.Verdicts.{is_said, legal_is_said, fault_is_said, all_append}
 
@@ -346,3 +348,29 @@ line_comes_not version s bytes p (refusals.Fault fault) line same h = λ q other
 pub refused_comes_not : {A : Type 0} (version : ℕ) (s : Spot) (bytes : List ℕ) (p : Parts) (r : Result A HistoryLineError) → IsLine p → line_text p ≡ bytes ++ 10 ∷ [] → IfErr r (MayNotComeNext s p) → IfErr r (IsNoNextLine version s bytes)
 refused_comes_not version s bytes p (Ok x) line same h = tt
 refused_comes_not version s bytes p (Err e) line same h = line_comes_not version s bytes p e line same h
+
+-- ---- a line that is taken word by word
+
+pub takes_line : (old new : Checker) (bytes key : List ℕ) (words rest : List (List ℕ)) (s : LineStep) (ts : List Wait) (r : Result Unit HistoryLineError) → slice_split (λ b. eqb b 32) bytes ≡ key ∷ words → step_at words ≡ Some (s, rest) → lets_in_words rest ≡ Some ts
+    → IfOk r (λ _. TakesParts old (parts_with key s ts) new) → IfOk r (λ _. TakesOneLine old bytes new)
+takes_line old new bytes key words rest s ts (Ok u) split step lets h =
+    let p = with_parts bytes key words rest s ts split step lets h.key in
+    record {
+      next = record { parts = parts_with key s ts; line = p.0; of_version = h.of_version; is_text = p.1; follows = h.follows; leads = h.leads };
+      version = h.version;
+      steps = h.steps;
+      keys = h.keys;
+      first = h.first;
+    }
+takes_line old new bytes key words rest s ts (Err e) split step lets h = tt
+
+pub refuses_line : (version : ℕ) (at : Spot) (bytes key : List ℕ) (words rest : List (List ℕ)) (s : LineStep) (ts : List Wait) (r : Result Unit HistoryLineError) → slice_split (λ b. eqb b 32) bytes ≡ key ∷ words → step_at words ≡ Some (s, rest) → lets_in_words rest ≡ Some ts
+    → IfErr r (λ e. IsFaultyParts version at (parts_with key s ts) e) → IfErr r (λ e. IsFaultyLine version at bytes e)
+refuses_line version at bytes key words rest s ts (Ok u) split step lets h = tt
+refuses_line version at bytes key words rest s ts (Err e) split step lets h = elim h [
+  | inl a ↦ inl (elim a [
+    | inl none ↦ without_key version bytes key words e split none
+    | inr other ↦ subst (λ x. IsShapelessIn version x bytes) (sym other.0) (with_other_parts version bytes key words rest s ts split step lets other.1)
+  ])
+  | inr b ↦ let p = with_parts bytes key words rest s ts split step lets b.0 in inr (parts_with key s ts, p.0, b.1, p.1, b.2)
+]

@@ -1,8 +1,10 @@
 -- What a cursor of the check stands for, and how its moves change it.
-use Rattle.std.specs.Prelude.{ℕ, ◌≡◌, List, [], map, Option, Some, None}
+use Rattle.std.specs.Prelude.{ℕ, ◌≡◌, ◌⊎◌, Bool, List, [], map, Option, Some, None, IfSome}
+use Rattle.std.specs.Str.{bytes_eq}
 use Rattle.std.specs.Ordering.{nat_cmp, is_lt}
 use Rattle.std.specs.Cmp.Lexicographic.{slice_cmp}
 use Rattle.std.specs.Prelude.{false}
+use Rattle.lt_ids.specs.Key.{IsKey}
 use Rattle.lt_ids.specs.Ids.{Wait}
 use Rattle.lt_rules.specs.Rules.{Record, empty}
 use Rattle.lt_rules.specs.Step.{step}
@@ -12,8 +14,8 @@ use Rattle.lt_checker.specs.declared.error.HistoryLineError.TheVariants as refus
 use Rattle.lt_checker.specs.declared.line.LineStep.{LineStep}
 use Rattle.lt_checker.specs.declared.cursor.Cursor.{Cursor}
 use Rattle.lt_checker.specs.declared.cursor.Expected.{Expected}
-use Rattle.lt_checker.specs.Lines.{Parts}
-use Rattle.lt_checker.specs.Text.{Spot, index_after, record_before, outcome, IsOrdered, HasItsIndex}
+use Rattle.lt_checker.specs.Lines.{Parts, IsNoKey}
+use Rattle.lt_checker.specs.Text.{Spot, index_after, record_before, outcome, IsOrdered, HasItsIndex, IsWrongOr}
 
 -- The key of the latest line; before the first line, the empty key.
 abbrev pub latest_key : Option (List ℕ) → List ℕ
@@ -56,6 +58,27 @@ IsNoNext s key index refusals.Memory = Unit {0}
 IsNoNext s key index (refusals.Fault KeyOrder) = IsInOrder s key → ⊥
 IsNoNext s key index (refusals.Fault Index) = IsInOrder s key × (index ≡ index_after s key → ⊥)
 IsNoNext s key index (refusals.Fault _) = ⊥
+
+-- The word is the key of the latest line.
+abbrev pub is_latest : Option (List ℕ) → List ℕ → Bool
+is_latest None word = false
+is_latest (Some key) word = bytes_eq word key
+
+-- The line of the latest key with this index may come next, and this is the cursor before its call.
+abbrev pub GoesOnAtKey : Cursor → ℕ → Cursor → Type 0
+GoesOnAtKey old index next = IfSome old.key (λ key. IsNext (spot old) key index next)
+
+-- The line of the latest key with this index may not come next.
+abbrev pub DoesNotGoOnAtKey : Cursor → ℕ → HistoryLineError → Type 0
+DoesNotGoOnAtKey old index e = IfSome old.key (λ key. IsNoNext (spot old) key index e)
+
+-- The word is no key, or the line of this key and index may not come next.
+abbrev pub IsNoNextWord : Spot → List ℕ → ℕ → HistoryLineError → Type 0
+IsNoNextWord s word index e = IsNoKey word e ⊎ (IsKey word × IsNoNext s word index e)
+
+-- The first word is no key, or the line with these parts has this fault here.
+abbrev pub IsNoKeyOrWrong : Spot → Parts → HistoryLineError → Type 0
+IsNoKeyOrWrong s p e = IsNoKey p.key e ⊎ (IsKey p.key × IsWrongOr s p e)
 
 -- The rules give the line's reply and its tickets, and leave this record.
 pub record FollowsRules (r : Record) (s : LineStep) (tickets : List Wait) (after : Record) : Type 0 where

@@ -118,6 +118,14 @@ parts_at words = do
 abbrev pub parts_of : Line → Parts
 parts_of l = record { key = l.key; step = l.step; tickets = l.tickets.items }
 
+-- The parts of the line with this key, this step and these tickets.
+abbrev pub parts_with : List ℕ → LineStep → List Wait → Parts
+parts_with key step tickets = record { key = key; step = step; tickets = tickets }
+
+-- The word is no key. Out of memory says nothing about it.
+abbrev pub IsNoKey : List ℕ → HistoryLineError → Type 0
+IsNoKey word e = IsMisread e (key_if_legal word)
+
 -- No line has this text. Out of memory says nothing about it.
 abbrev pub IsShapeless : HistoryLineError → List ℕ → Type 0
 IsShapeless refusals.Memory bytes = Unit {0}

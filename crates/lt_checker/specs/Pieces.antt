@@ -1,18 +1,19 @@
 -- A check of a text that comes in pieces: what a checker has taken, and what it says of every text that goes on.
 use Rattle.std.specs.Prelude.{ℕ, ◌≡◌, ◌⊎◌, ◌+◌, ◌<◌, ◌≤◌, ◌^◌, ◌==◌, true, if◌then◌else◌, List, [], ◌∷◌, ◌++◌, length, Option, Some, None, Result, Ok}
 use Rattle.std.specs.List.{AllByRecursion}
+use Rattle.lt_ids.specs.Key.{IsKey}
 use Rattle.lt_text.specs.Words.{cut_of}
 use Rattle.lt_checker.specs.declared.checker.Report.{Report}
 use Rattle.lt_checker.specs.declared.checker.CheckError.{CheckError}
 use Rattle.lt_checker.specs.declared.cursor.Expected.{Expected}
-use Rattle.lt_checker.specs.declared.error.Fault.TheVariants.{Header}
+use Rattle.lt_checker.specs.declared.error.Fault.TheVariants.{Header, Shape}
 use Rattle.lt_checker.specs.declared.error.HistoryLineError.{HistoryLineError}
 use Rattle.lt_checker.specs.declared.error.HistoryLineError.TheVariants as refusals
 use Rattle.lt_checker.specs.declared.line.Line.{Line}
 use Rattle.lt_checker.specs.declared.pieces.Checker.{Checker}
 use Rattle.lt_checker.specs.Cursor.{spot, IsGiven}
 use Rattle.lt_checker.specs.Histories.{precedes}
-use Rattle.lt_checker.specs.Lines.{Parts, IsLine, line_text, parts_of}
+use Rattle.lt_checker.specs.Lines.{Parts, IsLine, IsNoKey, line_text, parts_of}
 use Rattle.lt_checker.specs.Text.{Spot, start, spot_after, spot_from, IsOf, IsOrdered, HasItsIndex, IsShapelessIn, IsWrongOr, Follows, AreLegal, text_by, key_count, Fails}
 use Rattle.lt_checker.specs.Verdict.{IsLegalText, Says, Judges, IsOrMemory, RefusesFaulty, FailsOr}
 use Rattle.lt_checker.specs.Version.{IsVersion, header_of}
@@ -91,6 +92,25 @@ pub record TakesOneLine (old : Checker) (bytes : List ℕ) (new : Checker) : Typ
   pub steps : old.report.steps + 1 < 2 ^ 64 → new.report.steps ≡ old.report.steps + 1
   pub keys : old.report.keys + 1 < 2 ^ 64 → new.report.keys ≡ (if next.parts.step.index == 1 then old.report.keys + 1 else old.report.keys)
   pub first : new.first ≡ key_or old.first next.parts.key
+
+-- The checker has taken and counted a line with these parts.
+pub record TakesParts (old : Checker) (p : Parts) (new : Checker) : Type 0 where
+  pub key : IsKey p.key
+  pub of_version : IsOf old.report.version p
+  pub follows : Follows (spot old.cursor) p
+  pub leads : spot new.cursor ≡ spot_after (spot old.cursor) p
+  pub version : new.report.version ≡ old.report.version
+  pub steps : old.report.steps + 1 < 2 ^ 64 → new.report.steps ≡ old.report.steps + 1
+  pub keys : old.report.keys + 1 < 2 ^ 64 → new.report.keys ≡ (if p.step.index == 1 then old.report.keys + 1 else old.report.keys)
+  pub first : new.first ≡ key_or old.first p.key
+
+-- The parts are no line of the version.
+abbrev pub IsNoLineOf : ℕ → Parts → HistoryLineError → Type 0
+IsNoLineOf version p e = IsNoKey p.key e ⊎ ((e ≡ refusals.Fault Shape) × (IsOf version p → ⊥))
+
+-- A line with these parts has this fault here. Out of memory says nothing about it.
+abbrev pub IsFaultyParts : ℕ → Spot → Parts → HistoryLineError → Type 0
+IsFaultyParts version s p e = IsNoLineOf version p e ⊎ (IsKey p.key × IsOf version p × IsWrongOr s p e)
 
 -- The line with these bytes, given without its line end, says this.
 pub record IsTextOfLine (bytes : List ℕ) (l : Line) : Type 0 where

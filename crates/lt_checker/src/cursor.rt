@@ -3,19 +3,21 @@
 //! A `Cursor` remembers the key and the index of the latest line and replays that key's calls on a record of its
 //! own. `follow` checks, in this order, that the next line has its key in order, the right index, the reply of
 //! the rules and their lets. Read next: `specs/Text.antt` for these four conditions, and `lt_rules` for the rules.
-ghost use Rattle.std.specs.Prelude.{◌≡◌, ◌<◌, ◌≤◌, ◌↔◌, [], IfOk, IfErr, IsTrue, map, length};
+ghost use Rattle.std.specs.Prelude.{◌≡◌, ◌<◌, ◌≤◌, ◌↔◌, [], Some, IfOk, IfErr, IsTrue, map, length};
 ghost use Rattle.lt_rules.specs.Rules.{IsOutcome, empty};
 ghost use Rattle.lt_rules.specs.Step.{step};
-ghost use Rattle.lt_checker.specs.Lines.{IsLine, parts_of};
+ghost use Rattle.lt_checker.specs.Lines.{IsLine, IsReadStep, parts_of, parts_with};
 ghost use Rattle.lt_checker.specs.Text.{Follows, IsWrongOr, MayNotComeNext, start, spot_after};
-ghost use Rattle.lt_checker.specs.Cursor.{record_in, spot, IsAtNewKey, IsNoFirst, IsNext, IsNoNext, FollowsRules, IsNotMade, IsGiven};
+ghost use Rattle.lt_checker.specs.Cursor.{record_in, spot, IsAtNewKey, IsNoFirst, IsNext, IsNoNext, FollowsRules, IsNotMade, IsGiven, is_latest, GoesOnAtKey, DoesNotGoOnAtKey, IsNoNextWord, IsNoKeyOrWrong};
+ghost use Rattle.lt_ids.specs.Key.{IsKey};
 ghost use Rattle.lt_ids.specs.declared.limits.TheConstants.{MAX_PASS};
 
 use crate::error::{Fault, HistoryLineError};
-use crate::line::{Line, LineStep};
+use crate::line::{Line, LineStep, key_of};
 use lt_ids::{Key, Through, Ticket};
 use lt_row::LinkedRecord;
 use lt_rules::{Call, Reply};
+use lt_text::words::is_name;
 use std::alloc::{AllocError, Global};
 use std::cmp::Ordering;
 
@@ -65,6 +67,19 @@ fn go_to_first(cursor: &mut Cursor, key: &Key, index: u64) -> Result<(), History
     Ok(())
 }
 
+/// Moves to the next line of the latest key, before its call is made.
+fn go_on(cursor: &mut Cursor, index: u64) -> Result<(), HistoryLineError>
+    requires { 1 ≤ index }
+    ensures ok { IfOk result (λ _. GoesOnAtKey cursor.old index cursor.new) }
+    ensures err { IfErr result (λ e. DoesNotGoOnAtKey cursor.old index e) }
+{
+    if index - 1 != cursor.index {
+        return Err(HistoryLineError::Fault(Fault::Index));
+    }
+    cursor.index = index;
+    Ok(())
+}
+
 /// Moves to the line of this key and index, before its call is made.
 #[tactic(auto, using(crate::proofs::Places::first_is_next, crate::proofs::Places::first_is_not_next, crate::proofs::Places::at_start, crate::proofs::Places::later_key))]
 fn go_to(cursor: &mut Cursor, key: &Key, index: u64) -> Result<(), HistoryLineError>
@@ -79,14 +94,39 @@ fn go_to(cursor: &mut Cursor, key: &Key, index: u64) -> Result<(), HistoryLineEr
     match key.cmp(latest) {
         Ordering::Less => Err(HistoryLineError::Fault(Fault::KeyOrder)),
         Ordering::Greater => go_to_first(cursor, key, index),
-        Ordering::Equal => {
-            if index - 1 != cursor.index {
-                return Err(HistoryLineError::Fault(Fault::Index));
-            }
-            cursor.index = index;
-            Ok(())
-        }
+        Ordering::Equal => { go_on(cursor, index) }
     }
+}
+
+/// Whether the word is the key of the latest line.
+fn is_latest(latest: &Option<Key>, word: &[u8]) -> bool
+    ensures same { result ≡ is_latest latest.now word.now }
+    ensures is_key { IsTrue result → IsKey word.now }
+{
+    let Some(latest) = latest else {
+        return false;
+    };
+    is_name(word, latest.as_bytes())
+}
+
+/// Moves to the line of this key and index, before its call is made. Most lines have the key of the line before them.
+/// Then the bytes only need to be compared.
+fn go_to_word(
+    alloc: Global,
+    cursor: &mut Cursor,
+    word: &[u8],
+    index: u64,
+) -> Result<(), HistoryLineError>
+    requires { 1 ≤ index }
+    ensures key { IfOk result (λ _. IsKey word.now) }
+    ensures next { IfOk result (λ _. IsNext (spot cursor.old) word.now index cursor.new) }
+    ensures err { IfErr result (λ e. IsNoNextWord (spot cursor.old) word.now index e) }
+{
+    if is_latest(&cursor.key, word) {
+        return go_on(cursor, index);
+    }
+    let key = key_of(alloc, word)?;
+    go_to(cursor, &key, index)
 }
 
 fn tickets_of(alloc: Global, lets: &[Through]) -> Result<Vec<Ticket>, AllocError>
@@ -175,19 +215,24 @@ fn make_step(
     Ok(())
 }
 
-/// Moves over a line, if it follows the lines before it.
+/// Moves over the line that has this key, this step and these tickets, if it follows the lines before it.
 pub(crate) fn follow(
     alloc: Global,
     cursor: &mut Cursor,
-    line: &Line,
+    key: &[u8],
+    step: &LineStep,
+    tickets: &[Ticket],
 ) -> Result<(), HistoryLineError>
-    requires { IsLine (parts_of line.now) }
-    ensures follows { IfOk result (λ _. Follows (spot cursor.old) (parts_of line.now)) }
-    ensures leads { IfOk result (λ _. spot cursor.new ≡ spot_after (spot cursor.old) (parts_of line.now)) }
-    ensures err { IfErr result (λ e. IsWrongOr (spot cursor.old) (parts_of line.now) e) }
+    requires { IsReadStep step.now }
+    ensures key { IfOk result (λ _. IsKey key.now) }
+    ensures latest { IfOk result (λ _. cursor.new.key ≡ Some key.now) }
+    ensures follows { IfOk result (λ _. Follows (spot cursor.old) (parts_with key.now step.now tickets.now)) }
+    ensures leads { IfOk result (λ _. spot cursor.new ≡
+        spot_after (spot cursor.old) (parts_with key.now step.now tickets.now)) }
+    ensures err { IfErr result (λ e. IsNoKeyOrWrong (spot cursor.old) (parts_with key.now step.now tickets.now) e) }
 {
-    go_to(cursor, &line.key, line.step.index)?;
-    make_step(alloc, &mut cursor.linked, &line.step, &line.tickets)
+    go_to_word(alloc, cursor, key, step.index)?;
+    make_step(alloc, &mut cursor.linked, step, tickets)
 }
 
 /// What the rules give for the line's call, if the line may come next. Its reply and its tickets are not looked at.

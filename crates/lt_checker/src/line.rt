@@ -6,7 +6,7 @@
 ghost use Rattle.std.specs.Prelude.{◌≡◌, ◌^◌, suc, ◌++◌, ◌∷◌, [], IfOk, IfErr};
 ghost use Rattle.lt_text.specs.Fields.{number_within};
 ghost use Rattle.lt_text.specs.Calls.{Gives};
-ghost use Rattle.lt_checker.specs.Lines.{IsReadAs, key_at, step_at, tickets_of, lets_in_words, parts_of, parts_at, IsLine, line_text, IsShapeless};
+ghost use Rattle.lt_checker.specs.Lines.{IsReadAs, key_if_legal, key_at, step_at, tickets_of, lets_in_words, parts_of, parts_at, IsLine, line_text, IsShapeless};
 
 use crate::error::{Fault, HistoryLineError};
 use lt_ids::{IdError, Key, MAX_PASS, Ticket};
@@ -15,7 +15,7 @@ use lt_text::call::call;
 use lt_text::field::ticket;
 use lt_text::number::number;
 use lt_text::reply::{is_reply_of, reply};
-use lt_text::words::Words;
+use lt_text::words::{Words, is_name};
 use std::alloc::Global;
 
 /// The parts of a line between its key and its lets.
@@ -34,17 +34,24 @@ pub struct Line {
     pub tickets: Vec<Ticket>,
 }
 
+/// The key that the word spells.
+pub(crate) fn key_of(alloc: Global, word: &[u8]) -> Result<Key, HistoryLineError>
+    ensures { IsReadAs (λ key. key) result (key_if_legal word.now) }
+{
+    match Key::from_bytes(alloc, word) {
+        Ok(key) => Ok(key),
+        Err(IdError::Memory) => Err(HistoryLineError::Memory),
+        Err(_) => Err(HistoryLineError::Fault(Fault::Shape)),
+    }
+}
+
 fn key(alloc: Global, words: &mut Words) -> Result<Key, HistoryLineError>
     ensures { IsReadAs (λ key. (key, words.new)) result (key_at words.old) }
 {
     let Some(word) = words.next() else {
         return Err(HistoryLineError::Fault(Fault::Shape));
     };
-    match Key::from_bytes(alloc, word) {
-        Ok(key) => Ok(key),
-        Err(IdError::Memory) => Err(HistoryLineError::Memory),
-        Err(_) => Err(HistoryLineError::Fault(Fault::Shape)),
-    }
+    key_of(alloc, word)
 }
 
 fn index(word: &[u8]) -> Option<u64>
@@ -68,14 +75,14 @@ fn pass(word: &[u8]) -> Option<u32>
 }
 
 #[tactic(auto, unfolding(crate::specs::Lines::step_at, crate::specs::Lines::equals_of))]
-fn read_step(words: &mut Words) -> Option<LineStep>
+pub(crate) fn read_step(words: &mut Words) -> Option<LineStep>
     ensures { Gives result words.new (step_at words.old) }
 {
     let index = index(words.next()?)?;
     let pass = pass(words.next()?)?;
     let call = call(words)?;
     let equals = words.next()?;
-    if equals != b"=".as_slice() {
+    if !is_name(equals, b"=") {
         return None;
     }
     let reply = reply(words)?;
@@ -106,13 +113,13 @@ fn tickets(alloc: Global, words: &mut Words) -> Result<Vec<Ticket>, HistoryLineE
 
 /// Parses the tickets after `let`, of which there must be at least one. The list is empty if no word remains.
 #[tactic(auto, unfolding(crate::specs::Lines::lets_in_words))]
-fn lets(alloc: Global, words: &mut Words) -> Result<Vec<Ticket>, HistoryLineError>
+pub(crate) fn lets(alloc: Global, words: &mut Words) -> Result<Vec<Ticket>, HistoryLineError>
     ensures { IsReadAs (λ v. v.items) result (lets_in_words words.old) }
 {
     let Some(word) = words.next() else {
         return Ok(Vec::new(alloc));
     };
-    if word != b"let".as_slice() {
+    if !is_name(word, b"let") {
         return Err(HistoryLineError::Fault(Fault::Shape));
     }
     let list = tickets(alloc, words)?;

@@ -17,19 +17,20 @@
 ghost use Rattle.std.specs.Prelude.{◌≡◌, ◌==◌, ◌<◌, ◌+◌, ◌^◌, if◌then◌else◌, [], length, IfOk, IfErr, IfSome, IfNone, OnOk, OnErr, IsTrue, ◌↔◌, None};
 ghost use Rattle.lt_checker.specs.Cursor.{spot};
 ghost use Rattle.lt_row.specs.Front.{front_of};
+ghost use Rattle.lt_checker.specs.Lines.{IsReadStep, parts_with};
 ghost use Rattle.lt_checker.specs.Text.{record_before};
 ghost use Rattle.lt_checker.specs.Version.{IsVersion, header_of};
 ghost use Rattle.lt_checker.specs.Verdict.{located};
-ghost use Rattle.lt_checker.specs.Pieces.{HasTaken, IsTextOfLine, TakesOneLine, TakesFirstLine, TakesNone, TakesLines, RefusesFrom, IsFaultyLine, IsNoNextLine, JudgesAtEnd, SaysAtEnd, AcceptsAtEnd, RefusesAtEnd, HasBegun, LacksHeader, GivesByRules, MayJoin, TakesBoth, ReportsLegal, first_of_both, key_or};
+ghost use Rattle.lt_checker.specs.Pieces.{HasTaken, IsTextOfLine, TakesOneLine, TakesParts, IsFaultyParts, TakesFirstLine, TakesNone, TakesLines, RefusesFrom, IsFaultyLine, IsNoNextLine, JudgesAtEnd, SaysAtEnd, AcceptsAtEnd, RefusesAtEnd, HasBegun, LacksHeader, GivesByRules, MayJoin, TakesBoth, ReportsLegal, first_of_both, key_or};
 
 use crate::checker::{CheckError, Report};
 use crate::cursor::{Cursor, Expected, expect, follow, start};
 use crate::error::{Fault, HistoryLineError};
-use crate::line::Line;
-use crate::version::line_of;
-use lt_ids::Key;
+use crate::line::{Line, LineStep, lets, read_line, read_step};
+use crate::version::{is_of_version, line_of};
+use lt_ids::{Key, Ticket};
 use lt_rules::{KeyState, QueueLengths};
-use lt_text::words::cut;
+use lt_text::words::{Words, cut_line};
 use std::alloc::{AllocError, Global};
 
 fn located(refusal: HistoryLineError, line: usize) -> CheckError
@@ -81,11 +82,14 @@ fn first_of_both(first: Option<Key>, next: Option<Key>) -> Option<Key>
     }
 }
 
-/// Notes the key, if it is the first one.
-fn note_first(first: &mut Option<Key>, key: &Key) -> Result<(), AllocError>
-    ensures { OnOk result (first.new ≡ key_or first.old key.now) }
+/// Notes the key of the latest line, if it is the first line.
+fn note_first(first: &mut Option<Key>, latest: &Option<Key>) -> Result<(), AllocError>
+    ensures { OnOk result (IfSome latest.now (λ key. first.new ≡ key_or first.old key)) }
 {
-    if first.is_none() {
+    if first.is_some() {
+        return Ok(());
+    }
+    if let Some(key) = latest {
         *first = Some(key.copy()?);
     }
     Ok(())
@@ -154,18 +158,59 @@ impl Checker {
         }
     }
 
-    /// Takes a line, given without its line end, and returns what it says.
+    /// Takes a line, given without its line end, and returns what it says. The line is read twice: once for what it
+    /// says, and once to take it.
+    #[tactic(auto, using(crate::proofs::LineLaws::shapeless_in))]
     fn follow_line(&mut self, alloc: Global, bytes: &[u8]) -> Result<Line, HistoryLineError>
         ensures ok { IfOk result (λ _. TakesOneLine self.old bytes.now self.new) }
         ensures line { IfOk result (IsTextOfLine bytes.now) }
         ensures err { IfErr result (λ e. IsFaultyLine self.old.report.version (spot self.old.cursor) bytes.now e) }
         ensures report { OnErr result (self.new.report ≡ self.old.report) }
     {
-        let line = line_of(alloc, self.report.version, bytes)?;
-        follow(alloc, &mut self.cursor, &line)?;
-        note_first(&mut self.first, &line.key)?;
-        self.report = counted(self.report, line.step.index);
+        let line = read_line(alloc, bytes)?;
+        self.pass_line(alloc, bytes)?;
         Ok(line)
+    }
+
+    /// Takes a line, given without its line end. It builds no [`Line`], and it copies the key only if that is a new one.
+    /// So most lines cost no more than reading their words and making the call.
+    fn pass_line(&mut self, alloc: Global, bytes: &[u8]) -> Result<(), HistoryLineError>
+        ensures ok { IfOk result (λ _. TakesOneLine self.old bytes.now self.new) }
+        ensures err { IfErr result (λ e. IsFaultyLine self.old.report.version (spot self.old.cursor) bytes.now e) }
+        ensures report { OnErr result (self.new.report ≡ self.old.report) }
+    {
+        let mut words = Words::new(bytes);
+        let Some(key) = words.next() else {
+            return Err(HistoryLineError::Fault(Fault::Shape));
+        };
+        let Some(step) = read_step(&mut words) else {
+            return Err(HistoryLineError::Fault(Fault::Shape));
+        };
+        let tickets = lets(alloc, &mut words)?;
+        self.take_parts(alloc, key, &step, &tickets)
+    }
+
+    /// Takes the line with this key, this step and these tickets.
+    fn take_parts(
+        &mut self,
+        alloc: Global,
+        key: &[u8],
+        step: &LineStep,
+        tickets: &[Ticket],
+    ) -> Result<(), HistoryLineError>
+        requires { IsReadStep step.now }
+        ensures ok { IfOk result (λ _. TakesParts self.old (parts_with key.now step.now tickets.now) self.new) }
+        ensures err { IfErr result (λ e. IsFaultyParts self.old.report.version (spot self.old.cursor)
+            (parts_with key.now step.now tickets.now) e) }
+        ensures report { OnErr result (self.new.report ≡ self.old.report) }
+    {
+        if !is_of_version(self.report.version, step) {
+            return Err(HistoryLineError::Fault(Fault::Shape));
+        }
+        follow(alloc, &mut self.cursor, key, step, tickets)?;
+        note_first(&mut self.first, &self.cursor.key)?;
+        self.report = counted(self.report, step.index);
+        Ok(())
     }
 
     /// Takes the first line of a piece. Returns what the line says, and the bytes after it. `None` if the piece has no
@@ -181,7 +226,7 @@ impl Checker {
         ensures none { IfOk result (λ r. IfNone r (TakesNone self.old piece.now self.new)) }
         ensures err { IfErr result (λ e. RefusesFrom self.old piece.now e) }
     {
-        let Some((bytes, after)) = cut(piece, b'\n') else {
+        let Some((bytes, after)) = cut_line(piece) else {
             return Ok(None);
         };
         match self.follow_line(alloc, bytes) {
@@ -198,8 +243,8 @@ impl Checker {
         ensures err { IfErr result (λ e. RefusesFrom self.old piece.now e) }
     {
         let mut rest = piece;
-        while let Some((line, after)) = cut(rest, b'\n') {
-            if let Err(refusal) = self.follow_line(alloc, line) {
+        while let Some((line, after)) = cut_line(rest) {
+            if let Err(refusal) = self.pass_line(alloc, line) {
                 return Err(located(refusal, self.report.steps.saturating_add(2)));
             }
             rest = after;

@@ -21,7 +21,7 @@ fn is_of_first(call: &Call) -> bool
 }
 
 /// Whether the step can occur in a text of this version.
-fn is_of_version(version: u8, step: &LineStep) -> bool
+pub(crate) fn is_of_version(version: u8, step: &LineStep) -> bool
     ensures { result ≡ is_of_version version step.now.call step.now.reply }
 {
     version != 1 || (is_of_first(&step.call) && !matches!(step.reply, Reply::TooLong))

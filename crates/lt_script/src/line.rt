@@ -16,6 +16,7 @@ use crate::{Accesses, Action, ScriptPass};
 use lt_ids::{Access, IdError, Key, Timestamp, TxnId};
 use lt_text::field;
 use lt_text::number::number;
+use lt_text::words::is_name;
 use std::alloc::Global;
 
 fn pass_in(word: &[u8]) -> Option<ScriptPass>
@@ -262,28 +263,28 @@ fn alone(action: Action, args: &mut SpacedWords) -> Result<Action, LineError>
 fn action_named(alloc: Global, name: &[u8], args: &mut SpacedWords) -> Result<Action, LineError>
     ensures { IsParsedAs (λ action. action) result (action_named name.now args.old) }
 {
-    if name == b"open".as_slice() {
+    if is_name(name, b"open") {
         return open(alloc, args);
     }
-    if name == b"scan".as_slice() {
+    if is_name(name, b"scan") {
         return alone(Action::Scan, args);
     }
-    if name == b"await".as_slice() {
+    if is_name(name, b"await") {
         return alone(Action::Await, args);
     }
-    if name == b"look".as_slice() {
+    if is_name(name, b"look") {
         return look(alloc, args);
     }
-    if name == b"acquire".as_slice() {
+    if is_name(name, b"acquire") {
         return acquire(alloc, args);
     }
-    if name == b"update".as_slice() {
+    if is_name(name, b"update") {
         return update(alloc, args);
     }
-    if name == b"finish".as_slice() {
+    if is_name(name, b"finish") {
         return finish(alloc, args);
     }
-    if name == b"leave".as_slice() {
+    if is_name(name, b"leave") {
         return alone(Action::Leave, args);
     }
     Err(LineError::Fault(ScriptFault::BadCall))

@@ -1,6 +1,6 @@
 //! How does a call make one key step in a table whose callers wait for each other? Under the lock of the key's shard,
 //! with the permission to wait for it. Read next `src/scan_and_poll.rt`.
-ghost use Rattle.std.specs.Prelude.{◌≡◌, ◌≢◌, true};
+ghost use Rattle.std.specs.Prelude.{◌≡◌, ◌≢◌, true, ⊤};
 ghost use Rattle.lt_rules.specs.Memory.{gives_up};
 ghost use Rattle.lt_words.specs.declared.keeping.Keeping.TheVariants.{Unrecorded};
 ghost use Rattle.lt_shard.specs.declared.answer.StepError.TheVariants.{HistoryFull};
@@ -62,6 +62,9 @@ impl<'a, R: Wait, N: Name, T: KeyTable, W: Waker> KeyStates for Blocking<'a, R, 
     type Refusal = AllocError;
 
     ghost of = { λ _. N.of };
+
+    // A look needs memory for its copy, and that is the one error that it has.
+    ghost may_refuse_look = { λ _ _. ⊤ };
 
     fn inspect(&self, pass: &mut Pass, key: &Key) -> Result<KeyState, AllocError> {
         self.table.inspect(self.rt, pass, key)

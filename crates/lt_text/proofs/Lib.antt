@@ -1,5 +1,6 @@
 pub mod Numbers
 pub mod Cuts
+pub mod Names
 pub mod Plain
 pub mod FieldLaws
 pub mod CallLaws

@@ -1,5 +1,5 @@
 -- A word spells at most one number, and each number has exactly one word.
-use Rattle.std.proofs.Common.{◌≡◌, ℕ, zero, suc, ◌+◌, ◌-◌, ◌*◌, ◌^◌, ◌<◌, ◌≤◌, Bool, true, false, cond, List, length, get_or, take, Some, None, refl, sym, ap, subst, ◌∙◌, arith}
+use Rattle.std.proofs.Common.{◌≡◌, ℕ, zero, suc, ◌+◌, ◌-◌, ◌*◌, ◌^◌, ◌<◌, ◌≤◌, Bool, true, false, cond, List, [], ◌∷◌, length, get_or, take, Some, None, refl, sym, ap, subst, ◌∙◌, arith}
 use Rattle.std.specs.Char.{is_ascii_digit, digit_value}
 use Rattle.std.specs.Fmt.{decimal}
 use Rattle.std.specs.Int.{IsInRange}
@@ -70,3 +70,8 @@ pub number_of_digits : (word : List ℕ) (n : ℕ) → AllDigits 10 word → n �
 number_of_digits word n digits value lt some lead =
     let e : decimal n ≡ word = ap decimal value ∙ decimal-digits_value numerals word digits some lead (rw (sym value) lt) in
     sym (ap decimal_of (sym e) ∙ decimal_of-decimal n lt)
+
+-- ---- a number that is written
+
+pub one_digit : (n : ℕ) → n < 10 → decimal n ≡ (48 + n) ∷ []
+one_digit n small = decimal_digit n small

@@ -1,5 +1,6 @@
 -- A reply that is read was written that way, and each reply that is written reads back as itself.
-use Rattle.std.proofs.Common.{◌≡◌, ℕ, ◌^◌, Bool, true, List, [], ◌∷◌, ◌++◌, Option, Some, refl, sym, ap, subst, ◌∙◌, inl, inr}
+use Rattle.std.proofs.Common.{◌≡◌, ℕ, ◌^◌, Bool, true, false, List, [], ◌∷◌, ◌++◌, Option, Some, None, refl, sym, ap, subst, ◌∙◌, inl, inr}
+use mathlib.Core.Bool.{true≢false}
 use Rattle.std.specs.Prelude.{codes, find}
 use Rattle.std.specs.List.{AllByRecursion}
 use Rattle.std.specs.Str.{bytes_eq}
@@ -13,6 +14,7 @@ use Rattle.lt_text.specs.Fields.{number_within}
 use Rattle.lt_text.specs.Calls.{field_at}
 use Rattle.lt_text.specs.Replies.{reply_name, reply_numbers, reply_words, held_word, held_of, fixed_replies, fixed_reply, waits_at, own_at, reply_in_words, reply_at}
 use Rattle.lt_entry.specs.Ranges.{IsReply}
+use Rattle.lt_text.proofs.Names.{when_not}
 use Rattle.lt_text.proofs.Plain.{ArePlain}
 use Rattle.lt_text.proofs.FieldLaws.{bind_some, IsWithin, txn_field, held_field, field_takes, field_again}
 use Rattle.lt_text.proofs.CallLaws.{chosen}
@@ -24,9 +26,13 @@ IsFixed r = (reply_numbers r ≡ []) × IsReply r
 are_fixed : AllByRecursion IsFixed fixed_replies
 are_fixed = ((refl, tt), ((refl, tt), ((refl, tt), ((refl, tt), ((refl, tt), ((refl, tt), ((refl, tt), ((refl, tt), ((refl, tt), ((refl, tt), ((refl, tt), ((refl, tt), ((refl, tt), tt)))))))))))))
 
--- the name of such a reply is read as this reply
-pub named_is_fixed : (r : Reply) (word : List ℕ) → fixed_reply (reply_name r) ≡ Some r → bytes_eq (reply_name r) word ≡ true → Some r ≡ fixed_reply word
-named_is_fixed r word found e = sym (ap fixed_reply (sym ((bytes_eq-Decides (reply_name r) word).0 e)) ∙ found)
+other_way : (word name : List ℕ) → bytes_eq word name ≡ false → bytes_eq name word ≡ false
+other_way word name e = when_not _ (λ t. true≢false (sym ((bytes_eq-Decides word name).1 (sym ((bytes_eq-Decides name word).0 t))) ∙ e))
+
+-- a word that is the name of no such reply
+pub unnamed : (word : List ℕ) → bytes_eq word (codes "pass") ≡ false → bytes_eq word (codes "wait") ≡ false → bytes_eq word (codes "long") ≡ false → bytes_eq word (codes "taken") ≡ false → bytes_eq word (codes "kept") ≡ false → bytes_eq word (codes "raised") ≡ false → bytes_eq word (codes "other") ≡ false → bytes_eq word (codes "freed") ≡ false → bytes_eq word (codes "left") ≡ false → bytes_eq word (codes "absent") ≡ false → bytes_eq word (codes "nothing") ≡ false → bytes_eq word (codes "reserved") ≡ false → bytes_eq word (codes "idle") ≡ false → None ≡ fixed_reply word
+unfolding fixed_reply
+unnamed word pass wait long taken kept raised other freed left absent nothing reserved idle = rw (other_way word (codes "pass") pass, other_way word (codes "wait") wait, other_way word (codes "long") long, other_way word (codes "taken") taken, other_way word (codes "kept") kept, other_way word (codes "raised") raised, other_way word (codes "other") other, other_way word (codes "freed") freed, other_way word (codes "left") left, other_way word (codes "absent") absent, other_way word (codes "nothing") nothing, other_way word (codes "reserved") reserved, other_way word (codes "idle") idle) refl
 
 find_takes : (rs : List Reply) (word : List ℕ) (r : Reply) → AllByRecursion IsFixed rs → find (λ x. bytes_eq (reply_name x) word) rs ≡ Some r → (reply_name r ≡ word) × IsFixed r
 find_takes [] word r h e = absurd cc

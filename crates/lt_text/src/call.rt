@@ -6,7 +6,7 @@ ghost use Rattle.lt_text.specs.Calls.{Gives, bound_at, visit_at, acquire_at, upd
 
 use crate::field::{access, bound, is_bound, owner, ticket, timestamp, txn};
 use crate::number::number;
-use crate::words::Words;
+use crate::words::{Words, is_name};
 use lt_ids::MAX_REQUEST;
 use lt_rules::Call;
 
@@ -100,22 +100,22 @@ fn look(words: &mut Words) -> Option<Call>
 fn call_named(name: &[u8], words: &mut Words) -> Option<Call>
     ensures { Gives result words.new (call_in_words name.now words.old) }
 {
-    if name == b"visit".as_slice() {
+    if is_name(name, b"visit") {
         return visit(words);
     }
-    if name == b"acquire".as_slice() {
+    if is_name(name, b"acquire") {
         return acquire(words);
     }
-    if name == b"update".as_slice() {
+    if is_name(name, b"update") {
         return update(words);
     }
-    if name == b"finish".as_slice() {
+    if is_name(name, b"finish") {
         return finish(words);
     }
-    if name == b"leave".as_slice() {
+    if is_name(name, b"leave") {
         return leave(words);
     }
-    if name == b"look".as_slice() {
+    if is_name(name, b"look") {
         return look(words);
     }
     None

@@ -4,7 +4,7 @@ ghost use Rattle.std.specs.Prelude.{◌≡◌, ◌^◌};
 ghost use Rattle.lt_text.specs.Fields.{number_within, pair_of, ticket_of, time_of, access_of, owner_of, is_bound, bound_of};
 
 use crate::number::number;
-use crate::words::cut;
+use crate::words::{cut, is_name};
 use lt_ids::{Access, Ticket, Timestamp, TxnId};
 
 /// The transaction that the word names, from 1 to 2^64 - 1.
@@ -19,7 +19,7 @@ pub fn txn(word: &[u8]) -> Option<TxnId>
 pub fn owner(word: &[u8]) -> Option<Option<TxnId>>
     ensures { result ≡ owner_of word.now }
 {
-    if word == b"-".as_slice() {
+    if is_name(word, b"-") {
         return Some(None);
     }
     Some(Some(txn(word)?))
@@ -57,20 +57,21 @@ pub fn timestamp(word: &[u8]) -> Option<Timestamp>
 pub fn access(word: &[u8]) -> Option<Access>
     ensures { result ≡ access_of word.now }
 {
-    if word == b"r".as_slice() {
+    if is_name(word, b"r") {
         return Some(Access::Read);
     }
-    if word == b"w".as_slice() {
+    if is_name(word, b"w") {
         return Some(Access::Write);
     }
     None
 }
 
 /// Whether the word begins as a bound does, with `max=`.
+#[tactic(auto, using(crate::proofs::Names::too_short))]
 pub fn is_bound(word: &[u8]) -> bool
     ensures { result ≡ is_bound word.now }
 {
-    word.strip_prefix(b"max=").is_some()
+    word.len() >= 4 && is_name(&word[..4], b"max=")
 }
 
 /// The bound that the word spells: `max=` and a number from 1 to 2^32 - 1.

@@ -3,7 +3,7 @@
 //! Each function appends words to a byte vector. `specs/Fields.antt`, `specs/Calls.antt` and `specs/Replies.antt` define
 //! the words. A function fails only if an allocation fails, and may then have appended some of its bytes. Read next:
 //! `field.rt`, `call.rt` and `reply.rt`, which read the same words.
-ghost use Rattle.std.specs.Prelude.{◌≡◌, ◌++◌, ◌∷◌, [], OnOk, decimal};
+ghost use Rattle.std.specs.Prelude.{◌≡◌, ◌<◌, ◌+◌, ◌++◌, ◌∷◌, [], OnOk, decimal};
 ghost use Rattle.lt_text.specs.Replies.{held_word, reply_words};
 ghost use Rattle.lt_text.specs.Fields.{pair_word, access_word, owner_word, bound_words};
 ghost use Rattle.lt_text.specs.Calls.{call_words};
@@ -15,12 +15,34 @@ use lt_ids::{Access, Ticket, Timestamp, TxnId};
 use lt_rules::{Call, Reply};
 use std::alloc::AllocError;
 
-/// Appends the number.
-pub fn put_number(out: &mut Vec<u8>, n: u64) -> Result<(), AllocError>
+/// Appends the digit.
+fn put_digit(out: &mut Vec<u8>, digit: u8) -> Result<(), AllocError>
+    requires { digit < 10 }
+    ensures { OnOk result (out.new.items ≡ out.old.items ++ (48 + digit) ∷ []) }
+{
+    out.push(b'0' + digit)?;
+    Ok(())
+}
+
+/// Appends the number, digit by digit. It stays out of line, so that a number of one digit is a few instructions.
+#[inline(never)]
+fn put_digits(out: &mut Vec<u8>, n: u64) -> Result<(), AllocError>
     ensures { OnOk result (out.new.items ≡ out.old.items ++ decimal n) }
 {
     let mut buffer = Buffer::new();
     out.extend_from_slice(buffer.format(n).as_bytes())
+}
+
+/// Appends the number. About half of the numbers of a text have one digit.
+#[inline]
+#[tactic(auto, using(crate::proofs::Numbers::one_digit))]
+pub fn put_number(out: &mut Vec<u8>, n: u64) -> Result<(), AllocError>
+    ensures { OnOk result (out.new.items ≡ out.old.items ++ decimal n) }
+{
+    if n < 10 {
+        return put_digit(out, n as u8);
+    }
+    put_digits(out, n)
 }
 
 /// Appends two numbers with a dot between them.

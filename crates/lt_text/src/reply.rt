@@ -7,7 +7,7 @@ ghost use Rattle.lt_text.specs.Calls.{Gives};
 ghost use Rattle.lt_text.specs.Replies.{reply_name, fixed_reply, held_of, waits_at, own_at, reply_in_words, reply_at, is_reply_of, is_visit_reply, is_acquire_reply, is_update_reply, is_finish_reply, is_leave_reply, is_look_reply};
 
 use crate::field::txn;
-use crate::words::Words;
+use crate::words::{Words, is_name};
 use lt_rules::{Call, Reply};
 
 /// The first word of a reply.
@@ -34,78 +34,61 @@ pub fn name(reply: Reply) -> &'static [u8]
     }
 }
 
-/// The replies that consist of one word.
-const FIXED: [Reply; 13] = [
-    Reply::Passed,
-    Reply::MustWait,
-    Reply::TooLong,
-    Reply::Taken,
-    Reply::Kept,
-    Reply::Raised,
-    Reply::Other,
-    Reply::Freed,
-    Reply::Left,
-    Reply::Absent,
-    Reply::Nothing,
-    Reply::Reserved,
-    Reply::Idle,
-];
-
-/// Whether the word is the first word of the reply.
-fn is_spelled(reply: &Reply, word: &[u8]) -> bool
-    ensures { result ≡ bytes_eq (reply_name reply.now) word.now }
-{
-    name(*reply) == word
-}
-
-/// A one-word reply. It is chosen by the word's length and first bytes, so as to be the right one if the word
-/// spells any. The caller checks it.
+/// The reply that consists of this one word.
 #[tactic(auto, unfolding(crate::specs::Replies::fixed_reply))]
-fn likely(word: &[u8]) -> Reply
-    ensures { fixed_reply (reply_name result) ≡ Some result }
-{
-    let Some(first) = word.first() else {
-        return Reply::Passed;
-    };
-    match (word.len(), *first) {
-        (4, b'w') => Reply::MustWait,
-        (5, b't') => Reply::Taken,
-        (4, b'k') => Reply::Kept,
-        (6, b'r') => Reply::Raised,
-        (5, b'o') => Reply::Other,
-        (5, b'f') => Reply::Freed,
-        (4, b'l') => if word[1] == b'o' {
-            Reply::TooLong
-        } else {
-            Reply::Left
-        },
-        (6, b'a') => Reply::Absent,
-        (7, b'n') => Reply::Nothing,
-        (8, b'r') => Reply::Reserved,
-        (4, b'i') => Reply::Idle,
-        _ => Reply::Passed,
-    }
-}
-
-#[tactic(auto, unfolding(crate::specs::Replies::fixed_reply), using(crate::proofs::ReplyLaws::named_is_fixed))]
 fn fixed(word: &[u8]) -> Option<Reply>
     ensures { result ≡ fixed_reply word.now }
 {
-    let likely = likely(word);
-    if is_spelled(&likely, word) {
-        return Some(likely);
+    if is_name(word, b"pass") {
+        return Some(Reply::Passed);
     }
-    FIXED.iter().copied().find(|r| is_spelled(r, word))
+    if is_name(word, b"wait") {
+        return Some(Reply::MustWait);
+    }
+    if is_name(word, b"long") {
+        return Some(Reply::TooLong);
+    }
+    if is_name(word, b"taken") {
+        return Some(Reply::Taken);
+    }
+    if is_name(word, b"kept") {
+        return Some(Reply::Kept);
+    }
+    if is_name(word, b"raised") {
+        return Some(Reply::Raised);
+    }
+    if is_name(word, b"other") {
+        return Some(Reply::Other);
+    }
+    if is_name(word, b"freed") {
+        return Some(Reply::Freed);
+    }
+    if is_name(word, b"left") {
+        return Some(Reply::Left);
+    }
+    if is_name(word, b"absent") {
+        return Some(Reply::Absent);
+    }
+    if is_name(word, b"nothing") {
+        return Some(Reply::Nothing);
+    }
+    if is_name(word, b"reserved") {
+        return Some(Reply::Reserved);
+    }
+    if is_name(word, b"idle") {
+        return Some(Reply::Idle);
+    }
+    None
 }
 
 /// Whether the word says that the lock is held or reserved; `None` for any other word.
 fn is_held(word: &[u8]) -> Option<bool>
     ensures { result ≡ held_of word.now }
 {
-    if word == b"held".as_slice() {
+    if is_name(word, b"held") {
         return Some(true);
     }
-    if word == b"reserved".as_slice() {
+    if is_name(word, b"reserved") {
         return Some(false);
     }
     None
@@ -138,13 +121,13 @@ fn wait_own(words: &mut Words) -> Option<Reply>
 fn reply_named(name: &[u8], words: &mut Words) -> Option<Reply>
     ensures { Gives result words.new (reply_in_words name.now words.old) }
 {
-    if name == b"for".as_slice() {
+    if is_name(name, b"for") {
         return wait_for(words);
     }
-    if name == b"first".as_slice() {
+    if is_name(name, b"first") {
         return wait_first(words);
     }
-    if name == b"own".as_slice() {
+    if is_name(name, b"own") {
         return wait_own(words);
     }
     fixed(name)

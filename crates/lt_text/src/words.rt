@@ -1,9 +1,11 @@
 //! Splits a line into its words, which single spaces separate.
 ghost use Rattle.std.specs.Prelude.{◌≡◌, ◌==◌, ◌∷◌, [], List, ℕ, MatchOption, None, position};
 ghost use Rattle.std.specs.List.{slice_split};
+ghost use Rattle.std.specs.Str.{bytes_eq};
 ghost use Rattle.lt_text.specs.Words.{cut_of, words_left, IsCut, IsFirst};
 ghost use Rattle.std.specs.Option.{option_copied};
 
+use memchr::memchr;
 use std::marker::Model;
 
 fn position_of(bytes: &[u8], at: u8) -> Option<usize>
@@ -25,6 +27,45 @@ pub fn cut(bytes: &[u8], at: u8) -> Option<(&[u8], &[u8])>
             Some((before, after))
         }
     }
+}
+
+/// The index of the first line end. It tests many bytes at once.
+fn line_end(bytes: &[u8]) -> Option<usize>
+    ensures { result ≡ position (λ b. b == 10) bytes.now }
+{
+    memchr(b'\n', bytes)
+}
+
+/// The bytes before and after the first line end, or `None` if there is none. It does what [`cut`] does, and is faster
+/// if the line has more than a few bytes.
+#[tactic(auto, using(crate::proofs::Cuts::cut_of_none, crate::proofs::Cuts::cut_of_at))]
+pub fn cut_line(bytes: &[u8]) -> Option<(&[u8], &[u8])>
+    ensures { MatchOption result (cut_of 10 bytes.now ≡ None) (λ parts. IsCut 10 bytes.now parts.0.now parts.1.now) }
+{
+    match line_end(bytes) {
+        None => None,
+        Some(place) => {
+            let (before, _) = bytes.split_at(place);
+            let (_, after) = bytes.split_at(place + 1);
+            Some((before, after))
+        }
+    }
+}
+
+/// Whether the word is this name. It is inlined, so that a constant name costs a test of the length and of each byte.
+#[inline(always)]
+pub fn is_name(word: &[u8], name: &[u8]) -> bool
+    ensures { result ≡ bytes_eq word.now name.now }
+{
+    if word.len() != name.len() {
+        return false;
+    }
+    for i in 0..name.len() {
+        if word[i] != name[i] {
+            return false;
+        }
+    }
+    true
 }
 
 /// The first word, and the rest of the line after the word and its space.

@@ -3,3 +3,4 @@ pub mod StepLaws
 pub mod JsonLaws
 pub mod Numbered
 pub mod LineEnds
+pub mod SortLaws

@@ -7,3 +7,4 @@ pub mod Page
 pub mod Form
 pub mod Errors
 pub mod Laws
+pub mod Sorting

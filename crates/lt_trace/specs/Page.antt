@@ -1,5 +1,6 @@
 -- How lines are numbered.
 use Rattle.std.specs.Prelude.{ℕ, ◌≡◌, List, ◌++◌, Option, Some, None}
+use Rattle.std.specs.Io.KnownBytes.{Appends}
 use Rattle.lt_checker.specs.Sorted.{next_index}
 use Rattle.lt_trace.specs.declared.line.TraceLine.{TraceLine}
 use Rattle.lt_trace.specs.declared.page.KeyCounter.{KeyCounter}
@@ -26,3 +27,9 @@ abbrev pub AppendsNumbered : Page → Page → TraceLine → Option KeyCounter �
 AppendsNumbered old new line None after = after ≡ None
 AppendsNumbered old new line (Some before) None = ⊥
 AppendsNumbered old new line (Some before) (Some after) = NumbersLine old new line before after
+
+-- The first of these bytes were written, and the others stay.
+pub record WritesFront (before now : Option (List ℕ)) (bytes others : List ℕ) : Type 0 where
+  pub front : List ℕ
+  pub split : bytes ≡ front ++ others
+  pub written : Appends before now front

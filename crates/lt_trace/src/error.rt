@@ -1,5 +1,5 @@
 //! Why can a trace not be sorted? [`SortError`] is the answer to the caller, and [`TraceFault`] the fault of a line.
-ghost use Rattle.std.specs.Prelude.{◌≡◌};
+ghost use Rattle.std.specs.Prelude.{◌≡◌, ◌⊎◌};
 ghost use Rattle.lt_trace.specs.Errors.{IsOfOutput};
 ghost use Rattle.lt_trace.specs.declared.error.SortError.TheVariants.{Memory};
 
@@ -61,7 +61,8 @@ impl<T: Drop> From<AllocFailed<T>> for SortError {
 
 /// The error of a stream: out of memory, or else this one.
 pub(crate) fn stream_error(e: &io::Error, other: SortError) -> SortError
-    ensures { IsOfOutput other → IsOfOutput result }
+    ensures output { IsOfOutput other → IsOfOutput result }
+    ensures either { (result ≡ Memory) ⊎ (result ≡ other) }
 {
     if e.kind() == ErrorKind::OutOfMemory {
         SortError::Memory

@@ -9,15 +9,17 @@
 //!
 //! - A line is read exactly if it is a line of histories without its index (`trace_line_of` in `specs/Step.antt`).
 //!   With any index after its key, it is the text of a line of histories ([`laws::numbered_is_line`]).
-//! - The lines in memory are sorted by key, and lines of one key keep their order (`sort_lines`).
-//! - A merge takes the first of the least heads (`least_of`).
-//! - The indices of a key's lines rise by 1, from 1 (`Page::put`).
+//! - If all lines fit into memory, the header and the lines are written in the order of the keys. The lines of one key keep
+//!   their order, and have the indices from 1 (`sorted` of `sort_trace`).
+//! - A trace is refused at its first faulty line, with its fault (`refused`), also if lines before it are in temporary files. If
+//!   a line is refused or a read of the trace fails, the output is unchanged (`unchanged`).
 //! - A JSON line gives the step that its members spell, and a line is refused only if it says no step (`read_line` in
 //!   `src/sort.rt`).
-//! - If a line is refused or a read of the trace fails, the output is unchanged (`sort_trace`).
+//! - A run has the lines of a full memory, sorted (`write_batch`). A merge takes the first of the least heads (`least_of`), and
+//!   writes each line that it takes with the index that is due (`merge`, and `numbered` of `sort_trace`).
 //!
-//! What is tested and not proved: the streams. No contract says that the lines that come out of the temporary files
-//! are those that went in. Each line is checked again when it is read back, and at the end their number is compared.
+//! What is tested and not proved: the temporary files. No contract says that the lines that come out of them are those that
+//! went in. Each line is checked again when it is read back, and at the end their number is compared.
 //!
 //! Read next: `src/sort.rt`, then `src/line.rt` for what a line is.
 #![tactic(auto)]

@@ -28,7 +28,9 @@ fn sort_lines(lines: &mut Vec<TraceLine>) -> Result<(), AllocError>
 }
 
 impl Batch {
-    pub fn new(alloc: Global) -> Batch {
+    pub fn new(alloc: Global) -> Batch
+        ensures { result.lines.items ≡ [] }
+    {
         Batch {
             lines: Vec::new(alloc),
             held: 0,

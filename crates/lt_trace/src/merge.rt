@@ -1,6 +1,7 @@
 //! How do sorted runs become one? [`merge`] takes the least of the lines at their heads, line by line.
-ghost use Rattle.std.specs.Prelude.{IfErr};
+ghost use Rattle.std.specs.Prelude.{IfErr, OnOk};
 ghost use Rattle.lt_trace.specs.Errors.{IsOfOutput};
+ghost use Rattle.lt_trace.specs.Sorting.{WritesSomeLines};
 
 use crate::error::{SortError, stream_error};
 use crate::heads::least_of;
@@ -71,6 +72,7 @@ fn take_head<T: Read + Drop>(
 
 /// Merges the runs, which stand in the order in which their lines were read, and writes their lines. `fault` is the
 /// error of a failed write.
+#[tactic(auto, using(crate::proofs::SortLaws::none_taken, crate::proofs::SortLaws::one_taken))]
 pub(crate) fn merge<T: Read + Drop, W: Write>(
     alloc: Global,
     runs: &mut Vec<BufReader<T>>,
@@ -78,7 +80,9 @@ pub(crate) fn merge<T: Read + Drop, W: Write>(
     writer: &mut W,
     fault: SortError,
 ) -> Result<(), SortError>
-    ensures { IsOfOutput fault → IfErr result IsOfOutput }
+    ensures failed { IsOfOutput fault → IfErr result IsOfOutput }
+    // Whatever comes out of the runs, each line that is written has the index that is due.
+    ensures written { OnOk result (WritesSomeLines (W.contents writer.old) (W.contents writer.new) page.old) }
 {
     let mut bytes = Vec::new(alloc);
     let mut heads = first_lines(alloc, runs, &mut bytes)?;

@@ -5,7 +5,7 @@ ghost use Rattle.std.specs.Prelude.{◌≡◌, ◌+◌, ◌^◌, [], codes, None
 ghost use Rattle.std.specs.Io.KnownBytes.{Appends};
 ghost use Rattle.lt_trace.specs.Errors.{IsOfOutput};
 ghost use Rattle.lt_checker.specs.Sorted.{next_index};
-ghost use Rattle.lt_trace.specs.Page.{AppendsPlain, AppendsNumbered, CountsLine};
+ghost use Rattle.lt_trace.specs.Page.{AppendsPlain, AppendsNumbered, CountsLine, WritesFront};
 
 use crate::error::{SortError, stream_error};
 use crate::line::TraceLine;
@@ -92,6 +92,7 @@ impl Page {
     pub fn numbered(alloc: Global) -> Result<Page, AllocError>
         ensures bytes { IfOk result (λ p. p.bytes.items ≡ codes "locks 2\n") }
         ensures counter { IfOk result (λ p. IfSome p.counter (λ c. c.index ≡ 0)) }
+        ensures key { IfOk result (λ p. IfSome p.counter (λ c. c.key.items ≡ [])) }
         ensures numbers { IfOk result (λ p. IsSome p.counter) }
     {
         let mut bytes = Vec::new(alloc);
@@ -139,7 +140,9 @@ impl Page {
         writer: &mut W,
         fault: SortError,
     ) -> Result<(), SortError>
-        ensures { IsOfOutput fault → IfErr result IsOfOutput }
+        ensures failed { IsOfOutput fault → IfErr result IsOfOutput }
+        ensures written { OnOk result (WritesFront (W.contents writer.old) (W.contents writer.new) self.old.bytes.items self.new.bytes.items) }
+        ensures counter { self.new.counter ≡ self.old.counter }
     {
         if self.bytes.len() < AT_ONCE {
             return Ok(());
@@ -148,7 +151,9 @@ impl Page {
     }
 
     /// The numbers of keys and steps that were numbered.
-    pub fn report(&self, runs: u64) -> SortReport {
+    pub fn report(&self, runs: u64) -> SortReport
+        ensures { result.runs ≡ runs }
+    {
         match &self.counter {
             None => SortReport {
                 keys: 0,

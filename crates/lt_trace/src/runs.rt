@@ -3,7 +3,7 @@
 //!
 //! A temporary file is removed from its folder as soon as it is open, and before its first byte is written. So none is
 //! left behind, however the sort ends. This needs a file system that lets an open file be removed, as those of Unix do.
-ghost use Rattle.std.specs.Prelude.{IfErr};
+ghost use Rattle.std.specs.Prelude.{◌≡◌, ◌≢◌, ◌≤◌, ◌↔◌, [], IsTrue, IfErr, OnOk};
 ghost use Rattle.lt_trace.specs.Errors.{IsOfOutput};
 
 use crate::error::{SortError, stream_error};
@@ -72,7 +72,9 @@ pub(crate) fn create<F: Files>(
 }
 
 impl<T: Read + Seek + Drop> RunStack<T> {
-    pub fn new(alloc: Global) -> RunStack<T> {
+    pub fn new(alloc: Global) -> RunStack<T>
+        ensures { result.runs.items ≡ [] }
+    {
         RunStack {
             runs: Vec::new(alloc),
             next_name: 0,
@@ -84,16 +86,27 @@ impl<T: Read + Seek + Drop> RunStack<T> {
         self.runs.len()
     }
 
-    pub fn is_empty(&self) -> bool {
+    pub fn is_empty(&self) -> bool
+        ensures { IsTrue result ↔ (self.now.runs.items ≡ []) }
+    {
         self.runs.is_empty()
     }
 
-    pub fn stored(&self) -> u64 {
+    pub fn stored(&self) -> u64
+        ensures { result ≡ self.now.stored }
+    {
         self.stored
     }
 
-    pub fn next_name(&mut self) -> &mut u64 {
-        &mut self.next_name
+    /// The number that the name of the next file has.
+    pub fn next_name(&self) -> u64 {
+        self.next_name
+    }
+
+    pub fn set_next_name(&mut self, number: u64)
+        ensures { self.new.stored ≡ self.old.stored }
+    {
+        self.next_name = number;
     }
 
     /// How many runs at the end have the level of the last one, and that level.
@@ -112,7 +125,10 @@ impl<T: Read + Seek + Drop> RunStack<T> {
 
     /// Appends a run whose lines were written to the file.
     pub fn push(&mut self, mut file: T, level: u32) -> Result<(), SortError>
-        ensures { IfErr result IsOfOutput }
+        ensures failed { IfErr result IsOfOutput }
+        ensures some { OnOk result (self.new.runs.items ≢ []) }
+        ensures counted { OnOk result (level ≡ 0 → 1 ≤ self.new.stored) }
+        ensures stored { self.old.stored ≤ self.new.stored }
     {
         if let Err(e) = file.seek(SeekFrom::Start(0)) {
             return Err(stream_error(&e, SortError::Temporary));
@@ -126,7 +142,8 @@ impl<T: Read + Seek + Drop> RunStack<T> {
 
     /// Takes the last runs, this many, in their order.
     pub fn take_last(&mut self, alloc: Global, count: usize) -> Result<Vec<BufReader<T>>, SortError>
-        ensures { IfErr result IsOfOutput }
+        ensures failed { IfErr result IsOfOutput }
+        ensures stored { self.new.stored ≡ self.old.stored }
     {
         let mut readers = Vec::new(alloc);
         for _ in 0..count {

@@ -2,10 +2,14 @@
 //! limit, they become a run. When there are as many runs of one level as a merge may read, they become one run of the
 //! next level. At the end the runs that are left are merged into the output.
 //!
-//! Each line is proved to be read as `specs/Form.antt` says. That the lines come out as they went in is tested.
-ghost use Rattle.std.specs.Prelude.{◌≡◌, true, IfOk, IfErr};
+//! Read next `specs/Form.antt`, what a line says, and `specs/Sorting.antt`, which text the lines become and which line is
+//! refused. A sort with temporary files refuses the same line. That its lines come back from them as they went in is
+//! tested.
+ghost use Rattle.std.specs.Prelude.{◌≡◌, ◌≢◌, ◌≤◌, [], ◌++◌, ◌∷◌, true, IsTrue, IsFalse, IfOk, IfErr, IfSome, OnOk};
+ghost use Rattle.std.specs.Io.KnownBytes.{Appends};
 ghost use Rattle.lt_trace.specs.Errors.{is_input_error, IsOfOutput};
 ghost use Rattle.lt_trace.specs.Form.{IsReadInForm, IsInputLine, IsInputRefusal};
+ghost use Rattle.lt_trace.specs.Sorting.{TellsLineFault, RefusesFirstFault, TakesInputLine, RefusesNextLine, TakesBytes, IsNoRefusal, WritesInOrder, WritesSomeLines, IsNumberedInto, IsSortedInto, HasCollected, line_error, page_lines};
 
 use crate::error::{SortError, TraceFault, TraceLineError, stream_error};
 use crate::line::TraceLine;
@@ -73,6 +77,7 @@ fn read_line(
 ) -> Result<Option<TraceLine>, TraceLineError>
     ensures line { IfOk result (IsInputLine form bytes.now) }
     ensures fault { IfErr result (IsInputRefusal form bytes.now) }
+    ensures told { IfErr result (TellsLineFault form bytes.now) }
 {
     let Some(text) = bytes.strip_suffix(b"\n") else {
         return Err(TraceLineError::Fault(TraceFault::Shape));
@@ -80,16 +85,72 @@ fn read_line(
     if text.is_empty() {
         return Ok(None);
     }
-    Ok(Some(read_form(alloc, form, text)?))
+    match read_form(alloc, form, text) {
+        Ok(line) => Ok(Some(line)),
+        Err(e) => Err(e),
+    }
 }
 
 /// Reads the bytes of the next line, with its line end. Returns whether there is one.
-fn next_bytes<R: BufRead>(input: &mut R, bytes: &mut Vec<u8>) -> Result<bool, SortError> {
+fn next_bytes<R: BufRead>(input: &mut R, bytes: &mut Vec<u8>) -> Result<bool, SortError>
+    ensures line { IfOk result (λ more. TakesBytes (R.remaining input.old) (R.remaining input.new) bytes.new.items more) }
+    ensures failed { IfErr result IsNoRefusal }
+{
     bytes.clear();
     match input.read_until(b'\n', bytes) {
         Ok(n) => Ok(n != 0),
         Err(e) => Err(stream_error(&e, SortError::Read)),
     }
+}
+
+/// The error of the line with this number.
+fn line_error(number: u64, error: TraceLineError) -> SortError
+    ensures { result ≡ line_error number error }
+{
+    match error {
+        TraceLineError::Memory => SortError::Memory,
+        TraceLineError::Fault(fault) => SortError::Refused {
+            line: number,
+            fault,
+        },
+    }
+}
+
+/// Takes the next line of the input, which has this number. The inner option is `None` if the line is empty, and the outer
+/// one at the end of the input.
+fn take_line<R: BufRead>(
+    alloc: Global,
+    form: TraceForm,
+    input: &mut R,
+    bytes: &mut Vec<u8>,
+    number: u64,
+) -> Result<Option<Option<TraceLine>>, SortError>
+    ensures taken { IfOk result (TakesInputLine form (R.remaining input.old) (R.remaining input.new)) }
+    ensures refused { IfErr result (RefusesNextLine form (R.remaining input.old) number) }
+{
+    if !next_bytes(input, bytes)? {
+        return Ok(None);
+    }
+    match read_line(alloc, form, bytes) {
+        Ok(line) => Ok(Some(line)),
+        Err(error) => Err(line_error(number, error)),
+    }
+}
+
+/// Opens a new file for the lines of a run.
+fn new_file<F: Files>(
+    files: &F,
+    alloc: Global,
+    options: &SortOptions,
+    stack: &mut RunStack<F::File>,
+) -> Result<F::File, SortError>
+    ensures failed { IfErr result IsOfOutput }
+    ensures stored { stack.new.stored ≡ stack.old.stored }
+{
+    let mut name = stack.next_name();
+    let file = create(files, alloc, options.folder, &mut name)?;
+    stack.set_next_name(name);
+    Ok(file)
 }
 
 /// Merges the last runs, this many, into one of the next level.
@@ -100,30 +161,47 @@ fn merge_last<F: Files>(
     count: usize,
     stack: &mut RunStack<F::File>,
 ) -> Result<(), SortError>
-    ensures { IfErr result IsOfOutput }
+    ensures failed { IfErr result IsOfOutput }
+    ensures some { OnOk result (stack.new.runs.items ≢ []) }
+    ensures stored { stack.old.stored ≤ stack.new.stored }
 {
     let (_, level) = stack.last_level();
     let mut runs = stack.take_last(alloc, count)?;
-    let mut file = create(files, alloc, options.folder, stack.next_name())?;
+    let mut file = new_file(files, alloc, options, stack)?;
     let mut page = Page::plain(alloc);
     merge(alloc, &mut runs, &mut page, &mut file, SortError::Temporary)?;
     stack.push(file, level.saturating_add(1))
 }
 
-/// Writes the lines of the batch, sorted.
+/// Writes what is on the page, and then these lines.
+fn write_lines<W: Write>(
+    lines: &[TraceLine],
+    page: &mut Page,
+    writer: &mut W,
+    fault: SortError,
+) -> Result<(), SortError>
+    ensures failed { IsOfOutput fault → IfErr result IsOfOutput }
+    ensures written { OnOk result (Appends (W.contents writer.old) (W.contents writer.new)
+        (page.old.bytes.items ++ page_lines page.old.counter lines.now)) }
+{
+    for line in lines {
+        page.put(line)?;
+        page.write_if_full(writer, fault)?;
+    }
+    page.write(writer, fault)
+}
+
+/// Writes what is on the page, and then the lines of the batch, sorted.
 fn write_batch<W: Write>(
     batch: &mut Batch,
     page: &mut Page,
     writer: &mut W,
     fault: SortError,
 ) -> Result<(), SortError>
-    ensures { IsOfOutput fault → IfErr result IsOfOutput }
+    ensures failed { IsOfOutput fault → IfErr result IsOfOutput }
+    ensures written { OnOk result (WritesInOrder (W.contents writer.old) (W.contents writer.new) page.old batch.old.lines.items) }
 {
-    for line in batch.sorted()? {
-        page.put(line)?;
-        page.write_if_full(writer, fault)?;
-    }
-    page.write(writer, fault)
+    write_lines(batch.sorted()?, page, writer, fault)
 }
 
 /// Makes a run of the lines in memory, and then merges each level that is full.
@@ -134,9 +212,11 @@ fn store<F: Files>(
     batch: &mut Batch,
     stack: &mut RunStack<F::File>,
 ) -> Result<(), SortError>
-    ensures { IfErr result IsOfOutput }
+    ensures failed { IfErr result IsOfOutput }
+    ensures some { OnOk result (stack.new.runs.items ≢ []) }
+    ensures stored { OnOk result (1 ≤ stack.new.stored) }
 {
-    let mut file = create(files, alloc, options.folder, stack.next_name())?;
+    let mut file = new_file(files, alloc, options, stack)?;
     let mut page = Page::plain(alloc);
     write_batch(batch, &mut page, &mut file, SortError::Temporary)?;
     stack.push(file, 0)?;
@@ -152,7 +232,29 @@ fn store<F: Files>(
     Ok(())
 }
 
+/// Adds the line to those in memory. If they then fill it, they become a run.
+fn keep<F: Files>(
+    files: &F,
+    alloc: Global,
+    options: &SortOptions,
+    batch: &mut Batch,
+    stack: &mut RunStack<F::File>,
+    line: TraceLine,
+) -> Result<(), SortError>
+    ensures failed { IfErr result IsOfOutput }
+    ensures kept { OnOk result (stack.new.runs.items ≡ [] →
+        (stack.old.runs.items ≡ []) × (batch.new.lines.items ≡ batch.old.lines.items ++ line ∷ [])) }
+    ensures stored { OnOk result (stack.new.runs.items ≢ [] → (stack.old.runs.items ≢ [] → 1 ≤ stack.old.stored) → 1 ≤ stack.new.stored) }
+{
+    batch.push(line)?;
+    if batch.held() < options.memory {
+        return Ok(());
+    }
+    store(files, alloc, options, batch, stack)
+}
+
 /// Reads all lines. Those that do not fit into memory become runs. Returns how many lines there are.
+#[tactic(auto, using(crate::proofs::SortLaws::begins, crate::proofs::SortLaws::skips_line, crate::proofs::SortLaws::keeps_line, crate::proofs::SortLaws::collected, crate::proofs::SortLaws::refused_next, crate::proofs::SortLaws::of_output))]
 fn collect<F: Files, R: BufRead>(
     files: &F,
     alloc: Global,
@@ -160,24 +262,22 @@ fn collect<F: Files, R: BufRead>(
     input: &mut R,
     batch: &mut Batch,
     stack: &mut RunStack<F::File>,
-) -> Result<u64, SortError> {
+) -> Result<u64, SortError>
+    ensures collected { OnOk result (stack.new.runs.items ≡ [] →
+        HasCollected options.now.form (R.remaining input.old) batch.old.lines.items batch.new.lines.items) }
+    ensures stored { OnOk result (stack.new.runs.items ≢ [] → (stack.old.runs.items ≢ [] → 1 ≤ stack.old.stored) → 1 ≤ stack.new.stored) }
+    ensures refused { IfErr result (RefusesFirstFault options.now.form (R.remaining input.old)) }
+{
     let mut bytes = Vec::new(alloc);
     let mut steps: u64 = 0;
-    for line in 1..u64::MAX {
-        if !next_bytes(input, &mut bytes)? {
-            return Ok(steps);
-        }
-        match read_line(alloc, options.form, &bytes) {
-            Ok(None) => {}
-            Ok(Some(read)) => {
+    for number in 1..u64::MAX {
+        match take_line(alloc, options.form, input, &mut bytes, number)? {
+            None => return Ok(steps),
+            Some(None) => {}
+            Some(Some(line)) => {
                 steps = steps.saturating_add(1);
-                batch.push(read)?;
-                if batch.held() >= options.memory {
-                    store(files, alloc, options, batch, stack)?;
-                }
+                keep(files, alloc, options, batch, stack, line)?;
             }
-            Err(TraceLineError::Memory) => return Err(SortError::Memory),
-            Err(TraceLineError::Fault(fault)) => return Err(SortError::Refused { line, fault }),
         }
     }
     Err(SortError::Read)
@@ -192,7 +292,9 @@ fn merge_all<F: Files, W: Write>(
     page: &mut Page,
     output: &mut W,
 ) -> Result<(), SortError>
-    ensures { IfErr result IsOfOutput }
+    ensures failed { IfErr result IsOfOutput }
+    ensures stored { stack.old.stored ≤ stack.new.stored }
+    ensures written { OnOk result (WritesSomeLines (W.contents output.old) (W.contents output.new) page.old) }
 {
     let ways = options.ways.max(2);
     for _ in 0..u64::MAX {
@@ -212,6 +314,7 @@ fn merge_all<F: Files, W: Write>(
 /// Reads all lines before it writes the first byte, so a refused trace leaves the output as it was. Uses temporary
 /// files in the given folder if the lines do not fit into memory, and leaves none behind, however it ends. Does not
 /// flush the output.
+#[tactic(auto, using(crate::proofs::SortLaws::sorted_into, crate::proofs::SortLaws::numbered_in_order, crate::proofs::SortLaws::numbered_some, crate::proofs::SortLaws::of_output))]
 pub fn sort_trace<F: Files, R: BufRead, W: Write>(
     files: &F,
     alloc: Global,
@@ -220,7 +323,14 @@ pub fn sort_trace<F: Files, R: BufRead, W: Write>(
     output: &mut W,
 ) -> Result<SortReport, SortError>
     // If a line is refused or a read fails, the output is unchanged.
-    ensures { IfErr result (λ e. is_input_error e ≡ true → output.new ≡ output.old) }
+    ensures unchanged { IfErr result (λ e. is_input_error e ≡ true → output.new ≡ output.old) }
+    // A refusal names the first faulty line and its fault.
+    ensures refused { IfErr result (RefusesFirstFault options.now.form (R.remaining input.old)) }
+    // Whatever the temporary files gave back, the text has the header, and each of its lines the index that is due.
+    ensures numbered { OnOk result (IsNumberedInto (W.contents output.old) (W.contents output.new)) }
+    // With all lines in memory, their sorted text was written.
+    ensures sorted { IfOk result (λ report. report.runs ≡ 0 → IfSome (R.remaining input.old)
+        (IsSortedInto options.now.form (W.contents output.old) (W.contents output.new))) }
 {
     let mut batch = Batch::new(alloc);
     let mut stack = RunStack::new(alloc);

@@ -3,3 +3,8 @@ pub mod Fitted
 pub mod Runs
 pub mod Rows
 pub mod Named
+pub mod Phased
+pub mod Changed
+pub mod Numbers
+pub mod Followed
+pub mod Standing

@@ -1,5 +1,9 @@
 pub mod Escape
 pub mod Cells
 pub mod Phases
-pub mod Bars
+pub mod PhaseMap
 pub mod Owners
+pub mod Change
+pub mod Drawn
+pub mod Range
+pub mod Bars

@@ -6,6 +6,7 @@ use Rattle.lt_rules.specs.declared.queued.Holder.{Holder}
 use Rattle.lt_rules.specs.declared.queued.QueuedRequest.{QueuedRequest}
 use Rattle.lt_rules.specs.declared.queued.QueuedWriter.{QueuedWriter}
 use Rattle.lt_rules.specs.Rules.{Record, number_of, writer_number}
+use Rattle.lt_trace_picture.specs.declared.drawn.DrawnStep.{DrawnStep}
 use Rattle.lt_trace_picture.specs.declared.step.ShownStep.{ShownStep}
 use Rattle.lt_trace_picture.specs.declared.timeline.Lane.{Lane}
 use Rattle.lt_trace_picture.specs.declared.timeline.Lane.TheVariants.{Txn, Request}
@@ -39,6 +40,14 @@ lanes_at s = caller_of s.call ∷ map ticket_lane s.tickets.items ++ lanes_in s.
 -- the lanes of all that are at the key before the first step, that a step names, or that are there after it
 abbrev pub everybody : Record → List ShownStep → List Lane
 everybody before steps = lanes_in before ++ flat_map lanes_at steps
+
+-- the lanes of the step's caller, of those whose waits it ends, and of those whose phases it may change
+abbrev pub drawn_lanes : DrawnStep → List Lane
+drawn_lanes d = caller_of d.call ∷ map ticket_lane d.tickets.items ++ (holder_lanes d.holder ++ map Request d.changed.items)
+
+-- the lanes of all that are at the key before the first step, that a step names, or whose phases it may change
+abbrev pub named_lanes : Record → List DrawnStep → List Lane
+named_lanes before steps = lanes_in before ++ flat_map drawn_lanes steps
 
 -- No lane is lost.
 abbrev pub KeepsLanes : List Lane → List Lane → Type 0

@@ -32,6 +32,14 @@ abbrev pub holder_phase : ℕ → Option Holder → Phase
 holder_phase number None = Out
 holder_phase number (Some h) = if nat_eq h.txn number then Holds else Out
 
+-- the phase of a writer
+abbrev pub writer_phase : QueuedWriter → Phase
+writer_phase w = if w.active then Waits w.request.ticket.wait else Idle
+
+-- the phase of a reader
+abbrev pub reader_phase : QueuedRequest → Phase
+reader_phase q = Waits q.ticket.wait
+
 -- the phase of a request that is among the writers, among the readers, or neither
 abbrev pub found_phase : Option QueuedWriter → Option QueuedRequest → Phase
 found_phase (Some w) _ = if w.active then Waits w.request.ticket.wait else Idle
@@ -56,6 +64,11 @@ request_phase number r = reserved_phase number r.reservation (queued_phase numbe
 abbrev pub phase_of : Lane → Record → Phase
 phase_of (Txn number) r = holder_phase number r.holder
 phase_of (Request number) r = request_phase number r
+
+-- the number of the transaction or the request
+abbrev pub number_of_lane : Lane → ℕ
+number_of_lane (Txn number) = number
+number_of_lane (Request number) = number
 
 -- the lane's phases: in the state before the first step, and after each step
 abbrev pub timeline_of : Lane → Record → List ShownStep → List Phase

@@ -16,36 +16,35 @@ pub(crate) fn put(out: &mut Vec<u8>, bytes: &[u8]) -> Result<(), AllocError> {
     out.extend_from_slice(bytes)
 }
 
-/// Appends an attribute with a number.
-pub(crate) fn put_attribute(out: &mut Vec<u8>, name: &[u8], value: u64) -> Result<(), AllocError> {
-    put(out, b" ")?;
-    put(out, name)?;
-    put(out, b"=\"")?;
-    put_number(out, value)?;
-    put(out, b"\"")
+/// Appends the start of an element that has a class, up to the name of the class.
+fn start_element(out: &mut Vec<u8>, start: &[u8], class: &[u8]) -> Result<(), AllocError> {
+    put(out, start)?;
+    put(out, class)
 }
 
-/// Appends an attribute with the name of a class.
-fn put_class(out: &mut Vec<u8>, class: &[u8]) -> Result<(), AllocError> {
-    put(out, b" class=\"")?;
-    put(out, class)?;
-    put(out, b"\"")
+/// Appends what stands before a number, and the number. Many attributes are written so, each with one more piece alone.
+pub(crate) fn put_with_number(
+    out: &mut Vec<u8>,
+    before: &[u8],
+    value: u64,
+) -> Result<(), AllocError> {
+    put(out, before)?;
+    put_number(out, value)
 }
 
-/// Appends the attributes of a rectangle.
+/// Appends the end of a class, and the attributes of a rectangle up to the height.
 fn put_area(out: &mut Vec<u8>, area: Area) -> Result<(), AllocError> {
-    put_attribute(out, b"x", area.x)?;
-    put_attribute(out, b"y", area.y)?;
-    put_attribute(out, b"width", area.width)?;
-    put_attribute(out, b"height", area.height)
+    put_with_number(out, b"\" x=\"", area.x)?;
+    put_with_number(out, b"\" y=\"", area.y)?;
+    put_with_number(out, b"\" width=\"", area.width)?;
+    put_with_number(out, b"\" height=\"", area.height)
 }
 
 /// Appends a rectangle.
 pub(crate) fn put_rect(out: &mut Vec<u8>, class: &[u8], area: Area) -> Result<(), AllocError> {
-    put(out, b"<rect")?;
-    put_class(out, class)?;
+    start_element(out, b"<rect class=\"", class)?;
     put_area(out, area)?;
-    put(out, b"/>\n")
+    put(out, b"\"/>\n")
 }
 
 /// Appends the start of a rectangle that has a title. The caller appends the title and calls [`end_titled_rect`].
@@ -54,10 +53,9 @@ pub(crate) fn start_titled_rect(
     class: &[u8],
     area: Area,
 ) -> Result<(), AllocError> {
-    put(out, b"<rect")?;
-    put_class(out, class)?;
+    start_element(out, b"<rect class=\"", class)?;
     put_area(out, area)?;
-    put(out, b"><title>")
+    put(out, b"\"><title>")
 }
 
 pub(crate) fn end_titled_rect(out: &mut Vec<u8>) -> Result<(), AllocError> {
@@ -71,11 +69,10 @@ pub(crate) fn start_text(
     x: u64,
     y: u64,
 ) -> Result<(), AllocError> {
-    put(out, b"<text")?;
-    put_class(out, class)?;
-    put_attribute(out, b"x", x)?;
-    put_attribute(out, b"y", y)?;
-    put(out, b">")
+    start_element(out, b"<text class=\"", class)?;
+    put_with_number(out, b"\" x=\"", x)?;
+    put_with_number(out, b"\" y=\"", y)?;
+    put(out, b"\">")
 }
 
 pub(crate) fn end_text(out: &mut Vec<u8>) -> Result<(), AllocError> {
@@ -103,14 +100,10 @@ pub(crate) fn put_vertical(
     from: u64,
     to: u64,
 ) -> Result<(), AllocError> {
-    put(out, b"<path")?;
-    put_class(out, class)?;
-    put(out, b" d=\"M")?;
-    put_number(out, x)?;
-    put(out, b" ")?;
-    put_number(out, from)?;
-    put(out, b"V")?;
-    put_number(out, to)?;
+    start_element(out, b"<path class=\"", class)?;
+    put_with_number(out, b"\" d=\"M", x)?;
+    put_with_number(out, b" ", from)?;
+    put_with_number(out, b"V", to)?;
     put(out, b"\"/>\n")
 }
 
@@ -121,15 +114,11 @@ pub(crate) fn put_torn_end(
     y: u64,
     piece: u64,
 ) -> Result<(), AllocError> {
-    put(out, b"<path class=\"torn\" d=\"M")?;
-    put_number(out, x)?;
-    put(out, b" ")?;
-    put_number(out, y)?;
+    put_with_number(out, b"<path class=\"torn\" d=\"M", x)?;
+    put_with_number(out, b" ", y)?;
     for _ in 0..3 {
-        put(out, b"l5 ")?;
-        put_number(out, piece)?;
-        put(out, b"l-5 ")?;
-        put_number(out, piece)?;
+        put_with_number(out, b"l5 ", piece)?;
+        put_with_number(out, b"l-5 ", piece)?;
     }
     put(out, b"\"/>\n")
 }
@@ -142,10 +131,9 @@ pub(crate) fn put_marker(
     y: u64,
     letter: &[u8],
 ) -> Result<(), AllocError> {
-    put(out, b"<circle")?;
-    put_class(out, class)?;
-    put_attribute(out, b"cx", x)?;
-    put_attribute(out, b"cy", y)?;
-    put(out, b" r=\"9\"/>\n")?;
+    start_element(out, b"<circle class=\"", class)?;
+    put_with_number(out, b"\" cx=\"", x)?;
+    put_with_number(out, b"\" cy=\"", y)?;
+    put(out, b"\" r=\"9\"/>\n")?;
     put_text(out, b"letter", x, y.saturating_add(4), letter)
 }

@@ -1,7 +1,7 @@
 //! Where does each part of the picture lie, in pixels? The numbers saturate: they are far below the limits of a `u64`
 //! for any picture that can be looked at.
+use crate::drawn::DrawnStep;
 use crate::lanes::Lanes;
-use crate::step::ShownStep;
 use crate::timeline::Lane;
 use crate::whose::Claim;
 use itoa::Buffer;
@@ -70,7 +70,7 @@ fn owner_width(owner: &Option<Claim>) -> u64 {
 }
 
 /// The width of a step: less for many steps, but always enough for the last step's number.
-fn step_width(steps: &[ShownStep]) -> u64 {
+fn step_width(steps: &[DrawnStep]) -> u64 {
     let number = match steps.last() {
         Some(last) => digits(last.index).saturating_mul(8).saturating_add(8),
         None => 0,
@@ -85,7 +85,7 @@ fn step_width(steps: &[ShownStep]) -> u64 {
 }
 
 impl Grid {
-    pub(crate) fn new(layout: &Lanes, owners: &[Option<Claim>], steps: &[ShownStep]) -> Grid {
+    pub(crate) fn new(layout: &Lanes, owners: &[Option<Claim>], steps: &[DrawnStep]) -> Grid {
         let mut left = 80;
         for lane in &layout.lanes {
             left = left.max(name_width(lane));

@@ -1,13 +1,18 @@
 //! What does the picture show? [`lanes_of`] gives each request and each transaction of the steps its lane, finds the
 //! bars of each lane, and the arrows between the lanes. Nothing here knows how it is drawn. `timeline.rt` has the
 //! phases that become bars; `specs/Bars.antt` says which bars those are, and `specs/Owners.antt` who has a lane.
-ghost use Rattle.std.specs.Prelude.{◌≡◌, ◌≤◌, ◌<◌, ◌+◌, ◌++◌, ◌↔◌, Err, OnOk, IfOk, IfSome, Some, All, Contains, length, map, slice_get, vec_len};
+ghost use Rattle.std.specs.Prelude.{List, ◌≡◌, ◌≤◌, ◌<◌, ◌+◌, ◌++◌, ◌↔◌, Err, OnOk, IfOk, IfSome, Some, All, Contains, length, map, slice_get, vec_len};
 ghost use Rattle.lt_trace_picture.specs.Bars.{IsRunIn, IsBarOf, IsArrowWithin, KeepsArrowsWithin, AreShownBelow, ShowLanesBelow, with_run};
-ghost use Rattle.lt_trace_picture.specs.Owners.{holder_lanes, reservation_lanes, writer_lane, request_lane, ticket_lane, lanes_in, lanes_at, everybody, KeepsLanes, HaveLanes, HaveLanesOf};
+ghost use Rattle.lt_rules.specs.Rules.{Record};
+ghost use Rattle.lt_trace_picture.specs.Drawn.{AreDrawnSteps};
+ghost use Rattle.lt_trace_picture.specs.Phases.{phase_of};
+ghost use Rattle.lt_trace_picture.specs.declared.step.ShownStep.{ShownStep};
+ghost use Rattle.lt_trace_picture.specs.declared.timeline.Lane.TheVariants.{Request};
+ghost use Rattle.lt_trace_picture.specs.Owners.{holder_lanes, reservation_lanes, writer_lane, request_lane, ticket_lane, lanes_in, drawn_lanes, named_lanes, everybody, KeepsLanes, HaveLanes, HaveLanesOf};
 
+use crate::drawn::DrawnStep;
 use crate::error::PictureError;
-use crate::step::ShownStep;
-use crate::timeline::{Lane, Phase, is_out, lane_of, run_end, timeline};
+use crate::timeline::{Lane, Phase, first_phases, is_out, lane_of, run_end, timeline};
 use lt_ids::Ticket;
 use lt_rules::{Holder, KeyState, QueuedRequest, QueuedWriter};
 use std::alloc::{AllocError, Global};
@@ -49,17 +54,12 @@ pub struct Lanes {
     pub arrows: Vec<Arrow>,
 }
 
-/// The index of the lane.
-fn index_of(lanes: &[Lane], lane: Lane) -> Option<usize>
+/// The index of the lane, among lanes in order.
+pub(crate) fn index_of(lanes: &[Lane], lane: Lane) -> Option<usize>
     ensures within { IfSome result (λ i. i < length lanes.now) }
     ensures is { IfSome result (λ i. slice_get lanes.now i ≡ Some lane) }
 {
-    for index in 0..lanes.len() {
-        if lanes[index] == lane {
-            return Some(index);
-        }
-    }
-    None
+    lanes.binary_search(&lane).ok()
 }
 
 /// Appends the lane of the transaction that holds the lock.
@@ -131,19 +131,30 @@ fn push_state(lanes: &mut Vec<Lane>, state: &KeyState) -> Result<(), AllocError>
     push_readers(lanes, &state.readers)
 }
 
-/// Appends the lanes of all that the step names, and that are at the key after it.
-fn push_step(lanes: &mut Vec<Lane>, step: &ShownStep) -> Result<(), AllocError>
-    ensures { OnOk result (lanes.new.items ≡ lanes.old.items ++ lanes_at step.now) }
+/// Appends the lanes of the requests with these numbers.
+fn push_numbers(lanes: &mut Vec<Lane>, numbers: &[u64]) -> Result<(), AllocError>
+    ensures { OnOk result (lanes.new.items ≡ lanes.old.items ++ map Request numbers.now) }
+{
+    for number in numbers {
+        lanes.push(Lane::Request(*number))?;
+    }
+    Ok(())
+}
+
+/// Appends the lanes of all that the step names, and of those whose phases it may have changed.
+fn push_step(lanes: &mut Vec<Lane>, step: &DrawnStep) -> Result<(), AllocError>
+    ensures { OnOk result (lanes.new.items ≡ lanes.old.items ++ drawn_lanes step.now) }
 {
     lanes.push(lane_of(step.call))?;
     push_tickets(lanes, &step.tickets)?;
-    push_state(lanes, &step.state)
+    push_holder(lanes, step.holder)?;
+    push_numbers(lanes, &step.changed)
 }
 
-/// The lanes of all that a step names, or that are at the key before the first step or after one. A lane may be there
-/// several times.
-fn everybody(alloc: Global, before: &KeyState, steps: &[ShownStep]) -> Result<Vec<Lane>, AllocError>
-    ensures { IfOk result (λ lanes. lanes.items ≡ everybody before.now steps.now) }
+/// The lanes of all that are at the key before the first step, that a step names, or whose phases it may have changed. So
+/// all that are there after a step are among them. A lane may be there several times.
+fn everybody(alloc: Global, before: &KeyState, steps: &[DrawnStep]) -> Result<Vec<Lane>, AllocError>
+    ensures { IfOk result (λ lanes. lanes.items ≡ named_lanes before.now steps.now) }
 {
     let mut lanes = Vec::new(alloc);
     push_state(&mut lanes, before)?;
@@ -193,8 +204,8 @@ fn without_repeats(alloc: Global, lanes: &[Lane]) -> Result<Vec<Lane>, AllocErro
 }
 
 /// The lanes of everybody, in order.
-fn owners(alloc: Global, before: &KeyState, steps: &[ShownStep]) -> Result<Vec<Lane>, AllocError>
-    ensures { IfOk result (λ lanes. HaveLanesOf lanes.items (everybody before.now steps.now)) }
+fn owners(alloc: Global, before: &KeyState, steps: &[DrawnStep]) -> Result<Vec<Lane>, AllocError>
+    ensures { IfOk result (λ lanes. HaveLanesOf lanes.items (named_lanes before.now steps.now)) }
 {
     let mut lanes = everybody(alloc, before, steps)?;
     lanes.sort_unstable();
@@ -212,12 +223,12 @@ fn push_run(bars: &mut Vec<Bar>, bar: Bar) -> Result<(), AllocError>
     Ok(())
 }
 
-/// The bars of a lane with these phases, in order: the longest runs of one phase other than `Out`.
-fn bars_in(alloc: Global, lane: usize, phases: &[Phase]) -> Result<Vec<Bar>, AllocError>
-    ensures runs { IfOk result (λ bars. All (IsRunIn lane phases.now) bars.items) }
-    ensures all { IfOk result (λ bars. AreShownBelow lane phases.now bars.items (length phases.now)) }
+/// Makes the list of the bars of a lane with these phases, in order: the longest runs of one phase other than `Out`.
+fn bars_in(bars: &mut Vec<Bar>, lane: usize, phases: &[Phase]) -> Result<(), AllocError>
+    ensures runs { OnOk result (All (IsRunIn lane phases.now) bars.new.items) }
+    ensures all { OnOk result (AreShownBelow lane phases.now bars.new.items (length phases.now)) }
 {
-    let mut bars = Vec::new(alloc);
+    bars.clear();
     let mut from = 0;
     while from < phases.len() {
         let end = run_end(phases, from);
@@ -227,8 +238,33 @@ fn bars_in(alloc: Global, lane: usize, phases: &[Phase]) -> Result<Vec<Bar>, All
             first: from,
             end,
         };
-        push_run(&mut bars, bar)?;
+        push_run(bars, bar)?;
         from = end;
+    }
+    Ok(())
+}
+
+/// The bars of all lanes, if these are the lanes' phases before the first step.
+fn bars_from(
+    alloc: Global,
+    lanes: &[Lane],
+    first: &[Phase],
+    steps: &[DrawnStep],
+) -> Result<Vec<Bar>, AllocError>
+    requires { length first.now ≡ length lanes.now }
+    ensures bars { IfOk result (λ bars. (before : Record) (shown : List ShownStep) → AreDrawnSteps before shown steps.now →
+        first.now ≡ map (λ l. phase_of l before) lanes.now → All (IsBarOf lanes.now before shown) bars.items) }
+    ensures all { IfOk result (λ bars. (before : Record) (shown : List ShownStep) → AreDrawnSteps before shown steps.now →
+        first.now ≡ map (λ l. phase_of l before) lanes.now →
+        ShowLanesBelow lanes.now before shown bars.items (length lanes.now)) }
+{
+    let mut bars = Vec::new(alloc);
+    let mut phases = Vec::new(alloc);
+    let mut own = Vec::new(alloc);
+    for lane in 0..lanes.len() {
+        timeline(&mut phases, lanes[lane], first[lane], steps)?;
+        bars_in(&mut own, lane, &phases)?;
+        bars.extend_from_slice(&own)?;
     }
     Ok(bars)
 }
@@ -238,17 +274,15 @@ fn bars_of(
     alloc: Global,
     lanes: &[Lane],
     before: &KeyState,
-    steps: &[ShownStep],
+    steps: &[DrawnStep],
 ) -> Result<Vec<Bar>, AllocError>
-    ensures bars { IfOk result (λ bars. All (IsBarOf lanes.now before.now steps.now) bars.items) }
-    ensures all { IfOk result (λ bars. ShowLanesBelow lanes.now before.now steps.now bars.items (length lanes.now)) }
+    ensures bars { IfOk result (λ bars. (shown : List ShownStep) → AreDrawnSteps before.now shown steps.now →
+        All (IsBarOf lanes.now before.now shown) bars.items) }
+    ensures all { IfOk result (λ bars. (shown : List ShownStep) → AreDrawnSteps before.now shown steps.now →
+        ShowLanesBelow lanes.now before.now shown bars.items (length lanes.now)) }
 {
-    let mut bars = Vec::new(alloc);
-    for lane in 0..lanes.len() {
-        let phases = timeline(alloc, lanes[lane], before, steps)?;
-        let own = bars_in(alloc, lane, &phases)?;
-        bars.extend_from_slice(&own)?;
-    }
+    let first = first_phases(alloc, lanes, before)?;
+    let bars = bars_from(alloc, lanes, &first, steps)?;
     Ok(bars)
 }
 
@@ -276,7 +310,7 @@ fn push_arrows(
     arrows: &mut Vec<Arrow>,
     lanes: &[Lane],
     number: usize,
-    step: &ShownStep,
+    step: &DrawnStep,
 ) -> Result<(), AllocError>
     requires { 1 ≤ number }
     ensures { OnOk result (KeepsArrowsWithin (length lanes.now) number arrows.old.items arrows.new.items) }
@@ -291,7 +325,7 @@ fn push_arrows(
 }
 
 /// The arrows of all steps.
-fn arrows_of(alloc: Global, lanes: &[Lane], steps: &[ShownStep]) -> Result<Vec<Arrow>, AllocError>
+fn arrows_of(alloc: Global, lanes: &[Lane], steps: &[DrawnStep]) -> Result<Vec<Arrow>, AllocError>
     ensures { IfOk result (λ arrows. All (IsArrowWithin (length steps.now) (length lanes.now)) arrows.items) }
 {
     let mut arrows = Vec::new(alloc);
@@ -302,17 +336,21 @@ fn arrows_of(alloc: Global, lanes: &[Lane], steps: &[ShownStep]) -> Result<Vec<A
 }
 
 /// The layout of a picture of these steps, if this is the state of the key before the first of them. Everybody who is at
-/// the key has a lane, and there is a bar for each phase of it and no other. It fails with `TooManySteps` exactly for more
-/// than 400 steps, and otherwise only when an allocation fails.
+/// the key has a lane, and there is a bar for each phase of it and no other: whichever steps were given to the range, if
+/// these are what it keeps of them. It fails with `TooManySteps` exactly for more than 400 steps, and otherwise only when
+/// an allocation fails.
 pub fn lanes_of(
     alloc: Global,
     before: &KeyState,
-    steps: &[ShownStep],
+    steps: &[DrawnStep],
 ) -> Result<Lanes, PictureError>
     ensures too_many { (result ≡ Err PictureError.TooManySteps) ↔ (400 < length steps.now) }
-    ensures everybody { IfOk result (λ p. HaveLanesOf p.lanes.items (everybody before.now steps.now)) }
-    ensures bars { IfOk result (λ p. All (IsBarOf p.lanes.items before.now steps.now) p.bars.items) }
-    ensures all { IfOk result (λ p. ShowLanesBelow p.lanes.items before.now steps.now p.bars.items (vec_len p.lanes)) }
+    ensures everybody { IfOk result (λ p. (shown : List ShownStep) → AreDrawnSteps before.now shown steps.now →
+        HaveLanesOf p.lanes.items (everybody before.now shown)) }
+    ensures bars { IfOk result (λ p. (shown : List ShownStep) → AreDrawnSteps before.now shown steps.now →
+        All (IsBarOf p.lanes.items before.now shown) p.bars.items) }
+    ensures all { IfOk result (λ p. (shown : List ShownStep) → AreDrawnSteps before.now shown steps.now →
+        ShowLanesBelow p.lanes.items before.now shown p.bars.items (vec_len p.lanes)) }
     ensures arrows { IfOk result (λ p. All (IsArrowWithin (length steps.now) (vec_len p.lanes)) p.arrows.items) }
 {
     if MOST_STEPS < steps.len() {

@@ -4,10 +4,11 @@ ghost use Rattle.std.specs.Prelude.{◌≡◌, ◌<◌, ◌↔◌, Err, length};
 
 use crate::columns::COLUMNS;
 use crate::drawing::put;
+use crate::drawn::ShownRange;
 use crate::error::PictureError;
 use crate::escape::put_escaped;
 use crate::lanes::lanes_of;
-use crate::step::{ShownRange, ShownStep};
+use crate::step::ShownStep;
 use crate::svg::{has_earlier, put_picture, put_range};
 use crate::words::{put_column, put_column_before, put_column_name};
 use lt_ids::Key;
@@ -73,25 +74,49 @@ fn put_row_before(out: &mut Vec<u8>, range: &ShownRange) -> Result<(), AllocErro
     put(out, b"</tr>\n")
 }
 
+/// The rows of the page's table, a row for each step. They are made as the steps come, since a range does not keep the
+/// states after them.
+#[derive(Drop)]
+pub struct PageRows {
+    text: Vec<u8>,
+}
+
+impl PageRows {
+    /// No rows.
+    pub fn new(alloc: Global) -> PageRows {
+        PageRows {
+            text: Vec::new(alloc),
+        }
+    }
+
+    /// Appends the row of a step. It fails only when an allocation fails, and may then have appended a part.
+    pub fn push(&mut self, step: &ShownStep) -> Result<(), AllocError> {
+        put_step_row(&mut self.text, step)
+    }
+}
+
 /// Appends the table of the steps.
-fn put_table(out: &mut Vec<u8>, range: &ShownRange) -> Result<(), AllocError> {
+fn put_table(out: &mut Vec<u8>, range: &ShownRange, rows: &PageRows) -> Result<(), AllocError> {
     put(out, b"<table>\n")?;
     put_names_row(out)?;
     if has_earlier(range) {
         put_row_before(out, range)?;
     }
-    for step in &range.steps {
-        put_step_row(out, step)?;
-    }
+    put(out, &rows.text)?;
     put(
         out,
         b"</table>\n<p>* marks the distinguished waiter. A writer in parentheses is queued and does not wait.</p>\n",
     )
 }
 
-/// A page of HTML with the picture of these steps of the key and a table of them, as ASCII text. It fails with
+/// A page of HTML with the picture of these steps of the key and a table with their rows, as ASCII text. It fails with
 /// `TooManySteps` exactly for more than 400 steps, and otherwise only when an allocation fails.
-pub fn html(alloc: Global, key: &Key, range: &ShownRange) -> Result<Vec<u8>, PictureError>
+pub fn html(
+    alloc: Global,
+    key: &Key,
+    range: &ShownRange,
+    rows: &PageRows,
+) -> Result<Vec<u8>, PictureError>
     ensures too_many { (result ≡ Err PictureError.TooManySteps) ↔ (400 < length range.now.steps.items) }
 {
     let layout = lanes_of(alloc, &range.before, &range.steps)?;
@@ -99,7 +124,7 @@ pub fn html(alloc: Global, key: &Key, range: &ShownRange) -> Result<Vec<u8>, Pic
     put_page_start(&mut out, key, range)?;
     put_picture(&mut out, key, &layout, range)?;
     put(&mut out, b"</div>\n")?;
-    put_table(&mut out, range)?;
+    put_table(&mut out, range, rows)?;
     put(&mut out, b"</body>\n</html>\n")?;
     Ok(out)
 }

@@ -13,6 +13,19 @@ use crate::words::{put_column, put_column_name};
 use lt_ids::Key;
 use std::alloc::{AllocError, Global};
 
+/// Makes the text of a cell: what the step has in the column, or the name of the column if there is no step.
+fn make_cell(
+    cell: &mut Vec<u8>,
+    step: Option<&ShownStep>,
+    column: usize,
+) -> Result<(), AllocError> {
+    cell.clear();
+    match step {
+        Some(step) => put_column(cell, step, column),
+        None => put_column_name(cell, column),
+    }
+}
+
 /// A line of cells, each as wide as its column: what the step has there, or the names of the columns if there is none.
 fn cells_line(alloc: Global, width: usize, step: Option<&ShownStep>) -> Result<Vec<u8>, AllocError>
     requires wide { 40 ≤ width }
@@ -22,12 +35,9 @@ fn cells_line(alloc: Global, width: usize, step: Option<&ShownStep>) -> Result<V
 {
     let widths = widths(width);
     let mut line = Vec::with_capacity(alloc, width)?;
+    let mut cell = Vec::new(alloc);
     for column in 0..COLUMNS {
-        let mut cell = Vec::new(alloc);
-        match step {
-            Some(step) => put_column(&mut cell, step, column)?,
-            None => put_column_name(&mut cell, column)?,
-        }
+        make_cell(&mut cell, step, column)?;
         put_cell(&mut line, &cell, widths[column])?;
     }
     Ok(line)

@@ -1,4 +1,4 @@
-//! What is drawn? Steps of one key, each with the key's state after it, and the state before the first of them.
+//! What is shown? Steps of one key, each with the key's state after it.
 ghost use Rattle.std.specs.Prelude.{◌≡◌, ◌↔◌, IsTrue};
 
 use lt_ids::Ticket;
@@ -17,16 +17,6 @@ pub struct ShownStep {
     pub tickets: Vec<Ticket>,
     /// The state of the key after the step.
     pub state: KeyState,
-}
-
-/// The steps of a key that a picture shows.
-#[derive(Drop)]
-pub struct ShownRange {
-    /// The state of the key before the first of the steps.
-    pub before: KeyState,
-    pub steps: Vec<ShownStep>,
-    /// Whether the key has steps after these.
-    pub goes_on: bool,
 }
 
 /// Whether the readers are the same.

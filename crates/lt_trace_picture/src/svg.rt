@@ -4,20 +4,20 @@
 ghost use Rattle.std.specs.Prelude.{◌≡◌, ◌<◌, ◌↔◌, Err, length};
 
 use crate::drawing::{
-    Area, end_text, end_titled_rect, put, put_attribute, put_marker, put_rect, put_torn_end,
-    put_vertical, start_text, start_titled_rect,
+    Area, end_text, end_titled_rect, put, put_marker, put_rect, put_torn_end, put_vertical,
+    put_with_number, start_text, start_titled_rect,
 };
+use crate::drawn::{DrawnStep, ShownRange};
 use crate::error::PictureError;
 use crate::escape::put_escaped;
 use crate::grid::{BAR, Grid};
-use crate::lanes::{Arrow, Bar, Lanes, lanes_of};
+use crate::lanes::{Arrow, Bar, Lanes, index_of, lanes_of};
 use crate::legend::put_legend;
-use crate::step::{ShownRange, ShownStep, are_equal};
 use crate::timeline::{Lane, Phase, lane_of};
 use crate::whose::{Claim, owners_of};
 use crate::words::{put_state, put_step_words};
 use lt_ids::{Access, Key};
-use lt_rules::{Call, KeyState};
+use lt_rules::Call;
 use lt_text::put::put_number;
 use std::alloc::{AllocError, Global};
 
@@ -57,26 +57,18 @@ text{font-family:Helvetica,Arial,sans-serif;font-size:13px;fill:#222}\
 /// Appends the name of a lane's owner.
 fn put_name(out: &mut Vec<u8>, lane: Lane) -> Result<(), AllocError> {
     match lane {
-        Lane::Txn(number) => {
-            put(out, b"txn ")?;
-            put_number(out, number)
-        }
-        Lane::Request(number) => {
-            put(out, b"request ")?;
-            put_number(out, number)
-        }
+        Lane::Txn(number) => put_with_number(out, b"txn ", number),
+        Lane::Request(number) => put_with_number(out, b"request ", number),
     }
 }
 
 /// Appends the start of the picture, with its size.
 fn put_start(out: &mut Vec<u8>, grid: Grid) -> Result<(), AllocError> {
     put(out, b"<svg xmlns=\"http://www.w3.org/2000/svg\"")?;
-    put_attribute(out, b"width", grid.width())?;
-    put_attribute(out, b"height", grid.height())?;
-    put(out, b" viewBox=\"0 0 ")?;
-    put_number(out, grid.width())?;
-    put(out, b" ")?;
-    put_number(out, grid.height())?;
+    put_with_number(out, b" width=\"", grid.width())?;
+    put_with_number(out, b"\" height=\"", grid.height())?;
+    put_with_number(out, b"\" viewBox=\"0 0 ", grid.width())?;
+    put_with_number(out, b" ", grid.height())?;
     put(out, b"\">\n")?;
     put(out, STYLE)
 }
@@ -251,7 +243,7 @@ fn put_step_column(
     out: &mut Vec<u8>,
     grid: Grid,
     number: u64,
-    step: &ShownStep,
+    step: &DrawnStep,
 ) -> Result<(), AllocError> {
     let x = grid.x(number);
     put_vertical(out, b"rule", x, grid.top(0), grid.bottom())?;
@@ -410,8 +402,8 @@ fn letter(call: Call) -> &'static [u8] {
 }
 
 /// The class of the marker of a step: another one if the key's state after it is the one before it.
-fn marker_class(before: &KeyState, after: &KeyState) -> &'static [u8] {
-    if are_equal(before, after) {
+fn marker_class(step: &DrawnStep) -> &'static [u8] {
+    if step.changes_nothing {
         b"marker none"
     } else {
         b"marker"
@@ -424,11 +416,9 @@ fn put_call_marker(
     grid: Grid,
     layout: &Lanes,
     number: u64,
-    before: &KeyState,
-    step: &ShownStep,
+    step: &DrawnStep,
 ) -> Result<(), AllocError> {
-    let lane = lane_of(step.call);
-    let Some(index) = layout.lanes.iter().position(|l| *l == lane) else {
+    let Some(index) = index_of(&layout.lanes, lane_of(step.call)) else {
         return Ok(());
     };
     put(out, b"<g><title>")?;
@@ -436,7 +426,7 @@ fn put_call_marker(
     put(out, b"</title>\n")?;
     put_marker(
         out,
-        marker_class(before, &step.state),
+        marker_class(step),
         grid.x(number),
         grid.middle(index as u64),
         letter(step.call),
@@ -449,7 +439,7 @@ fn put_background(
     out: &mut Vec<u8>,
     grid: Grid,
     layout: &Lanes,
-    steps: &[ShownStep],
+    steps: &[DrawnStep],
 ) -> Result<(), AllocError> {
     let lanes = layout.lanes.len() as u64;
     for index in 0..lanes {
@@ -468,7 +458,7 @@ fn put_numbers(
     out: &mut Vec<u8>,
     grid: Grid,
     lanes: u64,
-    steps: &[ShownStep],
+    steps: &[DrawnStep],
 ) -> Result<(), AllocError> {
     let mut number = 1u64;
     for step in steps {
@@ -490,10 +480,8 @@ fn put_foreground(
     }
     put_arrows(out, grid, &layout.arrows)?;
     let mut number = 1u64;
-    let mut before = &range.before;
     for step in &range.steps {
-        put_call_marker(out, grid, layout, number, before, step)?;
-        before = &step.state;
+        put_call_marker(out, grid, layout, number, step)?;
         number = number.saturating_add(1);
     }
     Ok(())

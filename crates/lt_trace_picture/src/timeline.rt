@@ -1,11 +1,15 @@
-//! In which phase is a request or a transaction before the first step, and after each? [`timeline`] gives the phases of
-//! a lane. [`run_end`] finds where a phase ends. `specs/Phases.antt` defines both.
-ghost use Rattle.std.specs.Prelude.{ℕ, ◌≡◌, ◌≢◌, ◌≤◌, ◌<◌, IfOk, length, nat_eq, slice_get};
+//! In which phase is a request or a transaction before the first step, and after each? [`first_phases`] finds the
+//! phases before the first step, and [`timeline`] follows what the steps change. [`run_end`] finds where a phase ends.
+//! `specs/Phases.antt` defines the phases, and `specs/Drawn.antt` says how the steps that are drawn stand for those of
+//! the key.
+ghost use Rattle.std.specs.Prelude.{ℕ, ◌≡◌, ◌≢◌, ◌≤◌, ◌<◌, IfOk, OnOk, length, map, nat_eq, slice_get};
 ghost use Rattle.std.specs.List.{find};
 ghost use Rattle.lt_rules.specs.Rules.{number_of, writer_number};
-ghost use Rattle.lt_trace_picture.specs.Phases.{holder_phase, queued_phase, request_phase, phase_of, timeline_of, is_out, caller_of};
+ghost use Rattle.lt_trace_picture.specs.Phases.{holder_phase, queued_phase, request_phase, phase_of, number_of_lane, is_out, caller_of};
+ghost use Rattle.lt_trace_picture.specs.Drawn.{HasPhaseAfter, LeadsPhase, IsTimeline};
 
-use crate::step::ShownStep;
+use crate::drawn::DrawnStep;
+use crate::phase_map::phases_of;
 use lt_rules::{Call, Holder, KeyState, QueuedRequest, QueuedWriter};
 use std::alloc::{AllocError, Global};
 
@@ -101,7 +105,7 @@ fn queued_phase(number: u64, writers: &[QueuedWriter], readers: &[QueuedRequest]
 }
 
 /// The phase of the request with this number.
-fn request_phase(number: u64, state: &KeyState) -> Phase
+pub(crate) fn request_phase(number: u64, state: &KeyState) -> Phase
     ensures { result ≡ request_phase number state.now }
 {
     match state.reservation {
@@ -110,31 +114,117 @@ fn request_phase(number: u64, state: &KeyState) -> Phase
     }
 }
 
-/// The lane's phase in this state of the key.
-fn phase_of(lane: Lane, state: &KeyState) -> Phase
+/// The number of the request or the transaction.
+fn number_of_lane(lane: Lane) -> u64
+    ensures { result ≡ number_of_lane lane }
+{
+    match lane {
+        Lane::Txn(number) => number,
+        Lane::Request(number) => number,
+    }
+}
+
+/// The numbers of the lanes.
+fn numbers_of(alloc: Global, lanes: &[Lane]) -> Result<Vec<u64>, AllocError>
+    ensures { IfOk result (λ numbers. numbers.items ≡ map number_of_lane lanes.now) }
+{
+    let mut numbers = Vec::new(alloc);
+    for lane in lanes {
+        numbers.push(number_of_lane(*lane))?;
+    }
+    Ok(numbers)
+}
+
+/// The phase at an index, if there is one.
+fn phase_at(phases: &[Phase], index: usize) -> Option<Phase>
+    ensures { result ≡ slice_get phases.now index }
+{
+    if index < phases.len() {
+        Some(phases[index])
+    } else {
+        None
+    }
+}
+
+/// The phase that the step gives the request with this number, if it names it.
+fn changed_phase(step: &DrawnStep, number: u64) -> Option<Phase>
+    ensures { HasPhaseAfter step.now number result }
+{
+    match step.changed.binary_search(&number) {
+        Ok(index) => phase_at(&step.phases, index),
+        Err(_) => None,
+    }
+}
+
+/// The lane's phase after a step, if this is its phase before it.
+fn phase_after(lane: Lane, before: Phase, step: &DrawnStep) -> Phase
+    ensures { LeadsPhase lane before step.now result }
+{
+    match lane {
+        Lane::Txn(number) => holder_phase(number, step.holder),
+        Lane::Request(number) => changed_phase(step, number).unwrap_or(before),
+    }
+}
+
+/// Makes the list of the lane's phases: the one in the state before the first step, which is given, and then the one
+/// after each step. So the index of a phase is the number of its step, from 1.
+pub(crate) fn timeline(
+    phases: &mut Vec<Phase>,
+    lane: Lane,
+    first: Phase,
+    steps: &[DrawnStep],
+) -> Result<(), AllocError>
+    ensures { OnOk result (IsTimeline lane first steps.now phases.new.items) }
+{
+    phases.clear();
+    phases.push(first)?;
+    let mut latest = first;
+    for step in steps {
+        latest = phase_after(lane, latest, step);
+        phases.push(latest)?;
+    }
+    Ok(())
+}
+
+/// The lane's phase in this state of the key, if this is the phase of the request with its number.
+fn first_phase(lane: Lane, request: Phase, state: &KeyState) -> Phase
+    requires { request ≡ request_phase (number_of_lane lane) state.now }
     ensures { result ≡ phase_of lane state.now }
 {
     match lane {
         Lane::Txn(number) => holder_phase(number, state.holder),
-        Lane::Request(number) => request_phase(number, state),
+        Lane::Request(_) => request,
     }
 }
 
-/// The lane's phases: the one in the state before the first step, and then the one after each step. So the index of a
-/// phase is the number of its step, from 1.
-pub(crate) fn timeline(
+/// The lanes' phases in this state of the key, if these are the phases of the requests with their numbers.
+fn each_first_phase(
     alloc: Global,
-    lane: Lane,
-    before: &KeyState,
-    steps: &[ShownStep],
+    lanes: &[Lane],
+    requests: &[Phase],
+    state: &KeyState,
 ) -> Result<Vec<Phase>, AllocError>
-    ensures { IfOk result (λ phases. phases.items ≡ timeline_of lane before.now steps.now) }
+    requires { requests.now ≡ map (λ n. request_phase n state.now) (map number_of_lane lanes.now) }
+    ensures { IfOk result (λ phases. phases.items ≡ map (λ l. phase_of l state.now) lanes.now) }
 {
-    let mut phases = Vec::from_slice(alloc, &[phase_of(lane, before)])?;
-    for step in steps {
-        phases.push(phase_of(lane, &step.state))?;
+    let mut phases = Vec::new(alloc);
+    for index in 0..lanes.len() {
+        phases.push(first_phase(lanes[index], requests[index], state))?;
     }
     Ok(phases)
+}
+
+/// The phases of the lanes in this state of the key.
+pub(crate) fn first_phases(
+    alloc: Global,
+    lanes: &[Lane],
+    state: &KeyState,
+) -> Result<Vec<Phase>, AllocError>
+    ensures { IfOk result (λ phases. phases.items ≡ map (λ l. phase_of l state.now) lanes.now) }
+{
+    let numbers = numbers_of(alloc, lanes)?;
+    let requests = phases_of(alloc, &numbers, state)?;
+    each_first_phase(alloc, lanes, &requests, state)
 }
 
 /// The first index after `from` at which the phase is another, or the number of phases if it lasts to the end.

@@ -1,6 +1,6 @@
 //! Whose is a request? [`owners_of`] finds the pass and the transaction of each lane's request, in the state before the
 //! first step and in the calls of the steps.
-use crate::step::{ShownRange, ShownStep};
+use crate::drawn::{DrawnStep, ShownRange};
 use crate::timeline::Lane;
 use lt_ids::TxnId;
 use lt_rules::{Call, KeyState, QueuedRequest};
@@ -53,7 +53,7 @@ fn push_state(claims: &mut Vec<Claim>, state: &KeyState) -> Result<(), AllocErro
 }
 
 /// Appends the claim of the request that makes the call, if one does.
-fn push_call(claims: &mut Vec<Claim>, step: &ShownStep) -> Result<(), AllocError> {
+fn push_call(claims: &mut Vec<Claim>, step: &DrawnStep) -> Result<(), AllocError> {
     let (number, is_partial, txn) = match step.call {
         Call::Visit { ticket, txn, .. } => (ticket.number(), false, txn_number(txn)),
         Call::Leave { number } | Call::Look { number } => (number, true, 0),
@@ -79,24 +79,19 @@ fn claims_of(alloc: Global, range: &ShownRange) -> Result<Vec<Claim>, AllocError
     Ok(claims)
 }
 
-/// The first claim of the request with this number, among claims in order.
-fn first_claim(claims: &[Claim], number: u64) -> Option<Claim> {
-    let mut low = 0usize;
-    let mut high = claims.len();
-    for _ in 0..usize::BITS {
-        let middle = low.saturating_add(high.saturating_sub(low) / 2);
-        match claims.get(middle) {
-            Some(claim) if low < high && claim.number < number => low = middle.saturating_add(1),
-            _ => high = middle,
-        }
+/// The first claim of the request with this number, among claims in order. It looks from this index on and moves it there,
+/// so that rising numbers take one walk.
+fn first_claim(claims: &[Claim], at: &mut usize, number: u64) -> Option<Claim> {
+    while *at < claims.len() && claims[*at].number < number {
+        *at += 1;
     }
-    match claims.get(low) {
+    match claims.get(*at) {
         Some(claim) if claim.number == number => Some(*claim),
         _ => None,
     }
 }
 
-/// The owner of each lane's request. A lane of a transaction has none.
+/// The owner of each lane's request, if the lanes are in order. A lane of a transaction has none.
 pub(crate) fn owners_of(
     alloc: Global,
     lanes: &[Lane],
@@ -104,10 +99,11 @@ pub(crate) fn owners_of(
 ) -> Result<Vec<Option<Claim>>, AllocError> {
     let claims = claims_of(alloc, range)?;
     let mut owners = Vec::new(alloc);
+    let mut at = 0;
     for lane in lanes {
         owners.push(match lane {
             Lane::Txn(_) => None,
-            Lane::Request(number) => first_claim(&claims, *number),
+            Lane::Request(number) => first_claim(&claims, &mut at, *number),
         })?;
     }
     Ok(owners)

@@ -1,5 +1,6 @@
 //! What does each cell of the table say? Each function appends the words of a cell, with a space before each word. The
 //! page of HTML has the same cells.
+use crate::drawn::DrawnStep;
 use crate::step::ShownStep;
 use lt_ids::Ticket;
 use lt_rules::{Holder, KeyState, QueuedRequest, QueuedWriter};
@@ -161,7 +162,7 @@ pub(crate) fn put_column_before(
 
 /// Appends the step as a line of a history has it, without the key: index, pass, call, reply and the tickets of its
 /// lets.
-pub(crate) fn put_step_words(out: &mut Vec<u8>, step: &ShownStep) -> Result<(), AllocError> {
+pub(crate) fn put_step_words(out: &mut Vec<u8>, step: &DrawnStep) -> Result<(), AllocError> {
     put_number(out, step.index)?;
     put_number_word(out, step.pass as u64)?;
     put_call(out, step.call)?;

@@ -8,8 +8,8 @@ use lt_ids::{Access, IdError, Key, Ticket, Timestamp, TxnId};
 use lt_plain::PlainTable;
 use lt_rules::{Call, KeyState, KeyTable, Reply};
 use lt_trace_picture::{
-    Arrow, Bar, ColourChoice, Lane, Layout, Phase, PictureError, ShownRange, ShownStep, Terminal,
-    html, lanes_of, picture, put_escaped, put_heading, put_key, put_printable, put_shown,
+    Arrow, Bar, ColourChoice, Lane, Layout, PageRows, Phase, PictureError, ShownRange, ShownStep,
+    Terminal, html, lanes_of, picture, put_escaped, put_heading, put_key, put_printable, put_shown,
 };
 use std::alloc::{AllocError, Global};
 use std::process::Abort;
@@ -39,6 +39,24 @@ fn acquire(number: u64, wall: u64) -> Result<Call, Fail> {
 
 fn finish(number: u64) -> Result<Call, Fail> {
     Ok(Call::Finish { txn: txn(number)? })
+}
+
+/// Ten requests wait, and the holder finishes: the readers 1 to 9 are let through, the latest first, and then 10, a writer.
+fn crowd_calls() -> Result<[Call; 12], Fail> {
+    Ok([
+        acquire(99, 10)?,
+        visit(1, 12, Access::Read)?,
+        visit(2, 12, Access::Read)?,
+        visit(3, 12, Access::Read)?,
+        visit(4, 12, Access::Read)?,
+        visit(5, 12, Access::Read)?,
+        visit(6, 12, Access::Read)?,
+        visit(7, 12, Access::Read)?,
+        visit(8, 12, Access::Read)?,
+        visit(9, 12, Access::Read)?,
+        visit(10, 10, Access::Write)?,
+        finish(99)?,
+    ])
 }
 
 /// The calls of the worked key.
@@ -109,6 +127,27 @@ fn play(alloc: Global, key: &Key, calls: &[Call]) -> Result<Vec<ShownStep>, Allo
     Ok(steps)
 }
 
+/// A range of steps, and the rows of its page.
+#[derive(Drop)]
+struct PicturePart {
+    range: ShownRange,
+    rows: PageRows,
+}
+
+impl PicturePart {
+    fn new(alloc: Global, before: KeyState) -> PicturePart {
+        PicturePart {
+            range: ShownRange::new(alloc, before),
+            rows: PageRows::new(alloc),
+        }
+    }
+
+    fn push(&mut self, step: ShownStep) -> Result<(), AllocError> {
+        self.rows.push(&step)?;
+        self.range.push(step)
+    }
+}
+
 /// The steps of these calls from this index on, with the state before them. The last `undrawn` steps are left out.
 fn cut(
     alloc: Global,
@@ -116,35 +155,32 @@ fn cut(
     calls: &[Call],
     from: usize,
     undrawn: usize,
-) -> Result<ShownRange, AllocError> {
-    let mut range = ShownRange {
-        before: KeyState::empty(alloc),
-        steps: Vec::new(alloc),
-        goes_on: undrawn > 0,
-    };
+) -> Result<PicturePart, AllocError> {
+    let mut part = PicturePart::new(alloc, KeyState::empty(alloc));
     let drawn = calls.len().saturating_sub(undrawn);
     for step in play(alloc, key, calls)? {
         if step.index < from as u64 {
             let ShownStep { state, .. } = step;
-            range.before = state;
+            part = PicturePart::new(alloc, state);
         } else if step.index <= drawn as u64 {
-            range.steps.push(step)?;
+            part.push(step)?;
         }
     }
-    Ok(range)
+    part.range.goes_on = undrawn > 0;
+    Ok(part)
 }
 
 /// The same, made again if memory ran out.
-fn range_of(
+fn part_of(
     alloc: Global,
     calls: &[Call],
     from: usize,
     undrawn: usize,
-) -> Result<ShownRange, Fail> {
+) -> Result<PicturePart, Fail> {
     let key = key(alloc, b"k")?;
     match cut(alloc, &key, calls, from, undrawn) {
         Err(_) => Ok(cut(alloc, &key, calls, from, undrawn)?),
-        Ok(range) => Ok(range),
+        Ok(part) => Ok(part),
     }
 }
 
@@ -502,6 +538,49 @@ const LOST: PictureRow = PictureRow {
     arrows: &[(3, 0, 2)],
 };
 
+/// The step at which ten requests stop waiting.
+const CROWD: PictureRow = PictureRow {
+    lanes: &[
+        Lane::Txn(99),
+        Lane::Request(1),
+        Lane::Request(2),
+        Lane::Request(3),
+        Lane::Request(4),
+        Lane::Request(5),
+        Lane::Request(6),
+        Lane::Request(7),
+        Lane::Request(8),
+        Lane::Request(9),
+        Lane::Request(10),
+    ],
+    bars: &[
+        (0, Phase::Holds, 0, 1),
+        (1, Phase::Waits(1), 0, 1),
+        (2, Phase::Waits(1), 0, 1),
+        (3, Phase::Waits(1), 0, 1),
+        (4, Phase::Waits(1), 0, 1),
+        (5, Phase::Waits(1), 0, 1),
+        (6, Phase::Waits(1), 0, 1),
+        (7, Phase::Waits(1), 0, 1),
+        (8, Phase::Waits(1), 0, 1),
+        (9, Phase::Waits(1), 0, 1),
+        (10, Phase::Waits(1), 0, 1),
+        (10, Phase::Reserved, 1, 2),
+    ],
+    arrows: &[
+        (1, 0, 9),
+        (1, 0, 8),
+        (1, 0, 7),
+        (1, 0, 6),
+        (1, 0, 5),
+        (1, 0, 4),
+        (1, 0, 3),
+        (1, 0, 2),
+        (1, 0, 1),
+        (1, 0, 10),
+    ],
+};
+
 const NOTHING: PictureRow = PictureRow {
     lanes: &[],
     bars: &[],
@@ -513,16 +592,23 @@ fn each_range_of_steps_has_its_lanes_bars_and_arrows(rt: HostRuntime) -> Result<
     let alloc = rt.alloc();
     let worked = worked_calls()?;
     let lost = lost_calls()?;
+    let crowd = crowd_calls()?;
     // The calls, the first step, how many of the last steps are not drawn, and what is drawn.
-    let rows: [(&[Call], usize, usize, &PictureRow); 5] = [
+    let rows: [(&[Call], usize, usize, &PictureRow); 6] = [
         (&worked, 1, 0, &WHOLE),
         (&worked, 7, 1, &MIDDLE),
         (&worked, 6, 4, &FINISH),
         (&lost, 1, 0, &LOST),
+        (&crowd, 12, 0, &CROWD),
         (&[], 1, 0, &NOTHING),
     ];
     for (calls, from, undrawn, row) in rows {
-        expect_picture(&rt, alloc, &range_of(alloc, calls, from, undrawn)?, row)?;
+        expect_picture(
+            &rt,
+            alloc,
+            &part_of(alloc, calls, from, undrawn)?.range,
+            row,
+        )?;
     }
     Ok(())
 }
@@ -665,7 +751,8 @@ fn the_picture_says_where_each_bar_begins_and_ends(rt: HostRuntime) -> Result<()
         (&lost, 3, 0, LOST_PARTS),
     ];
     for (calls, from, undrawn, parts) in rows {
-        let svg = picture_of(alloc, b"a<b&c\"d", &range_of(alloc, calls, from, undrawn)?)?;
+        let part = part_of(alloc, calls, from, undrawn)?;
+        let svg = picture_of(alloc, b"a<b&c\"d", &part.range)?;
         expect_parts(&rt, &svg, parts)?;
     }
     Ok(())
@@ -686,9 +773,9 @@ const LONG_KEYS: [(&[u8], &[u8]); 2] = [
 #[test]
 fn a_long_key_is_cut_and_has_a_title(rt: HostRuntime) -> Result<(), Fail> {
     let alloc = rt.alloc();
-    let range = looks_of(alloc, 1)?;
+    let part = looks_of(alloc, 1)?;
     for (key, shown) in LONG_KEYS {
-        expect_parts(&rt, &picture_of(alloc, key, &range)?, &[(shown, 1)])?;
+        expect_parts(&rt, &picture_of(alloc, key, &part.range)?, &[(shown, 1)])?;
     }
     Ok(())
 }
@@ -714,10 +801,10 @@ const CUT_PAGE_PARTS: PartRows = &[
     ),
 ];
 
-fn page_of(alloc: Global, range: &ShownRange) -> Result<Vec<u8>, Fail> {
+fn page_of(alloc: Global, part: &PicturePart) -> Result<Vec<u8>, Fail> {
     let key = key(alloc, b"a<b&c\"d")?;
-    match html(alloc, &key, range) {
-        Err(PictureError::Memory) => Ok(html(alloc, &key, range)?),
+    match html(alloc, &key, &part.range, &part.rows) {
+        Err(PictureError::Memory) => Ok(html(alloc, &key, &part.range, &part.rows)?),
         made => Ok(made?),
     }
 }
@@ -727,17 +814,17 @@ fn the_page_has_the_picture_and_the_steps(rt: HostRuntime) -> Result<(), Fail> {
     let alloc = rt.alloc();
     let worked = worked_calls()?;
     for (from, parts) in [(1, PAGE_PARTS), (9, CUT_PAGE_PARTS)] {
-        let page = page_of(alloc, &range_of(alloc, &worked, from, 0)?)?;
+        let page = page_of(alloc, &part_of(alloc, &worked, from, 0)?)?;
         expect_parts(&rt, &page, parts)?;
     }
     Ok(())
 }
 
 /// This many looks at an empty key.
-fn looks(alloc: Global, many: usize) -> Result<ShownRange, AllocError> {
-    let mut steps = Vec::new(alloc);
+fn looks(alloc: Global, many: usize) -> Result<PicturePart, AllocError> {
+    let mut part = PicturePart::new(alloc, KeyState::empty(alloc));
     for index in 0..many {
-        steps.push(ShownStep {
+        part.push(ShownStep {
             index: (index as u64).saturating_add(1),
             pass: 1,
             call: Call::Look { number: 1 },
@@ -746,17 +833,13 @@ fn looks(alloc: Global, many: usize) -> Result<ShownRange, AllocError> {
             state: KeyState::empty(alloc),
         })?;
     }
-    Ok(ShownRange {
-        before: KeyState::empty(alloc),
-        steps,
-        goes_on: false,
-    })
+    Ok(part)
 }
 
-fn looks_of(alloc: Global, many: usize) -> Result<ShownRange, Fail> {
+fn looks_of(alloc: Global, many: usize) -> Result<PicturePart, Fail> {
     match looks(alloc, many) {
         Err(_) => Ok(looks(alloc, many)?),
-        Ok(range) => Ok(range),
+        Ok(part) => Ok(part),
     }
 }
 
@@ -764,21 +847,26 @@ fn looks_of(alloc: Global, many: usize) -> Result<ShownRange, Fail> {
 fn more_than_400_steps_are_refused(rt: HostRuntime) -> Result<(), Fail> {
     let alloc = rt.alloc();
     let key = key(alloc, b"k")?;
-    let range = looks_of(alloc, 401)?;
+    let part = looks_of(alloc, 401)?;
     assert!(rt;
         matches!(
-            lanes_of(alloc, &range.before, &range.steps),
+            lanes_of(alloc, &part.range.before, &part.range.steps),
             Err(PictureError::TooManySteps)
         )
     );
     assert!(rt;
         matches!(
-            picture(alloc, &key, &range),
+            picture(alloc, &key, &part.range),
             Err(PictureError::TooManySteps)
         )
     );
-    assert!(rt; matches!(html(alloc, &key, &range), Err(PictureError::TooManySteps)));
-    let svg = picture_of(alloc, b"k", &looks_of(alloc, 400)?)?;
+    assert!(rt;
+        matches!(
+            html(alloc, &key, &part.range, &part.rows),
+            Err(PictureError::TooManySteps)
+        )
+    );
+    let svg = picture_of(alloc, b"k", &looks_of(alloc, 400)?.range)?;
     assert!(rt; svg.starts_with(b"<svg "));
     Ok(())
 }

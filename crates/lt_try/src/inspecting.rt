@@ -41,6 +41,7 @@ impl<T: KeyTable + Drop, M: EmptyTables<T>, W: Waker> TryTable<T, M, W> {
         ensures more { SeesMore guard.old.pass guard.new.pass }
         ensures walk { guard.new.walk ≡ guard.old.walk }
         ensures err { OnErr result (guard.new ≡ guard.old) }
+        ensures never_full { result ≢ Err TryError.HistoryFull }
     {
         inspect_in(self, guard, key)
     }
@@ -100,6 +101,12 @@ impl<T: KeyTable + Drop, M: EmptyTables<T>, W: Waker> KeyStates for TryTable<T, 
     type Refusal = TryError;
 
     ghost of = { λ t. t.of };
+
+    ghost use Rattle.std.specs.Prelude.{◌≢◌};
+    ghost use Rattle.lt_try.specs.declared.error.TryError.TheVariants.{HistoryFull};
+
+    // A look makes no step, so it finds no full history.
+    ghost may_refuse_look = { λ _ e. e ≢ HistoryFull };
 
     fn inspect(&self, pass: &mut Pass, key: &Key) -> Result<KeyState, TryError> {
         TryTable::inspect(self, pass, key)

@@ -69,6 +69,13 @@ fn step_inside<T: KeyTable + Drop, M: EmptyTables<T>>(
 }
 
 impl<T: KeyTable + Drop, M: EmptyTables<T>, W: Waker> TryTable<T, M, W> {
+    /// How many shards the table has, from 1 to 64.
+    pub fn shards(&self) -> usize
+        ensures { result ≡ self.now.of.shards }
+    {
+        self.slots.len()
+    }
+
     /// The shard of a key, from 0: the sum of the key's bytes modulo the number of shards.
     pub fn shard_of(&self, key: &Key) -> usize
         ensures shard { result ≡ shard_of key.now self.now.of.shards }

@@ -20,8 +20,9 @@ ghost use Rattle.lt_writer.specs.Rank.{byte_or_0, rank_of};
 ghost use Rattle.lt_ids.specs.Key.{IsKey};
 
 use crate::Entry;
-use lt_ids::Through;
+use lt_ids::{Key, Through};
 use lt_text::put::{put_call, put_number_word, put_reply, put_ticket, put_word};
+use lt_text::words::is_name;
 use std::alloc::{AllocError, Global};
 use std::cmp::Ordering;
 
@@ -68,12 +69,19 @@ fn with_rank<'a>(entry: &'a Entry) -> Ranked<'a>
     Ranked { rank, entry }
 }
 
+/// Compares two keys, of which most are equal.
+fn compare_keys(a: &Key, b: &Key) -> Ordering
+    ensures { result ≡ slice_cmp nat_cmp a.now b.now }
+{
+    if a == b { Ordering::Equal } else { a.cmp(b) }
+}
+
 /// Compares two entries by key: by their ranks first, and by the whole keys if the ranks are equal.
 fn compare(a: &Ranked, b: &Ranked) -> Ordering
     ensures { result ≡ slice_cmp nat_cmp a.now.entry.now.key b.now.entry.now.key }
 {
     match a.rank.cmp(&b.rank) {
-        Ordering::Equal => a.entry.key().cmp(b.entry.key()),
+        Ordering::Equal => compare_keys(a.entry.key(), b.entry.key()),
         unequal => unequal,
     }
 }
@@ -171,7 +179,7 @@ fn next_index(before: &[u8], index: u64, key: &[u8]) -> u64
     requires { index + 1 < 2 ^ 64 }
     ensures { result ≡ next_index before.now index key.now }
 {
-    if key == before { index + 1 } else { 1 }
+    if is_name(key, before) { index + 1 } else { 1 }
 }
 
 /// Appends the lines of the entries, which are sorted by key.

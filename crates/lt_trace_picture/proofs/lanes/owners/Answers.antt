@@ -1,7 +1,7 @@
-use Rattle.std.proofs.Common.{ℕ, List, length, subst}
+use Rattle.std.proofs.Common.{List, length, subst}
 use Rattle.std.proofs.lemmas.Result.{IfOk-weaker}
 use Rattle.lt_trace_picture.specs.declared.timeline.Lane.{Lane}
-use Rattle.lt_trace_picture.specs.Owners.{everybody, HaveLanes, HaveLanesOf}
+use Rattle.lt_trace_picture.specs.Owners.{HaveLanes, HaveLanesOf}
 use Rattle.lt_trace_picture.proofs.Named.{has_all_sorted}
 use Rattle.lt_trace_picture.proofs.lanes.owners.Goals as goal
 

@@ -10,4 +10,4 @@ returns-in-Err-clause-err c =
     (λ lt. omega (arith, c.saturating_add.ensures, ap (λ r. r.steps) c.in-Err.ensures.report, lt)))
 
 pub loop-line-preserved : goal.loop-line-preserved
-loop-line-preserved c = moves_on c.args.self.now c.loop-line.self c.follow_line.new.self c.args.piece.now c.loop-line.rest.now c.in-Some.line.now c.in-Some.after.now c.loop-line.invariant c.in-Some.ensures (search rules)
+loop-line-preserved c = moves_on c.args.self.now c.loop-line.self c.pass_line.new.self c.args.piece.now c.loop-line.rest.now c.in-Some.line.now c.in-Some.after.now c.loop-line.invariant c.in-Some.ensures (search rules)
