@@ -17,7 +17,7 @@ use Rattle.lt_trace.specs.Errors.{IsOfOutput}
 use Rattle.lt_trace.specs.Form.{IsReadInForm, IsInputLine}
 use Rattle.lt_trace.specs.Page.{AppendsPlain, AppendsNumbered, WritesFront}
 use Rattle.lt_trace.specs.Trace.{plain_text, numbered_text}
-use Rattle.lt_trace.specs.Sorting.{BeginWithLines, steps_of_lines, HaveNoLineEnd, HasLineFault, TellsLineFault, IsNoRefusal, RefusesFirstFault, TakesInputLine, IsNextFaulty, RefusesNextLine, AreCollected, HasCollected, AreByKey, plain_lines, numbered_lines, page_lines, WritesInOrder, WritesSomeLines, IsNumberedInto, IsSortedInto}
+use Rattle.lt_trace.specs.Sorting.{AreInputLines, BeginWithLines, steps_of_lines, HaveNoLineEnd, HasLineFault, TellsLineFault, IsNoRefusal, RefusesFirstFault, TakesInputLine, IsNextFaulty, RefusesNextLine, AreCollected, HasCollected, AreByKey, plain_lines, numbered_lines, page_lines, WritesInOrder, WritesSomeLines, IsNumberedInto, IsSortedInto}
 
 -- ---- what is written
 
@@ -195,6 +195,12 @@ collected form (Some bytes) (Some others) next number InMemory old new h t m = r
   read = subst (λ (x : List ℕ). BeginWithLines form bytes h.lines x) t h.read;
   added = h.added m;
 }
+
+-- Nothing but lines was read.
+pub all_read : (form : TraceForm) (source now next : Option (List ℕ)) (number : ℕ) (InMemory : Type 0) (old new : List TraceLine) → IsCollecting form source now number InMemory old new → TakesInputLine form now next None → IfSome source (AreInputLines form)
+all_read form None now next number InMemory old new h t = tt
+all_read form (Some bytes) None next number InMemory old new h t = absurd h.read
+all_read form (Some bytes) (Some others) next number InMemory old new h t = record { lines = h.lines; read = subst (λ (x : List ℕ). BeginWithLines form bytes h.lines x) t h.read }
 
 -- A refusal of the next line is one of the first faulty line.
 pub refused_next : (form : TraceForm) (source now : Option (List ℕ)) (number : ℕ) (InMemory : Type 0) (old new : List TraceLine) (e : SortError) → IsCollecting form source now number InMemory old new → RefusesNextLine form now number e → RefusesFirstFault form source e

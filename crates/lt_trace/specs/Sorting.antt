@@ -32,6 +32,11 @@ steps_of_lines [] = []
 steps_of_lines (None ∷ os) = steps_of_lines os
 steps_of_lines (Some line ∷ os) = line ∷ steps_of_lines os
 
+-- The bytes are lines of this form and empty ones.
+pub record AreInputLines (form : TraceForm) (bytes : List ℕ) : Type 0 where
+  pub lines : List (Option TraceLine)
+  pub read : BeginWithLines form bytes lines []
+
 -- The bytes are not ended by a line end.
 abbrev pub HaveNoLineEnd : List ℕ → Type 0
 HaveNoLineEnd bytes = (text : List ℕ) → bytes ≡ text ++ 10 ∷ [] → ⊥

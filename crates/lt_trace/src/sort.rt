@@ -5,11 +5,11 @@
 //! Read next `specs/Form.antt`, what a line says, and `specs/Sorting.antt`, which text the lines become and which line is
 //! refused. A sort with temporary files refuses the same line. That its lines come back from them as they went in is
 //! tested.
-ghost use Rattle.std.specs.Prelude.{◌≡◌, ◌≢◌, ◌≤◌, [], ◌++◌, ◌∷◌, true, IsTrue, IsFalse, IfOk, IfErr, IfSome, OnOk};
+ghost use Rattle.std.specs.Prelude.{◌≡◌, ◌≢◌, ◌≤◌, [], ◌++◌, ◌∷◌, true, IfOk, IfErr, IfSome, OnOk};
 ghost use Rattle.std.specs.Io.KnownBytes.{Appends};
 ghost use Rattle.lt_trace.specs.Errors.{is_input_error, IsOfOutput};
 ghost use Rattle.lt_trace.specs.Form.{IsReadInForm, IsInputLine, IsInputRefusal};
-ghost use Rattle.lt_trace.specs.Sorting.{TellsLineFault, RefusesFirstFault, TakesInputLine, RefusesNextLine, TakesBytes, IsNoRefusal, WritesInOrder, WritesSomeLines, IsNumberedInto, IsSortedInto, HasCollected, line_error, page_lines};
+ghost use Rattle.lt_trace.specs.Sorting.{AreInputLines, TellsLineFault, RefusesFirstFault, TakesInputLine, RefusesNextLine, TakesBytes, IsNoRefusal, WritesInOrder, WritesSomeLines, IsNumberedInto, IsSortedInto, HasCollected, line_error, page_lines};
 
 use crate::error::{SortError, TraceFault, TraceLineError, stream_error};
 use crate::line::TraceLine;
@@ -265,6 +265,7 @@ fn collect<F: Files, R: BufRead>(
 ) -> Result<u64, SortError>
     ensures collected { OnOk result (stack.new.runs.items ≡ [] →
         HasCollected options.now.form (R.remaining input.old) batch.old.lines.items batch.new.lines.items) }
+    ensures read { OnOk result (IfSome (R.remaining input.old) (AreInputLines options.now.form)) }
     ensures stored { OnOk result (stack.new.runs.items ≢ [] → (stack.old.runs.items ≢ [] → 1 ≤ stack.old.stored) → 1 ≤ stack.new.stored) }
     ensures refused { IfErr result (RefusesFirstFault options.now.form (R.remaining input.old)) }
 {
@@ -324,11 +325,12 @@ pub fn sort_trace<F: Files, R: BufRead, W: Write>(
 ) -> Result<SortReport, SortError>
     // If a line is refused or a read fails, the output is unchanged.
     ensures unchanged { IfErr result (λ e. is_input_error e ≡ true → output.new ≡ output.old) }
-    // A refusal names the first faulty line and its fault.
+    // Only a trace without a faulty line is sorted, and a refusal names the first one and its fault.
+    ensures read { OnOk result (IfSome (R.remaining input.old) (AreInputLines options.now.form)) }
     ensures refused { IfErr result (RefusesFirstFault options.now.form (R.remaining input.old)) }
     // Whatever the temporary files gave back, the text has the header, and each of its lines the index that is due.
     ensures numbered { OnOk result (IsNumberedInto (W.contents output.old) (W.contents output.new)) }
-    // With all lines in memory, their sorted text was written.
+    // If no run was made, the lines were written in order.
     ensures sorted { IfOk result (λ report. report.runs ≡ 0 → IfSome (R.remaining input.old)
         (IsSortedInto options.now.form (W.contents output.old) (W.contents output.new))) }
 {
