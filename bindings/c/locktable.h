@@ -26,8 +26,8 @@
  *         return lt_table_close(&table) == LT_DONE ? 0 : 5;
  *     }
  *
- * WHAT A CALLER OWES. Nothing checks these rules, and the proofs rest on them. A handle is a struct lt_table, lt_shared, lt_pass
- * or lt_text_check:
+ * WHAT A CALLER OWES. Nothing checks these rules, and the proofs rest on them. A handle is a struct lt_table, lt_shared, lt_pass,
+ * lt_steps or lt_text_check:
  *
  *   - A handle is all zero before its first call. Afterwards only these functions read or write it.
  *   - A caller does not copy an open handle, because both copies would own one table. It closes each handle that it opened:
@@ -55,8 +55,9 @@
  * the caller's pointers point to are as they were. (Of a shared table this is proved of the handle and what the pointers point
  * to: no clause speaks of the shards. After LT_LOST one of them would be empty. lt_check and lt_check_end fill their report
  * also for a text that they refuse. A check in pieces is over once it has answered a fault or LT_MEMORY, and then answers the
- * same again. From LT_PROCEED on a code is that of a scan, a poll or a let of a shared table; a scan and a leave of several keys
- * may be refused between two of them, and the functions say what then stands.)
+ * same again. From LT_PROCEED on a code is that of a scan, a poll or a let of a shared table, and from
+ * LT_BAD_KEEPING on a refusal of a call on its history; a scan and a leave of several keys may be refused between two of them, and
+ * the functions say what then stands.)
  * If a call has several reasons to refuse, it answers the first in the order that stands at the call. After LT_MEMORY
  * the caller may make the same call again.
  *
@@ -150,7 +151,13 @@ enum lt_code {
     LT_WAITS_OUT = 70,      /* scan refused: the request has begun as many waits as it may */
     LT_LET_THROUGH = 71,    /* poll: the request was let through */
     LT_NOT_WAITING = 72,    /* poll: the request does not wait */
-    LT_NO_LET = 73          /* let: none is left of which nobody was told */
+    LT_NO_LET = 73,         /* let: none is left of which nobody was told */
+
+    /* refusals of a table that keeps its steps */
+    LT_BAD_KEEPING = 74,    /* open: there is no such way to keep steps */
+    LT_KEPT_WHOLE = 75,     /* take: the table keeps its steps until its end */
+    LT_PASSES_OUT = 76,     /* end: passes are out; the table ends once all have come back */
+    LT_MISCOUNT = 77        /* end: the steps of a shard are not those of the passes; no table that was opened answers this */
 };
 
 /* The version of this header: the first number of the version times 1,000,000, the second times 1,000, and the third. */
@@ -434,10 +441,11 @@ uint32_t lt_check_end(struct lt_text_check *check, struct lt_report *report);
  *   - This history is legal (`legal`). So no key has two holders in it (docs/PROOFS.md, "Before a close").
  *   - A request that waited goes on only if a step in that history let it through (`scanned`, `polled`).
  *
- * docs/PROOFS.md says what follows of all callers together if one legal history extends what each pass has seen. No clause here
- * says that one does: docs/ARCHITECTURE.md, "The growing history", has the reason. No table here gives its history back. Nothing
- * promises that a call is not refused with LT_BUSY again and again, or that a caller is told of each let. The clauses also allow
- * LT_LOST where they allow LT_BUSY: that no table answers it is not proved.
+ * docs/PROOFS.md says what follows of all callers together if one legal history extends what each pass has seen. The end of a
+ * table gives such a history, of the passes that came back (lt_shared_end). That a pass comes back as it was when its caller gave
+ * it back, no clause says: its seat forgets what it has seen. While the table is open no clause gives such a history
+ * (docs/ARCHITECTURE.md, "The growing history"). Nothing promises that a call is not refused with LT_BUSY again and again, or that
+ * a caller is told of each let. The clauses also allow LT_LOST where they allow LT_BUSY: that no table answers it is not proved.
  *
  * THE LIFE OF A REQUEST. A pass names keys (lt_pass_want) and enters (lt_pass_enter): the request draws a number, and the
  * smaller number goes first. A scan (lt_pass_scan) visits the keys in order:
@@ -481,12 +489,30 @@ struct lt_pass {
     void *at;
 };
 
+/* Steps of one shard of a shared table, in order. All zero is a closed handle. */
+struct lt_steps {
+    bool is_open;
+    void *at;
+};
+
 /* The numbers with which a shared table is opened. */
 struct lt_config {
     size_t shards;         /* 1 to 64: at most so many steps are made at once */
     size_t passes;         /* 1 to 1024: at most so many callers */
     uint64_t max_requests; /* 1 to 2^40 - 1: at most so many requests enter */
     uint32_t max_waits;    /* 1 to 2^24 - 1: a request begins at most so many waits, and makes no visit after the last one */
+};
+
+/* How a shared table keeps its steps. */
+enum lt_way {
+    LT_KEEP_NONE = 0,   /* not at all */
+    LT_KEEP_TAKEN = 1,  /* each step until it is taken out (lt_pass_take), or until the end */
+    LT_KEEP_WHOLE = 2   /* each step until the end */
+};
+
+struct lt_keeping {
+    uint64_t max_steps; /* 1 to 2^32: a shard holds at most so many at a time */
+    uint32_t way;       /* one of enum lt_way */
 };
 
 /* What a request asks for beside its keys. */
@@ -511,10 +537,23 @@ struct lt_terms {
 uint32_t lt_shared_open(struct lt_shared *table, const struct lt_config *config, uint64_t start);
 
 /*
+ * The same for a table that keeps its steps in this way. A step that is kept takes 80 bytes, and more if it has lets or a key of
+ * more than 22 bytes. In a table that keeps steps, each step may be refused with LT_MEMORY, and with LT_HISTORY_FULL if its shard
+ * holds as many steps as it may.
+ *
+ * Answers LT_DONE, or refuses, in this order: LT_OPEN_ALREADY, LT_BAD_KEEPING, LT_BAD_SHARDS, LT_BAD_PASSES, LT_BAD_STEPS,
+ * LT_BAD_REQUESTS, LT_BAD_WAITS, LT_MEMORY. A refused call leaves the handle closed.
+ *
+ * Proved: as of lt_shared_open; the table keeps its steps in this way (`opened`).
+ */
+uint32_t lt_shared_open_keeping(struct lt_shared *table, const struct lt_config *config, const struct lt_keeping *keeping,
+                                uint64_t start);
+
+/*
  * Gives the table's next pass out, to a closed handle.
  *
  * Answers LT_DONE, or refuses, in this order: LT_OPEN_ALREADY (the pass is open), LT_CLOSED (the table is not), LT_NO_PASS (all
- * passes were given out: none comes back), LT_MEMORY.
+ * passes were given out, and none of them is given out again), LT_MEMORY.
  *
  * Proved: it refuses so and in this order (`open_already`, `refused`); a pass that is given out is one of those that the table
  * had left, goes from that list, and names no key (`given`); a refused call has changed neither handle (`kept`).
@@ -568,8 +607,8 @@ uint32_t lt_pass_enter(struct lt_pass *pass, const struct lt_terms *terms);
  * (`out_kept`).
  *
  * Answers LT_PROCEED, LT_RESCAN, LT_WAITING, LT_QUEUE_TOO_LONG, or refuses. Before any visit: LT_CLOSED, LT_LEAVING,
- * LT_STILL_WAITING. Before the next visit, while those that it has made stand: LT_WAITS_OUT, LT_BUSY, LT_MEMORY. After LT_BUSY
- * and LT_MEMORY the next scan goes on there. After LT_WAITS_OUT the request keeps its places, and leaves.
+ * LT_STILL_WAITING. Before the next visit, while those that it has made stand: LT_WAITS_OUT, LT_BUSY, LT_MEMORY, LT_HISTORY_FULL.
+ * After the last three the next scan goes on there. After LT_WAITS_OUT the request keeps its places, and leaves.
  *
  * Proved: the handle of a request is not refused as closed (`opened`), and any that is has not changed (`kept`). All else is in
  * `scanned`: the code and the index are those of one result; each visit was made in order and is reported; the scan ended as the
@@ -594,22 +633,26 @@ uint32_t lt_pass_poll(struct lt_pass *pass);
  * The request gives up its places and reservations. The handle is then the pass's again, which names no key.
  *
  * Answers LT_DONE, or refuses: LT_CLOSED, LT_BUSY. After LT_BUSY the leaves before it stand, a scan answers LT_LEAVING, and the
- * same call goes on at the key where it was. A leave is never refused for memory.
+ * same call goes on at the key where it was. In a table that keeps no steps a leave is never refused for memory; another table may
+ * answer LT_MEMORY and LT_HISTORY_FULL, which leave it as LT_BUSY does.
  *
  * Proved: the handle of a request is not refused as closed (`opened`), and any that is has not changed (`kept`); after LT_DONE a
  * leave was made and reported at each key that was left to leave, and after any other code at those up to the refused one, and
- * the code is not LT_MEMORY (`left`); what the pass has seen is legal (`legal`).
+ * the code of a table that keeps no steps is neither LT_MEMORY nor LT_HISTORY_FULL (`left`); what the pass has seen is legal
+ * (`legal`).
  */
 uint32_t lt_pass_leave(struct lt_pass *pass);
 
 /*
- * What the request finds at its key with this index. Sets `txn` as lt_table_look does. The call allocates nothing.
+ * What the request finds at its key with this index. Sets `txn` as lt_table_look does. In a table that keeps no steps the call
+ * allocates nothing.
  *
- * Answers the replies of lt_table_look, or refuses, in this order: LT_CLOSED, LT_BAD_INDEX, LT_BUSY.
+ * Answers the replies of lt_table_look, or refuses, in this order: LT_CLOSED, LT_BAD_INDEX; and then LT_BUSY, or, in a table that
+ * keeps steps, LT_MEMORY or LT_HISTORY_FULL.
  *
- * Proved: it refuses so and in this order (`refused`), and never for memory (`no_memory`); a look that is answered is reported
- * with the reply and the transaction of the code and of `txn` (`looked`); a refused call has changed neither the handle nor `txn`
- * (`kept`); what the pass has seen is legal (`legal`).
+ * Proved: it refuses so and in this order (`refused`), and never for memory if the table keeps no steps (`no_memory`); a look that
+ * is answered is reported with the reply and the transaction of the code and of `txn` (`looked`); a refused call has changed
+ * neither the handle nor `txn` (`kept`); what the pass has seen is legal (`legal`).
  */
 uint32_t lt_pass_look(struct lt_pass *pass, size_t index, uint64_t *txn);
 
@@ -649,11 +692,11 @@ uint32_t lt_pass_keys(struct lt_pass *pass, size_t shard, const uint8_t *after, 
  * The steps of a transaction, as those of the table of one thread, through a pass or through a request, which stays as it is.
  *
  * Answer the replies of lt_table_acquire, lt_table_update and lt_table_finish, or refuse, in this order: LT_BAD_TXN, LT_CLOSED,
- * LT_BAD_KEY_EMPTY, LT_BAD_KEY_LONG, LT_BAD_KEY_BYTE; and then LT_BUSY or LT_MEMORY. A refused call has made no step
- * (the handle is as it was, and that is proved).
- * With a key of at most 22 bytes an update and a finish are never refused for memory.
+ * LT_BAD_KEY_EMPTY, LT_BAD_KEY_LONG, LT_BAD_KEY_BYTE; and then LT_BUSY, LT_MEMORY or, in a table that keeps steps, LT_HISTORY_FULL.
+ * A refused call has made no step (the handle is as it was, and that is proved).
+ * In a table that keeps no steps, and with a key of at most 22 bytes, an update and a finish are never refused for memory.
  *
- * Proved: they refuse so and in this order (`refused`), and update and finish with such a key not for memory (`gives_up`); a
+ * Proved: they refuse so and in this order (`refused`), and there update and finish not for memory (`gives_up`); a
  * step that is answered was made at this key and is reported with the reply of the code, and the request stays as it is
  * (`made`); a refused call has not changed the handle (`kept`); what the pass has seen is legal (`legal`).
  */
@@ -682,6 +725,132 @@ uint32_t lt_pass_let(struct lt_pass *pass, struct lt_through *through);
  * Proved: it is this number (`number`), and the call has not changed the handle (`same`).
  */
 uint32_t lt_pass_number(struct lt_pass *pass);
+
+/*
+ * THE HISTORY OF A SHARED TABLE. A table that keeps its steps gives them to a struct lt_steps: of a shard while it runs
+ * (lt_pass_take), or at its end. The end needs all passes back: each caller gives his pass back (lt_pass_back), and one caller
+ * then ends the table. A pass whose handle was closed instead does not come back, and the table then has no end.
+ */
+
+/*
+ * Gives the pass back to its table, and closes the handle. A request leaves first. It allocates nothing.
+ *
+ * Answers LT_DONE, or refuses: LT_CLOSED (also while a request has the pass).
+ *
+ * Proved: the handle of a pass is closed by it, unless the answer is LT_LOST (`refused`, `done`), which no pass of a table is
+ * answered, but that is not proved; any other handle is refused (`refused`, `closed`); a refused call has not changed the handle
+ * (`kept`).
+ */
+uint32_t lt_pass_back(struct lt_pass *pass);
+
+/* What an end tells. */
+struct lt_end {
+    uint64_t draws;    /* after LT_DONE: how many request numbers were drawn */
+    size_t passes_out; /* after LT_PASSES_OUT: how many passes are out */
+    size_t shard;      /* after LT_MISCOUNT: the first shard whose steps are not those of the passes */
+};
+
+/*
+ * Ends the table. All of its passes have to be back, or never given out. The handle then holds what is left of each shard.
+ *
+ * Answers LT_DONE, or refuses, in this order: LT_CLOSED, LT_PASSES_OUT, LT_MEMORY, LT_BUSY (another handle is just giving its pass
+ * back: call again). The clauses also allow LT_MISCOUNT and LT_LOST, which no table answers; that is not proved. After any of
+ * these but LT_LOST the table is as it was. After LT_MEMORY it may be that it gives no pass out any more.
+ *
+ * Proved: it refuses so, as a closed handle before all else (`refused`); once it is done (`ended`), the table was ended with passes
+ * of its own, at least as many as it has; each shard has a final history, which is legal at each key and has as many steps as
+ * these passes made there; what is left is this history from some index on: from 0 if the table kept its steps whole, from as many
+ * steps on as these passes took out if it kept them until then, and no step if it kept none; one legal history of all shards
+ * extends what each of these passes had seen, and its draws are those that are told; each let of the final histories was shown to
+ * the pass that waited. This is the end that the main theorem of docs/PROOFS.md begins with. After a refusal the table and its
+ * passes are as they were (`kept`); after LT_LOST the handle is closed (`lost`).
+ */
+uint32_t lt_shared_end(struct lt_shared *table, struct lt_end *end);
+
+/*
+ * Gives what the end left of the shard with this index, from 0, to a closed handle. A later call for the same shard gives no step.
+ *
+ * Answers LT_DONE, or refuses, in this order: LT_OPEN_ALREADY (`steps` is open), LT_CLOSED (the table has not ended),
+ * LT_BAD_SHARD, LT_MEMORY.
+ *
+ * Proved: it refuses so and in this order (`open_already`, `refused`); it gives what was left of this shard, of which then nothing
+ * is left, and changes nothing of the others (`given`); a refused call has changed neither handle (`kept`).
+ */
+uint32_t lt_shared_rest(struct lt_shared *table, size_t shard, struct lt_steps *steps);
+
+/*
+ * Takes the steps out that the shard with this index holds, through a pass that has no request, and puts them into a closed handle.
+ * The table keeps them until they are taken: LT_KEEP_TAKEN. A table that keeps none gives none. Each step is given once.
+ *
+ * Answers LT_DONE, or refuses, in this order: LT_OPEN_ALREADY (`steps` is open), LT_CLOSED, LT_BAD_SHARD, LT_KEPT_WHOLE, LT_MEMORY,
+ * LT_BUSY.
+ *
+ * Proved: it refuses so and in this order up to LT_KEPT_WHOLE (`open_already`, `refused`); the steps are all of the shard's from
+ * some index on in what the pass has then seen, and this index is where the takes before it ended (`taken`); so the pieces that one
+ * reader takes are the shard's history, without a gap and with no step twice; a refused call has not changed the handles (`kept`,
+ * `out_kept`), but after LT_LOST, which no table answers, the pass may have noted a take (`lost`).
+ */
+uint32_t lt_pass_take(struct lt_pass *pass, size_t shard, struct lt_steps *steps);
+
+/* A call of a step. What it does not name is 0. */
+struct lt_call {
+    uint64_t number;   /* visit, leave, look: the request */
+    uint64_t txn;      /* visit, acquire, update, finish: the transaction */
+    uint64_t wall;     /* visit, acquire, update: the timestamp */
+    uint32_t logical;
+    uint32_t wait;     /* visit: the number of the wait that it may begin */
+    uint32_t longest;  /* visit: the bound on the writers */
+    uint32_t kind;     /* 1 visit, 2 acquire, 3 update, 4 finish, 5 leave, 6 look */
+    bool writes;       /* visit */
+};
+
+/* A step: the pass made the call at the key, and was given the reply. */
+struct lt_step {
+    struct lt_key_name key;
+    struct lt_call call;
+    uint32_t pass;
+    uint32_t reply;     /* its code, from LT_FIRST_REPLY on */
+    uint64_t reply_txn; /* the transaction that the reply names, or 0 */
+    size_t lets;        /* how many requests it let through */
+};
+
+/*
+ * How many steps the handle holds, and how many steps of their shard were made before them.
+ *
+ * Answers LT_DONE, or refuses: LT_CLOSED. Proved: these are the numbers (`counted`), it refuses so (`refused`), and has then
+ * written nothing (`out_kept`); the handle has not changed (`same`).
+ */
+uint32_t lt_steps_count(struct lt_steps *steps, uint64_t *from, size_t *count);
+
+/*
+ * The step at this place, from 0, and of its lets as many of the first as fit into the array. `step` says how many there are. The
+ * rest of the array stays as it was. The call allocates nothing.
+ *
+ * Answers LT_DONE, or refuses, in this order: LT_CLOSED, LT_BAD_INDEX.
+ *
+ * Proved: this is the step with its key, call, pass and reply, and these are its lets (`shown`); it refuses so and in this order
+ * (`refused`), and has then written nothing (`out_kept`); the handle has not changed (`same`).
+ */
+uint32_t lt_steps_at(struct lt_steps *steps, size_t place, struct lt_step *step, struct lt_through *lets, size_t room);
+
+/*
+ * The line of the step at this place, with its line end: as many of its bytes as fit, and how many there are. With `index` 0 it is
+ * a line of a trace, for `locktrace sort`. Otherwise it is a line of a text of histories, for lt_check: the first line of such a
+ * text is "locks 2", the keys rise, and the steps of each key are counted from 1 (docs/FORMATS.md).
+ *
+ * Answers LT_DONE, or refuses, in this order: LT_CLOSED, LT_BAD_INDEX, LT_MEMORY.
+ *
+ * Proved: these are the bytes of the line of this step with this index (`lined`); it refuses so and in this order (`refused`), and
+ * has then written nothing (`out_kept`); the handle has not changed (`same`).
+ */
+uint32_t lt_steps_line(struct lt_steps *steps, size_t place, uint64_t index, uint8_t *bytes, size_t room, size_t *count);
+
+/*
+ * Drops the steps, and closes the handle. Answers LT_DONE, or refuses: LT_CLOSED.
+ *
+ * Proved: a handle of steps is closed afterwards (`done`); any other is refused and has not changed (`closed`).
+ */
+uint32_t lt_steps_close(struct lt_steps *steps);
 
 /* The version of the library, counted as LT_VERSION is. */
 uint32_t lt_version(void);

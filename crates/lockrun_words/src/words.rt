@@ -122,6 +122,18 @@ fn runner<'a>(alloc: Global) -> Result<Command<'a>, AllocError>
         .arg(turns)
 }
 
+/// What the program's help shows below its options.
+const AFTER_HELP: &str = "Examples:
+  lockrun run SCRIPT
+  lockrun run --threads --turns 1000 SCRIPT
+  lockrun check HISTORIES
+  lockrun upgrade HISTORIES > NEW
+
+A word after `--` is a file, also if it begins with a hyphen: `lockrun run -- -x`. docs/FORMATS.md describes the texts.
+
+Exit status: 0 done, 1 the text is refused or too long, 2 the command line is refused, 3 turns were used up,
+4 out of memory or the table could not be closed, 5 a read or a write failed";
+
 /// The program without its commands.
 fn program<'a>(alloc: Global) -> Result<Command<'a>, AllocError>
     ensures { IfOk result (λ c. app_of c ≡ program) }
@@ -131,6 +143,7 @@ fn program<'a>(alloc: Global) -> Result<Command<'a>, AllocError>
         .about(
             "Runs scripts on a lock table, and checks and upgrades texts of histories. Without a command, it runs the script on standard input.",
         )
+        .after_help(AFTER_HELP)
         .bin_name("lockrun")
 }
 

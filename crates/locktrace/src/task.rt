@@ -70,10 +70,11 @@ struct Shower<'a> {
 
 impl<'a> StepTaker for Shower<'a> {
     fn take(&mut self, checker: &Checker, line: Line) -> Result<Vec<u8>, TraceFailure> {
-        let mut text = Vec::new(self.alloc);
         if !is_in_range(&self.wanted, &line) {
-            return Ok(text);
+            return Ok(Vec::new(self.alloc));
         }
+        // Most lines of the table fit into this.
+        let mut text = Vec::with_capacity(self.alloc, self.layout.width().saturating_add(1))?;
         let state = checker.front(self.alloc, MOST_QUEUED)?;
         let (key, step) = shown_step(line, state);
         let is_new = match &self.key {

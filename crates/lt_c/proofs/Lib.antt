@@ -2,3 +2,4 @@ pub mod WalkSteps
 pub mod Boxes
 pub mod Copied
 pub mod Hearing
+pub mod Lined

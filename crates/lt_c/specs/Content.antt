@@ -1,9 +1,11 @@
--- What an open handle holds: a table, the check of a text in pieces, or what a caller has of a shared table.
+-- What an open handle holds: a table, the check of a text in pieces, what a caller has of a shared table, or steps of one.
 use Rattle.std.specs.Prelude.{Option, Some, None}
 use Rattle.std.specs.Coded.{Coded, coded_option}
 use Rattle.lt_c.specs.OneTable.{OneTableState}
 use Rattle.lt_c.specs.contracts.content.Content.{the_row}
-use Rattle.lt_c.specs.declared.content.Content.TheVariants.{Table, Check, Shared, Pass, Guard}
+use Rattle.lt_c.specs.declared.content.Content.TheVariants.{Table, Check, Shared, Pass, Guard, Steps, Ended}
+use Rattle.lt_shard.specs.declared.holding.Rest.{Rest}
+use Rattle.lt_walk.specs.declared.closing.Rests.{Rests}
 use Rattle.lt_c.specs.declared.held_check.HeldCheck.{HeldCheck}
 use Rattle.lt_c.specs.declared.held_shared.HeldShared.{HeldShared}
 use Rattle.lt_c.specs.declared.held_shared.HeldPass.{HeldPass}
@@ -39,3 +41,13 @@ pass_in _ = None
 abbrev pub guard_in : Option ContentState → Option HeldGuard
 guard_in (Some (Guard held)) = Some held
 guard_in _ = None
+
+-- what is left of an ended table, if a handle holds that
+abbrev pub ended_in : Option ContentState → Option Rests
+ended_in (Some (Ended rests)) = Some rests
+ended_in _ = None
+
+-- the steps that a handle holds, if it holds some
+abbrev pub steps_in : Option ContentState → Option Rest
+steps_in (Some (Steps rest)) = Some rest
+steps_in _ = None

@@ -14,3 +14,6 @@ pub mod CheckPieces
 pub mod SharedCodes
 pub mod Shared
 pub mod PassLooks
+pub mod Taking
+pub mod Ending
+pub mod Lines

@@ -5,13 +5,13 @@ use Rattle.std.specs.Option.{option_map}
 use Rattle.lt_ids.specs.declared.request.Access.{Access}
 use Rattle.lt_ids.specs.declared.request.Access.TheVariants.{Read, Write}
 use Rattle.lt_ids.specs.declared.timestamp.Timestamp.{Timestamp}
-use Rattle.lt_ids.specs.declared.limits.TheConstants.{MAX_STEPS}
 use Rattle.lt_rules.specs.Rules.{Record}
 use Rattle.lt_rules.specs.declared.call.Call.{Call}
 use Rattle.lt_words.specs.History.{IsLegalHistory}
 use Rattle.lt_ids.specs.declared.ticket.Through.{Through as Letting}
 use Rattle.lt_words.specs.Row.{Opening, PassState, SeesMore, AreFresh, AreTelling, NoneLeft}
-use Rattle.lt_words.specs.declared.keeping.Keeping.TheVariants.{Unrecorded}
+use Rattle.lt_words.specs.declared.keeping.Keeping.{Keeping}
+use Rattle.lt_words.specs.declared.keeping.Keeping.TheVariants.{Whole, Streamed, Unrecorded}
 use Rattle.lt_shard.specs.declared.answer.Answer.{Answer}
 use Rattle.lt_walk.specs.declared.config.Config.{Config}
 use Rattle.lt_walk.specs.declared.keys.EnterError.{EnterError}
@@ -28,14 +28,15 @@ use Rattle.lt_walk.specs.Entered.{IsEntered, IsRefused}
 use Rattle.lt_walk.specs.Inspected.{seen_record}
 use Rattle.lt_walk.specs.Laws.{IsTooLong}
 use Rattle.lt_try.specs.declared.error.TryError.{TryError}
-use Rattle.lt_try.specs.declared.error.TryError.TheVariants.{HistoryFull, Memory}
+use Rattle.lt_try.specs.declared.error.TryError.TheVariants.{HistoryFull}
+use Rattle.lt_try.specs.Refused.{RefusesForOthers}
 use Rattle.lt_c.specs.declared.shapes.LtConfig.{LtConfig}
 use Rattle.lt_c.specs.declared.shapes.LtThrough.{LtThrough}
 use Rattle.lt_c.specs.Shapes.{raw_let}
 use Rattle.lt_c.specs.declared.held_shared.HeldShared.{HeldShared}
 use Rattle.lt_c.specs.declared.held_shared.HeldPass.{HeldPass}
 use Rattle.lt_c.specs.declared.held_shared.HeldGuard.{HeldGuard}
-use Rattle.lt_c.specs.declared.content.Content.TheVariants.{Shared, Pass, Guard}
+use Rattle.lt_c.specs.declared.content.Content.TheVariants.{Shared, Pass, Guard, Ending, Ended}
 use Rattle.lt_c.specs.Codes.{reply_code, reply_txn}
 use Rattle.lt_c.specs.Looks.{bytes_refusal}
 use Rattle.lt_c.specs.Content.{ContentState}
@@ -43,13 +44,18 @@ use Rattle.lt_c.specs.SharedCodes.{prepare_code, try_code, enter_code, scan_code
 
 -- ---- opening
 
--- the numbers with which C opens a table, which stores no step
-abbrev pub config_of : LtConfig → Config
-config_of c = record { shards = c.shards; passes = c.passes; max_steps = MAX_STEPS; max_requests = c.max_requests; max_waits = c.max_waits }
+-- the numbers with which C opens a table
+abbrev pub config_of : LtConfig → ℕ → Config
+config_of c max_steps = record { shards = c.shards; passes = c.passes; max_steps = max_steps; max_requests = c.max_requests; max_waits = c.max_waits }
 
--- why a table is not opened with these numbers: the first that is out of its range
-abbrev pub open_refusal : LtConfig → Option ℕ
-open_refusal c = option_map prepare_code (fault (config_of c))
+-- how a table that C opens with this word keeps its steps
+abbrev pub keeping_of : ℕ → Option Keeping
+keeping_of word = if nat_eq word 0 then Some Unrecorded else if nat_eq word 1 then Some Streamed else if nat_eq word 2 then Some Whole else None
+
+-- why a table that is to keep its steps so, or in no way, is not opened with these numbers: the first that is out of its range
+abbrev pub open_refusal : LtConfig → ℕ → Option Keeping → Option ℕ
+open_refusal c max_steps None = Some 74
+open_refusal c max_steps (Some keeping) = option_map prepare_code (fault (config_of c max_steps))
 
 -- The table has this configuration and this book, and all of its passes are there and have seen nothing.
 pub record IsNewShared (config : Config) (of : Opening) (held : HeldShared) : Type 0 where
@@ -59,12 +65,17 @@ pub record IsNewShared (config : Config) (of : Opening) (held : HeldShared) : Ty
   -- each keeps the lets of its steps, so that its caller is told them
   pub telling : AreTelling held.passes.items
 
--- A new table was opened with these numbers, and it stores no step.
-pub record IsOpenedAs (c : LtConfig) (held : HeldShared) : Type 0 where
+-- A new table was opened with these numbers, and it keeps its steps so.
+pub record IsOpenedSo (config : Config) (keeping : Keeping) (held : HeldShared) : Type 0 where
   pub of : Opening
-  pub is_new : IsNewShared (config_of c) of held
-  pub opened : IsOpened (config_of c) of
-  pub keeping : of.keeping ≡ Unrecorded
+  pub is_new : IsNewShared config of held
+  pub opened : IsOpened config of
+  pub keeps : of.keeping ≡ keeping
+
+-- The same with the numbers of C, if there is such a way to keep steps.
+abbrev pub IsOpenedAs : LtConfig → ℕ → Option Keeping → HeldShared → Type 0
+IsOpenedAs c max_steps None held = ⊥
+IsOpenedAs c max_steps (Some keeping) held = IsOpenedSo (config_of c max_steps) keeping held
 
 abbrev pub OnShared : (HeldShared → Type 0) → Option HeldShared → Type 0
 OnShared P None = ⊥
@@ -101,6 +112,8 @@ abbrev pub is_of_shared : Option ContentState → Bool
 is_of_shared (Some (Shared held)) = true
 is_of_shared (Some (Pass held)) = true
 is_of_shared (Some (Guard held)) = true
+is_of_shared (Some (Ending held)) = true
+is_of_shared (Some (Ended rests)) = true
 is_of_shared _ = false
 
 -- ---- a request
@@ -152,8 +165,8 @@ pub record ScanTells (code index : ℕ) (before after : HeldGuard) : Type 0 wher
   pub waiting : (i : ℕ) → result ≡ Ok (Ok (Waiting i)) → i < length after.guard.walk.asked.keys
   pub too_long : (i : ℕ) → result ≡ Ok (Ok (TooLong i)) → IsTooLong before.guard after.guard i
   pub stays : GuardStays before.guard after.guard
-  -- the table stores no step, so no shard is full
-  pub never_full : result ≢ Err HistoryFull
+  -- if the table stores no step, no shard is full
+  pub never_full : (arc_value before.table).of.keeping ≡ Unrecorded → result ≢ Err HistoryFull
   pub inside_never_full : IfOk result (λ r. r ≢ Err scan_errors.HistoryFull)
   pub same_table : (arc_value after.table) ≡ (arc_value before.table)
 
@@ -166,22 +179,33 @@ pub record PollTells (code : ℕ) (before after : HeldGuard) : Type 0 where
   pub stays : GuardStays before.guard after.guard
   pub same_table : (arc_value after.table) ≡ (arc_value before.table)
 
--- The handle held a request. Either it has left, and the handle holds its pass; or its leave was refused, never for memory, and
--- the handle holds the request at the key whose leave was refused.
+-- The handle held a request. Either it has left, and the handle holds its pass; or its leave was refused, never for memory if the
+-- table stores no step, and the handle holds the request at the key whose leave was refused.
 abbrev pub LeaveTells : ℕ → Option ContentState → Option ContentState → Type 0
 LeaveTells code (Some (Guard g)) (Some (Pass p)) =
     (code ≡ 0) × ((answers : List Answer) × AllLeft g.guard p.pass answers) × PassStays g.guard.pass p.pass × (p.wants.items ≡ []) × ((arc_value p.table) ≡ (arc_value g.table))
 LeaveTells code (Some (Guard g)) (Some (Guard g')) =
-    ((e : TryError) × (code ≡ try_code e) × (e ≢ HistoryFull) × (e ≢ Memory)) × StoppedLeaving g.guard g'.guard × GuardStays g.guard g'.guard × ((arc_value g'.table) ≡ (arc_value g.table))
+    ((e : TryError) × (code ≡ try_code e) × RefusesForOthers (arc_value g.table).of.keeping e) × StoppedLeaving g.guard g'.guard × GuardStays g.guard g'.guard × ((arc_value g'.table) ≡ (arc_value g.table))
 LeaveTells code _ _ = ⊥
 
 -- ---- a step
 
 -- The call answers this refusal. If it has no reason to refuse, it refuses only if an allocation fails, if another caller is
--- in the shard, or if the shard was lost.
-abbrev pub IsTriedUnless : Option ℕ → ℕ → Type 0
-IsTriedUnless (Some code) result = result ≡ code
-IsTriedUnless None result = result < 32 → (result ≡ 2) ⊎ ((result ≡ 12) ⊎ (result ≡ 15))
+-- in the shard, if the shard has stored as many steps as it may, or if it was lost. No shard of a table that stores no step is full.
+abbrev pub IsTriedUnless : Keeping → Option ℕ → ℕ → Type 0
+IsTriedUnless keeping (Some code) result = result ≡ code
+IsTriedUnless keeping None result =
+    (result < 32 → (result ≡ 2) ⊎ ((result ≡ 12) ⊎ ((result ≡ 13) ⊎ (result ≡ 15)))) × (keeping ≡ Unrecorded → result ≢ 13)
+
+-- The same of a call that only looks, and so meets no full shard.
+abbrev pub IsSeenUnless : Option ℕ → ℕ → Type 0
+IsSeenUnless refusal result = IsTriedUnless Unrecorded refusal result
+
+-- how the table of a handle keeps its steps, if the handle holds a pass or a request
+abbrev pub keeping_behind : Option ContentState → Keeping
+keeping_behind (Some (Pass held)) = (arc_value held.table).of.keeping
+keeping_behind (Some (Guard held)) = (arc_value held.table).of.keeping
+keeping_behind _ = Unrecorded
 
 -- why a step at the key with these bytes is refused through this handle: it holds no pass, and no request that has one, or
 -- the bytes are no key

@@ -10,6 +10,8 @@ use Rattle.lt_walk.specs.declared.scan_results.ScanError.{ScanError}
 use Rattle.lt_walk.specs.declared.scan_results.ScanError.TheVariants as refused
 use Rattle.lt_walk.specs.declared.scan_results.Poll.{Poll}
 use Rattle.lt_walk.specs.declared.scan_results.Poll.TheVariants as polls
+use Rattle.lt_walk.specs.declared.closing.CloseError.{CloseError}
+use Rattle.lt_walk.specs.declared.closing.CloseError.TheVariants as closes
 use Rattle.lt_try.specs.declared.error.TryError.{TryError}
 use Rattle.lt_try.specs.declared.error.TryError.TheVariants as tries
 
@@ -28,6 +30,12 @@ try_code tries.HistoryFull = 13
 try_code tries.Memory = 2
 try_code tries.Busy = 12
 try_code tries.Lost = 15
+
+-- the code of a table that was not ended
+abbrev pub close_code : CloseError → ℕ
+close_code (closes.PassesOut missing) = 76
+close_code closes.Memory = 2
+close_code (closes.Counts index) = 77
 
 -- the code of a request that did not enter
 abbrev pub enter_code : EnterError → ℕ

@@ -48,7 +48,7 @@ impl Model for HeldTable {
 }
 
 /// Writes these lets to the front of the array, which has room for them.
-fn write_lets(lets: &[Through], array: &mut [LtThrough])
+pub(crate) fn write_lets(lets: &[Through], array: &mut [LtThrough])
     requires { length lets.now ≤ length array.old }
     ensures { array.new ≡ map raw_let lets.now ++ drop (length lets.now) array.old }
 {

@@ -5,15 +5,18 @@
 //! handle, and the other calls that begin with `lt_table_` make its steps, give the lets of a step, look into the table and
 //! close it. A store keeps the handle behind a lock of its own, because two calls at once must not have one handle.
 //! `lt_shared_open` opens a table that threads share, and each of them makes its calls, which begin with `lt_pass_`, through a
-//! handle of its own.
+//! handle of its own. If it keeps its steps, it gives them to handles of their own, while it runs or at its end; the calls that
+//! begin with `lt_steps_` show them.
 //!
 //! What is promised:
 //!
 //! - Each step of the table of one thread is the step of the rules (`lt_rules`) on its key alone, and its code is that of the
 //!   reply.
 //! - What the calls on a shared table report through a pass stands in what the pass has then seen, and that is legal. Of several
-//!   passes the law `theorem_so_far` of `lt_walk` speaks, if one legal history extends what each of them has seen; no clause of
-//!   an export gives that history.
+//!   passes the law `theorem_so_far` of `lt_walk` speaks, if one legal history extends what each of them has seen; while
+//!   the table is open, no clause of an export gives that history.
+//! - The end of a shared table tells of such a history, with passes of the table. That these are as their callers gave them back,
+//!   no clause says.
 //! - A call that answers a refusal has changed neither the handle nor what it was to write its answer to, with two exceptions:
 //!   a refused scan and a refused leave of the shared table have made the steps before the refused one, and the scan has set
 //!   its index to 0; a check in pieces that got no memory is over.
@@ -30,19 +33,22 @@
 //! with `rattle_`.
 //!
 //! Read next: `steps.rt`, `looks.rt`, `lists.rt`, `check.rt` and `shard.rt` have the exports, and `codes.rt` has what they
-//! answer. `opening.rt`, `requests.rt`, `pass_steps.rt`, `letting.rt`, `pass_looks.rt` and `pass_keys.rt` have those of the shared table, and
+//! answer. `opening.rt`, `requests.rt`, `pass_steps.rt`, `letting.rt`, `pass_looks.rt` and `pass_keys.rt` have those of the shared table,
+//! `taking.rt`, `ending.rt`, `taken_steps.rt` and `step_lines.rt` those of its history, and
 //! `shared_codes.rt` has what they answer beside. `handle.rt` and `slot.rt` have the handle, `content.rt` says what an open
 //! one holds, and `calls.rt` has the visit that C asks for. In `specs/`, `Steps`, `Looks`, `Lists`, `CheckPieces`,
-//! `Shared` and `PassLooks` define what the contracts of the exports say.
+//! `Shared`, `PassLooks`, `Taking`, `Lines` and `Ending` define what the contracts of the exports say.
 #![tactic(auto)]
 
 mod calls;
 mod check;
 mod codes;
 mod content;
+mod ending;
 mod handle;
 mod held;
 mod held_check;
+mod held_ending;
 mod held_shared;
 mod letting;
 mod lists;
@@ -53,9 +59,13 @@ mod pass_keys;
 mod pass_looks;
 mod pass_steps;
 mod requests;
+mod seated;
 mod shapes;
 mod shard;
 mod shared_codes;
 mod slot;
+mod step_lines;
 mod steps;
+mod taken_steps;
+mod taking;
 mod version;

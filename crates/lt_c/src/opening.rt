@@ -1,6 +1,9 @@
 //! How does C open a table that threads share, and give each of them a pass?
 ghost use Rattle.std.specs.Prelude.{◌≡◌, ◌≢◌, true, false, Some, None, IsSome, IsNone, IfOk};
-ghost use Rattle.lt_c.specs.Shared.{IsNewShared, IsOpenedAs, GivesPass, GivesPassFrom, OnShared, OnPass, config_of, open_refusal, none_left, give_refusal, is_of_shared};
+ghost use Rattle.std.specs.Option.{option_map};
+ghost use Rattle.lt_walk.specs.Configs.{fault};
+ghost use Rattle.lt_c.specs.Shared.{IsNewShared, IsOpenedSo, IsOpenedAs, GivesPass, GivesPassFrom, OnShared, OnPass, config_of, keeping_of, open_refusal, none_left, give_refusal, is_of_shared};
+ghost use Rattle.lt_c.specs.SharedCodes.{prepare_code};
 ghost use Rattle.lt_c.specs.Content.{shared_in, pass_in};
 ghost use Rattle.lt_c.specs.Codes.{IsDoneUnless};
 
@@ -8,33 +11,45 @@ use crate::codes::{CLOSED, DONE, MEMORY, OPEN_ALREADY};
 use crate::content::Content;
 use crate::handle::Handle;
 use crate::held_shared::{HeldPass, HeldShared};
-use crate::shapes::LtConfig;
-use crate::shared_codes::{NO_PASS, prepare_code};
+use crate::seated::{SeatedTable, SharedTable};
+use crate::shapes::{LtConfig, LtKeeping};
+use crate::shared_codes::{BAD_KEEPING, NO_PASS, prepare_code};
 use lt_ids::MAX_STEPS;
 use lt_try::{Config, Keeping, LinkedTables, Ready, TryTable, abandon_all, prepare_with};
 use std::alloc::{AllocError, Global};
 use std::sync::Arc;
 
-/// The numbers with which C opens a table. It stores no step, so it asks for no bound on them.
-fn config_of(config: &LtConfig) -> Config
-    ensures { result ≡ config_of config.now }
+/// The numbers with which C opens a table.
+fn config_of(config: &LtConfig, max_steps: u64) -> Config
+    ensures { result ≡ config_of config.now max_steps }
 {
     Config {
         shards: config.shards,
         passes: config.passes,
-        max_steps: MAX_STEPS,
+        max_steps,
         max_requests: config.max_requests,
         max_waits: config.max_waits,
     }
 }
 
+/// The table with a seat for each pass.
+fn seated(alloc: Global, shared: SharedTable) -> Result<SeatedTable, AllocError>
+    ensures { IfOk result (λ seated. seated ≡ shared) }
+{
+    let seats = shared.new_seats(alloc)?;
+    Ok(SeatedTable { shared, seats })
+}
+
 /// The table that was made ready, with all of its passes.
 fn opened(alloc: Global, ready: Ready, start: u64) -> Result<HeldShared, AllocError>
-    requires { ready.of.keeping ≡ Keeping.Unrecorded }
     ensures { IfOk result (λ held. IsNewShared ready.config ready.of held) }
 {
     let tables = LinkedTables { alloc, start };
-    let (table, passes) = TryTable::open_telling(alloc, ready, tables)?;
+    let (shared, passes) = TryTable::open_telling(alloc, ready, tables)?;
+    let Ok(table) = seated(alloc, shared) else {
+        abandon_all(passes);
+        return Err(AllocError);
+    };
     match Arc::new(alloc, table) {
         Ok(table) => Ok(HeldShared { table, passes }),
         Err(_) => {
@@ -42,6 +57,44 @@ fn opened(alloc: Global, ready: Ready, start: u64) -> Result<HeldShared, AllocEr
             Err(AllocError)
         }
     }
+}
+
+/// The way to keep steps that this word of C names.
+fn keeping_of(word: u32) -> Option<Keeping>
+    ensures { result ≡ keeping_of word }
+{
+    match word {
+        0 => Some(Keeping::Unrecorded),
+        1 => Some(Keeping::Streamed),
+        2 => Some(Keeping::Whole),
+        _ => None,
+    }
+}
+
+/// Opens a table, in a closed handle.
+fn open_closed(
+    alloc: Global,
+    handle: &mut Handle,
+    config: Config,
+    keeping: Keeping,
+    start: u64,
+) -> u32
+    ensures refused { IsDoneUnless (option_map prepare_code (fault config)) result }
+    ensures opened { result ≡ DONE → OnShared (IsOpenedSo config keeping) (shared_in handle.new.slot.held) }
+    ensures kept { result ≢ DONE → handle.new.slot.held ≡ handle.old.slot.held }
+{
+    let ready = match prepare_with(alloc, config, keeping) {
+        Ok(ready) => ready,
+        Err(error) => return prepare_code(error),
+    };
+    let Ok(held) = opened(alloc, ready, start) else {
+        return MEMORY;
+    };
+    let Ok(content) = Box::new(alloc, Content::Shared(held)) else {
+        return MEMORY;
+    };
+    handle.put(content);
+    DONE
 }
 
 /// Opens a table that threads share, and that stores no step. Its keys are hashed from this start: draw it, for each table,
@@ -54,25 +107,39 @@ pub extern "C" fn lt_shared_open(
     start: u64,
 ) -> u32
     ensures open_already { IsSome handle.old.slot.held → result ≡ OPEN_ALREADY }
-    ensures refused { IsNone handle.old.slot.held → IsDoneUnless (open_refusal config.now) result }
-    ensures opened { result ≡ DONE → OnShared (IsOpenedAs config.now) (shared_in handle.new.slot.held) }
+    ensures refused { IsNone handle.old.slot.held → IsDoneUnless (open_refusal config.now MAX_STEPS (Some Keeping.Unrecorded)) result }
+    ensures opened { result ≡ DONE → OnShared (IsOpenedAs config.now MAX_STEPS (Some Keeping.Unrecorded)) (shared_in handle.new.slot.held) }
     ensures kept { result ≢ DONE → handle.new.slot.held ≡ handle.old.slot.held }
 {
     if handle.is_open() {
         return OPEN_ALREADY;
     }
-    let ready = match prepare_with(alloc, config_of(config), Keeping::Unrecorded) {
-        Ok(ready) => ready,
-        Err(error) => return prepare_code(error),
+    let config = config_of(config, MAX_STEPS);
+    open_closed(alloc, handle, config, Keeping::Unrecorded, start)
+}
+
+/// Opens a table that threads share, and that keeps its steps in the way that C names, at most so many of a shard at a time.
+#[unsafe(no_mangle)]
+pub extern "C" fn lt_shared_open_keeping(
+    alloc: Global,
+    handle: &mut Handle,
+    config: &LtConfig,
+    keeping: &LtKeeping,
+    start: u64,
+) -> u32
+    ensures open_already { IsSome handle.old.slot.held → result ≡ OPEN_ALREADY }
+    ensures refused { IsNone handle.old.slot.held → IsDoneUnless (open_refusal config.now keeping.now.max_steps (keeping_of keeping.now.way)) result }
+    ensures opened { result ≡ DONE → OnShared (IsOpenedAs config.now keeping.now.max_steps (keeping_of keeping.now.way)) (shared_in handle.new.slot.held) }
+    ensures kept { result ≢ DONE → handle.new.slot.held ≡ handle.old.slot.held }
+{
+    if handle.is_open() {
+        return OPEN_ALREADY;
+    }
+    let Some(way) = keeping_of(keeping.way) else {
+        return BAD_KEEPING;
     };
-    let Ok(held) = opened(alloc, ready, start) else {
-        return MEMORY;
-    };
-    let Ok(content) = Box::new(alloc, Content::Shared(held)) else {
-        return MEMORY;
-    };
-    handle.put(content);
-    DONE
+    let config = config_of(config, keeping.max_steps);
+    open_closed(alloc, handle, config, way, start)
 }
 
 /// Gives the next pass out, through a closed handle.
@@ -134,7 +201,8 @@ fn is_shared(content: &Content) -> bool
 {
     match content {
         Content::Shared(_) | Content::Pass(_) | Content::Guard(_) => true,
-        Content::Table(_) | Content::Check(_) | Content::Nothing => false,
+        Content::Ending(_) | Content::Ended(_) => true,
+        Content::Table(_) | Content::Check(_) | Content::Steps(_) | Content::Nothing => false,
     }
 }
 

@@ -7,7 +7,7 @@ ghost use Rattle.lt_shard.specs.Shards.{AreLockedKeysAfter};
 ghost use Rattle.lt_c.specs.Content.{pass_in};
 ghost use Rattle.lt_c.specs.Lists.{after_key, after_refusal};
 ghost use Rattle.lt_c.specs.PassLooks.{SeesKeys, ListsShard, keys_refusal_at};
-ghost use Rattle.lt_c.specs.Shared.{OnPasses, IsTriedUnless};
+ghost use Rattle.lt_c.specs.Shared.{OnPasses, IsSeenUnless};
 
 use crate::codes::{CLOSED, DONE, FIRST_REPLY};
 use crate::content::Content;
@@ -32,10 +32,11 @@ fn keys_behind(
     ensures wants { by.new.wants ≡ by.old.wants }
     ensures table { by.new.table ≡ by.old.table }
     ensures kept { OnErr result (by.new ≡ by.old) }
-    ensures refused { IfErr result (λ code. IsTriedUnless None code × (code < FIRST_REPLY) × (code ≢ DONE)) }
+    ensures refused { IfErr result (λ code. IsSeenUnless None code × (code < FIRST_REPLY) × (code ≢ DONE)) }
 {
     match by
         .table
+        .shared
         .locked_keys_after(&mut by.pass, shard, after, at_most)
     {
         Ok(keys) => Ok(keys),
@@ -53,9 +54,9 @@ fn keys_by(
 ) -> Result<Vec<Key>, u32>
     ensures keys { IfOk result (λ all. SeesKeys shard after.now at_most all.items by.old by.new) }
     ensures kept { OnErr result (by.new ≡ by.old) }
-    ensures refused { IfErr result (λ code. IsTriedUnless (keys_refusal_at (Some by.old) shard after.now) code × (code < FIRST_REPLY) × (code ≢ DONE)) }
+    ensures refused { IfErr result (λ code. IsSeenUnless (keys_refusal_at (Some by.old) shard after.now) code × (code < FIRST_REPLY) × (code ≢ DONE)) }
 {
-    if shard >= by.table.shards() {
+    if shard >= by.table.shared.shards() {
         return Err(BAD_SHARD);
     }
     match after_key(alloc, after) {
@@ -74,7 +75,7 @@ fn keys_of(
 ) -> Result<Vec<Key>, u32>
     ensures keys { IfOk result (λ all. OnPasses (SeesKeys shard after.now at_most all.items) (pass_in (Some content.old)) (pass_in (Some content.new))) }
     ensures kept { OnErr result (content.new ≡ content.old) }
-    ensures refused { IfErr result (λ code. IsTriedUnless (keys_refusal_at (pass_in (Some content.old)) shard after.now) code × (code < FIRST_REPLY) × (code ≢ DONE)) }
+    ensures refused { IfErr result (λ code. IsSeenUnless (keys_refusal_at (pass_in (Some content.old)) shard after.now) code × (code < FIRST_REPLY) × (code ≢ DONE)) }
 {
     match content {
         Content::Pass(by) => keys_by(by, alloc, shard, after, at_most),
@@ -92,7 +93,7 @@ fn keys_through(
 ) -> Result<Vec<Key>, u32>
     ensures keys { IfOk result (λ all. OnPasses (SeesKeys shard after.now at_most all.items) (pass_in handle.old.slot.held) (pass_in handle.new.slot.held)) }
     ensures kept { OnErr result (handle.new.slot.held ≡ handle.old.slot.held) }
-    ensures refused { IfErr result (λ code. IsTriedUnless (keys_refusal_at (pass_in handle.old.slot.held) shard after.now) code × (code < FIRST_REPLY) × (code ≢ DONE)) }
+    ensures refused { IfErr result (λ code. IsSeenUnless (keys_refusal_at (pass_in handle.old.slot.held) shard after.now) code × (code < FIRST_REPLY) × (code ≢ DONE)) }
 {
     let Some(mut content) = handle.take(alloc) else {
         return Err(CLOSED);
@@ -115,7 +116,7 @@ pub extern "C" fn lt_pass_keys(
     count: &mut usize,
 ) -> u32
     ensures listed { result ≡ DONE → OnPasses (ListsShard shard after.now array.old array.new count.new) (pass_in handle.old.slot.held) (pass_in handle.new.slot.held) }
-    ensures refused { result ≢ DONE → IsTriedUnless (keys_refusal_at (pass_in handle.old.slot.held) shard after.now) result × (result < FIRST_REPLY) }
+    ensures refused { result ≢ DONE → IsSeenUnless (keys_refusal_at (pass_in handle.old.slot.held) shard after.now) result × (result < FIRST_REPLY) }
     ensures kept { result ≢ DONE → handle.new.slot.held ≡ handle.old.slot.held }
     ensures out_kept { result ≢ DONE → (array.new ≡ array.old) × (count.new ≡ count.old) }
 {

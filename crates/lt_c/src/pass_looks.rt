@@ -1,6 +1,6 @@
 //! What does C see of a key of a shared table? The record after the steps that its pass has then seen.
 ghost use Rattle.std.specs.Prelude.{◌≡◌, ◌≢◌, ◌<◌, Some, None, IfOk, IfErr, OnOk, OnErr};
-ghost use Rattle.lt_c.specs.Shared.{OnCaller, SeesLegal, SeesRecord, IsTriedUnless, caller_refusal};
+ghost use Rattle.lt_c.specs.Shared.{OnCaller, SeesLegal, SeesRecord, IsSeenUnless, caller_refusal};
 ghost use Rattle.lt_c.specs.PassLooks.{ShowsRecord};
 ghost use Rattle.lt_c.specs.Looks.{bytes_refusal};
 
@@ -21,13 +21,13 @@ fn record_by_pass(by: &mut HeldPass, alloc: Global, key: &[u8]) -> Result<KeySta
     ensures wants { by.new.wants ≡ by.old.wants }
     ensures table { by.new.table ≡ by.old.table }
     ensures kept { OnErr result (by.new ≡ by.old) }
-    ensures refused { IfErr result (λ code. IsTriedUnless (bytes_refusal key.now) code × (code < FIRST_REPLY) × (code ≢ DONE)) }
+    ensures refused { IfErr result (λ code. IsSeenUnless (bytes_refusal key.now) code × (code < FIRST_REPLY) × (code ≢ DONE)) }
 {
     let key = match Key::from_bytes(alloc, key) {
         Ok(key) => key,
         Err(error) => return Err(key_code(&error)),
     };
-    match by.table.inspect(&mut by.pass, &key) {
+    match by.table.shared.inspect(&mut by.pass, &key) {
         Ok(state) => Ok(state),
         Err(error) => Err(try_code(error)),
     }
@@ -39,13 +39,13 @@ fn record_by_guard(by: &mut HeldGuard, alloc: Global, key: &[u8]) -> Result<KeyS
     ensures walk { by.new.guard.walk ≡ by.old.guard.walk }
     ensures table { by.new.table ≡ by.old.table }
     ensures kept { OnErr result (by.new ≡ by.old) }
-    ensures refused { IfErr result (λ code. IsTriedUnless (bytes_refusal key.now) code × (code < FIRST_REPLY) × (code ≢ DONE)) }
+    ensures refused { IfErr result (λ code. IsSeenUnless (bytes_refusal key.now) code × (code < FIRST_REPLY) × (code ≢ DONE)) }
 {
     let key = match Key::from_bytes(alloc, key) {
         Ok(key) => key,
         Err(error) => return Err(key_code(&error)),
     };
-    match by.table.inspect_in(&mut by.guard, &key) {
+    match by.table.shared.inspect_in(&mut by.guard, &key) {
         Ok(state) => Ok(state),
         Err(error) => Err(try_code(error)),
     }
@@ -55,7 +55,7 @@ fn record_by_guard(by: &mut HeldGuard, alloc: Global, key: &[u8]) -> Result<KeyS
 fn record_by(content: &mut Content, alloc: Global, key: &[u8]) -> Result<KeyState, u32>
     ensures seen { IfOk result (λ state. OnCaller (SeesRecord key.now state) (Some content.old) (Some content.new)) }
     ensures kept { OnErr result (content.new ≡ content.old) }
-    ensures refused { IfErr result (λ code. IsTriedUnless (caller_refusal (Some content.old) key.now) code × (code < FIRST_REPLY) × (code ≢ DONE)) }
+    ensures refused { IfErr result (λ code. IsSeenUnless (caller_refusal (Some content.old) key.now) code × (code < FIRST_REPLY) × (code ≢ DONE)) }
 {
     match content {
         Content::Pass(by) => record_by_pass(by, alloc, key),
@@ -68,7 +68,7 @@ fn record_by(content: &mut Content, alloc: Global, key: &[u8]) -> Result<KeyStat
 fn record(alloc: Global, handle: &mut Handle, key: &[u8]) -> Result<KeyState, u32>
     ensures seen { IfOk result (λ state. OnCaller (SeesRecord key.now state) handle.old.slot.held handle.new.slot.held) }
     ensures kept { OnErr result (handle.new.slot.held ≡ handle.old.slot.held) }
-    ensures refused { IfErr result (λ code. IsTriedUnless (caller_refusal handle.old.slot.held key.now) code × (code < FIRST_REPLY) × (code ≢ DONE)) }
+    ensures refused { IfErr result (λ code. IsSeenUnless (caller_refusal handle.old.slot.held key.now) code × (code < FIRST_REPLY) × (code ≢ DONE)) }
 {
     let Some(mut content) = handle.take(alloc) else {
         return Err(CLOSED);
@@ -91,7 +91,7 @@ pub extern "C" fn lt_pass_inspect(
 ) -> u32
     ensures shown { result ≡ DONE → OnCaller
         (ShowsRecord key.now out.new writers.old writers.new readers.old readers.new) handle.old.slot.held handle.new.slot.held }
-    ensures refused { result ≢ DONE → IsTriedUnless (caller_refusal handle.old.slot.held key.now) result × (result < FIRST_REPLY) }
+    ensures refused { result ≢ DONE → IsSeenUnless (caller_refusal handle.old.slot.held key.now) result × (result < FIRST_REPLY) }
     ensures kept { result ≢ DONE → handle.new.slot.held ≡ handle.old.slot.held }
     ensures out_kept { result ≢ DONE → (out.new ≡ out.old) × (writers.new ≡ writers.old) × (readers.new ≡ readers.old) }
 {

@@ -1,12 +1,14 @@
 //! How does C make a step of a transaction in a shared table? Through the handle of a pass, or of a request, which stays as it
 //! is. A step is made, or it is refused and nothing has changed.
 ghost use Rattle.std.specs.Prelude.{◌≡◌, ◌≢◌, ◌≤◌, ◌<◌, Some, None, true, length};
+ghost use Rattle.std.specs.Arc.{arc_value};
 ghost use Rattle.lt_rules.specs.Memory.{gives_up};
+ghost use Rattle.lt_words.specs.declared.keeping.Keeping.TheVariants.{Unrecorded};
 ghost use Rattle.lt_entry.specs.Ranges.{NamesNumber};
 ghost use Rattle.lt_rules.specs.declared.call.Call.TheVariants.{Acquire, Update, Finish};
 ghost use Rattle.lt_c.specs.Content.{guard_in};
 ghost use Rattle.lt_c.specs.Shapes.{txn_time};
-ghost use Rattle.lt_c.specs.Shared.{MadeCall, OnCaller, OnGuards, LookTells, SeesLegal, IsTriedUnless, caller_refusal, caller_txn_refusal, index_refusal};
+ghost use Rattle.lt_c.specs.Shared.{MadeCall, OnCaller, OnGuards, LookTells, SeesLegal, IsTriedUnless, keeping_behind, caller_refusal, caller_txn_refusal, index_refusal};
 ghost use Rattle.lt_c.specs.Looks.{bytes_refusal};
 
 use crate::codes::{BAD_TXN, CLOSED, FIRST_REPLY, MEMORY, key_code, reply_code, reply_txn};
@@ -27,14 +29,14 @@ fn step_of_pass(by: &mut HeldPass, alloc: Global, key: &[u8], call: &Call) -> u3
     ensures wants { by.new.wants ≡ by.old.wants }
     ensures table { by.new.table ≡ by.old.table }
     ensures kept { result < FIRST_REPLY → by.new ≡ by.old }
-    ensures refused { IsTriedUnless (bytes_refusal key.now) result }
-    ensures gives_up { length key.now ≤ 22 → gives_up call.now ≡ true → result ≢ MEMORY }
+    ensures refused { IsTriedUnless (arc_value by.old.table).of.keeping (bytes_refusal key.now) result }
+    ensures gives_up { (arc_value by.old.table).of.keeping ≡ Unrecorded → length key.now ≤ 22 → gives_up call.now ≡ true → result ≢ MEMORY }
 {
     let key = match Key::from_bytes(alloc, key) {
         Ok(key) => key,
         Err(error) => return key_code(&error),
     };
-    match by.table.step(&mut by.pass, &key, call) {
+    match by.table.shared.step(&mut by.pass, &key, call) {
         Ok(answer) => reply_code(&answer.reply),
         Err(error) => try_code(error),
     }
@@ -47,14 +49,14 @@ fn step_of_guard(by: &mut HeldGuard, alloc: Global, key: &[u8], call: &Call) -> 
     ensures walk { by.new.guard.walk ≡ by.old.guard.walk }
     ensures table { by.new.table ≡ by.old.table }
     ensures kept { result < FIRST_REPLY → by.new ≡ by.old }
-    ensures refused { IsTriedUnless (bytes_refusal key.now) result }
-    ensures gives_up { length key.now ≤ 22 → gives_up call.now ≡ true → result ≢ MEMORY }
+    ensures refused { IsTriedUnless (arc_value by.old.table).of.keeping (bytes_refusal key.now) result }
+    ensures gives_up { (arc_value by.old.table).of.keeping ≡ Unrecorded → length key.now ≤ 22 → gives_up call.now ≡ true → result ≢ MEMORY }
 {
     let key = match Key::from_bytes(alloc, key) {
         Ok(key) => key,
         Err(error) => return key_code(&error),
     };
-    match step_in(&*by.table, &mut by.guard, &key, call) {
+    match step_in(&by.table.shared, &mut by.guard, &key, call) {
         Ok(answer) => reply_code(&answer.reply),
         Err(error) => try_code(error),
     }
@@ -65,8 +67,8 @@ fn step_by(content: &mut Content, alloc: Global, key: &[u8], call: &Call) -> u32
     requires number { NamesNumber call.now }
     ensures made { FIRST_REPLY ≤ result → OnCaller (MadeCall key.now call.now result) (Some content.old) (Some content.new) }
     ensures kept { result < FIRST_REPLY → content.new ≡ content.old }
-    ensures refused { IsTriedUnless (caller_refusal (Some content.old) key.now) result }
-    ensures gives_up { length key.now ≤ 22 → gives_up call.now ≡ true → result ≢ MEMORY }
+    ensures refused { IsTriedUnless (keeping_behind (Some content.old)) (caller_refusal (Some content.old) key.now) result }
+    ensures gives_up { keeping_behind (Some content.old) ≡ Unrecorded → length key.now ≤ 22 → gives_up call.now ≡ true → result ≢ MEMORY }
 {
     match content {
         Content::Pass(by) => step_of_pass(by, alloc, key, call),
@@ -80,8 +82,8 @@ fn step_through(alloc: Global, handle: &mut Handle, key: &[u8], call: &Call) -> 
     requires number { NamesNumber call.now }
     ensures made { FIRST_REPLY ≤ result → OnCaller (MadeCall key.now call.now result) handle.old.slot.held handle.new.slot.held }
     ensures kept { result < FIRST_REPLY → handle.new.slot.held ≡ handle.old.slot.held }
-    ensures refused { IsTriedUnless (caller_refusal handle.old.slot.held key.now) result }
-    ensures gives_up { length key.now ≤ 22 → gives_up call.now ≡ true → result ≢ MEMORY }
+    ensures refused { IsTriedUnless (keeping_behind handle.old.slot.held) (caller_refusal handle.old.slot.held key.now) result }
+    ensures gives_up { keeping_behind handle.old.slot.held ≡ Unrecorded → length key.now ≤ 22 → gives_up call.now ≡ true → result ≢ MEMORY }
     ensures legal { FIRST_REPLY ≤ result → SeesLegal handle.new.slot.held }
 {
     let Some(mut content) = handle.take(alloc) else {
@@ -99,7 +101,7 @@ pub extern "C" fn lt_pass_acquire(alloc: Global, handle: &mut Handle, key: &[u8]
     ensures made { FIRST_REPLY ≤ result →
         OnCaller (MadeCall key.now (Acquire by.now.txn (txn_time by.now)) result) handle.old.slot.held handle.new.slot.held }
     ensures kept { result < FIRST_REPLY → handle.new.slot.held ≡ handle.old.slot.held }
-    ensures refused { IsTriedUnless (caller_txn_refusal by.now.txn handle.old.slot.held key.now) result }
+    ensures refused { IsTriedUnless (keeping_behind handle.old.slot.held) (caller_txn_refusal by.now.txn handle.old.slot.held key.now) result }
     ensures legal { FIRST_REPLY ≤ result → SeesLegal handle.new.slot.held }
 {
     let Some(txn) = TxnId::new(by.txn) else {
@@ -115,8 +117,8 @@ pub extern "C" fn lt_pass_update(alloc: Global, handle: &mut Handle, key: &[u8],
     ensures made { FIRST_REPLY ≤ result →
         OnCaller (MadeCall key.now (Update by.now.txn (txn_time by.now)) result) handle.old.slot.held handle.new.slot.held }
     ensures kept { result < FIRST_REPLY → handle.new.slot.held ≡ handle.old.slot.held }
-    ensures refused { IsTriedUnless (caller_txn_refusal by.now.txn handle.old.slot.held key.now) result }
-    ensures gives_up { length key.now ≤ 22 → result ≢ MEMORY }
+    ensures refused { IsTriedUnless (keeping_behind handle.old.slot.held) (caller_txn_refusal by.now.txn handle.old.slot.held key.now) result }
+    ensures gives_up { keeping_behind handle.old.slot.held ≡ Unrecorded → length key.now ≤ 22 → result ≢ MEMORY }
     ensures legal { FIRST_REPLY ≤ result → SeesLegal handle.new.slot.held }
 {
     let Some(txn) = TxnId::new(by.txn) else {
@@ -131,9 +133,9 @@ pub extern "C" fn lt_pass_update(alloc: Global, handle: &mut Handle, key: &[u8],
 pub extern "C" fn lt_pass_finish(alloc: Global, handle: &mut Handle, key: &[u8], txn: u64) -> u32
     ensures made { FIRST_REPLY ≤ result → OnCaller (MadeCall key.now (Finish txn) result) handle.old.slot.held handle.new.slot.held }
     ensures kept { result < FIRST_REPLY → handle.new.slot.held ≡ handle.old.slot.held }
-    ensures refused { IsTriedUnless (caller_txn_refusal txn handle.old.slot.held key.now) result }
-    // A lock can always be given up.
-    ensures gives_up { length key.now ≤ 22 → result ≢ MEMORY }
+    ensures refused { IsTriedUnless (keeping_behind handle.old.slot.held) (caller_txn_refusal txn handle.old.slot.held key.now) result }
+    // In a table that stores no step a lock can always be given up.
+    ensures gives_up { keeping_behind handle.old.slot.held ≡ Unrecorded → length key.now ≤ 22 → result ≢ MEMORY }
     ensures legal { FIRST_REPLY ≤ result → SeesLegal handle.new.slot.held }
 {
     let Some(txn) = TxnId::new(txn) else {
@@ -146,13 +148,13 @@ pub extern "C" fn lt_pass_finish(alloc: Global, handle: &mut Handle, key: &[u8],
 fn look(held: &mut HeldGuard, index: usize, txn: &mut u64) -> u32
     ensures looked { FIRST_REPLY ≤ result → LookTells index result txn.new held.old held.new }
     ensures kept { result < FIRST_REPLY → (held.new ≡ held.old) × (txn.new ≡ txn.old) }
-    ensures refused { IsTriedUnless (index_refusal (Some held.old) index) result }
-    ensures no_memory { result ≢ MEMORY }
+    ensures refused { IsTriedUnless (arc_value held.old.table).of.keeping (index_refusal (Some held.old) index) result }
+    ensures no_memory { (arc_value held.old.table).of.keeping ≡ Unrecorded → result ≢ MEMORY }
 {
     if index >= held.guard.keys().len() {
         return BAD_INDEX;
     }
-    match held.table.look(&mut held.guard, index) {
+    match held.table.shared.look(&mut held.guard, index) {
         Ok(answer) => {
             *txn = reply_txn(&answer.reply);
             reply_code(&answer.reply)
@@ -165,8 +167,8 @@ fn look(held: &mut HeldGuard, index: usize, txn: &mut u64) -> u32
 fn look_at(content: &mut Content, index: usize, txn: &mut u64) -> u32
     ensures looked { FIRST_REPLY ≤ result → OnGuards (LookTells index result txn.new) (guard_in (Some content.old)) (guard_in (Some content.new)) }
     ensures kept { result < FIRST_REPLY → (content.new ≡ content.old) × (txn.new ≡ txn.old) }
-    ensures refused { IsTriedUnless (index_refusal (guard_in (Some content.old)) index) result }
-    ensures no_memory { result ≢ MEMORY }
+    ensures refused { IsTriedUnless (keeping_behind (Some content.old)) (index_refusal (guard_in (Some content.old)) index) result }
+    ensures no_memory { keeping_behind (Some content.old) ≡ Unrecorded → result ≢ MEMORY }
 {
     match content {
         Content::Guard(held) => look(held, index, txn),
@@ -185,8 +187,8 @@ pub extern "C" fn lt_pass_look(
 ) -> u32
     ensures looked { FIRST_REPLY ≤ result → OnGuards (LookTells index result txn.new) (guard_in handle.old.slot.held) (guard_in handle.new.slot.held) }
     ensures kept { result < FIRST_REPLY → (handle.new.slot.held ≡ handle.old.slot.held) × (txn.new ≡ txn.old) }
-    ensures refused { IsTriedUnless (index_refusal (guard_in handle.old.slot.held) index) result }
-    ensures no_memory { result ≢ MEMORY }
+    ensures refused { IsTriedUnless (keeping_behind handle.old.slot.held) (index_refusal (guard_in handle.old.slot.held) index) result }
+    ensures no_memory { keeping_behind handle.old.slot.held ≡ Unrecorded → result ≢ MEMORY }
     ensures legal { FIRST_REPLY ≤ result → SeesLegal handle.new.slot.held }
 {
     let Some(mut content) = handle.take(alloc) else {

@@ -135,7 +135,7 @@ fn scan(held: &mut HeldGuard, index: &mut usize) -> u32
     ensures opened { result ≢ CLOSED }
     ensures tells { ScanTells result index.new held.old held.new }
 {
-    let found = held.table.scan(&mut held.guard);
+    let found = held.table.shared.scan(&mut held.guard);
     *index = scan_index(&found);
     scan_code(&found)
 }
@@ -175,7 +175,7 @@ fn poll(held: &mut HeldGuard) -> u32
     ensures opened { result ≢ CLOSED }
     ensures tells { PollTells result held.old held.new }
 {
-    poll_code(held.table.poll(&mut held.guard))
+    poll_code(held.table.shared.poll(&mut held.guard))
 }
 
 /// The same, if the content is a request.

@@ -1,11 +1,13 @@
 //! What crosses to C? These structs have the fields that C declares, in the same order. 0 stands for no transaction
 //! and for no request.
 ghost use Rattle.std.specs.Prelude.{◌≡◌};
+ghost use Rattle.lt_c.specs.Taking.{is_write, raw_call, raw_step};
 ghost use Rattle.lt_c.specs.Shapes.{raw_let, raw_queued, raw_writer, raw_reader, raw_reservation, raw_holder, raw_key, raw_key_name, txn_time};
 
-use crate::codes::txn_number;
-use lt_ids::{Key, MAX_KEY_BYTES, Through, Timestamp};
-use lt_rules::{Holder, KeyState, QueuedRequest, QueuedWriter};
+use crate::codes::{reply_code, reply_txn, txn_number};
+use lt_entry::Entry;
+use lt_ids::{Access, Key, MAX_KEY_BYTES, Through, Timestamp};
+use lt_rules::{Call, Holder, KeyState, QueuedRequest, QueuedWriter};
 
 /// A transaction at a timestamp.
 #[repr(C)]
@@ -38,6 +40,15 @@ pub struct LtConfig {
     pub passes: usize,
     pub max_requests: u64,
     pub max_waits: u32,
+}
+
+/// How a shared table keeps its steps: 0 not at all, 1 until they are taken out, 2 until it is closed. A shard holds at most
+/// `max_steps` steps at a time.
+#[repr(C)]
+#[derive(Clone, Copy)]
+pub struct LtKeeping {
+    pub max_steps: u64,
+    pub way: u32,
 }
 
 /// What a request of a shared table asks for beside its keys. `txn` is 0 for a request without a transaction, and `longest`
@@ -104,6 +115,44 @@ pub struct LtReport {
     pub keys: usize,
     pub steps: usize,
     pub line: usize,
+}
+
+/// A call of the rules. `kind` is 1 for a visit, 2 for an acquire, 3 for an update, 4 for a finish, 5 for a leave and 6 for a
+/// look. What a call does not name is 0.
+#[repr(C)]
+#[derive(Clone, Copy)]
+pub struct LtCall {
+    pub number: u64,
+    pub txn: u64,
+    pub wall: u64,
+    pub logical: u32,
+    pub wait: u32,
+    pub longest: u32,
+    pub kind: u32,
+    pub writes: bool,
+}
+
+/// A key step: the pass made this call at the key, and was given the reply. `reply_txn` is the transaction that the reply names,
+/// or 0, and `lets` is how many requests the step let through.
+#[repr(C)]
+#[derive(Clone, Copy)]
+pub struct LtStep {
+    pub key: LtKeyName,
+    pub call: LtCall,
+    pub pass: u32,
+    pub reply: u32,
+    pub reply_txn: u64,
+    pub lets: usize,
+}
+
+/// What an end tells: how many numbers were drawn, if the table was ended; how many passes are out, if some are; and the shard
+/// whose steps are not those of the passes, if there is one. The others are 0.
+#[repr(C)]
+#[derive(Clone, Copy)]
+pub struct LtEnd {
+    pub draws: u64,
+    pub passes_out: usize,
+    pub shard: usize,
 }
 
 pub(crate) fn raw_let(through: &Through) -> LtThrough
@@ -210,5 +259,90 @@ pub(crate) fn txn_time(by: &LtTxn) -> Timestamp
     Timestamp {
         wall: by.wall,
         logical: by.logical,
+    }
+}
+
+fn is_write(access: Access) -> bool
+    ensures { result ≡ is_write access }
+{
+    match access {
+        Access::Write => true,
+        Access::Read => false,
+    }
+}
+
+fn raw_call(call: Call) -> LtCall
+    ensures { result ≡ raw_call call }
+{
+    let raw = LtCall {
+        number: 0,
+        txn: 0,
+        wall: 0,
+        logical: 0,
+        wait: 0,
+        longest: 0,
+        kind: 0,
+        writes: false,
+    };
+    match call {
+        Call::Visit {
+            ticket,
+            txn,
+            ts,
+            access,
+            longest,
+        } => LtCall {
+            number: ticket.number(),
+            txn: txn_number(txn),
+            wall: ts.wall,
+            logical: ts.logical,
+            wait: ticket.wait(),
+            longest,
+            kind: 1,
+            writes: is_write(access),
+        },
+        Call::Acquire { txn, ts } => LtCall {
+            txn: txn.number(),
+            wall: ts.wall,
+            logical: ts.logical,
+            kind: 2,
+            ..raw
+        },
+        Call::Update { txn, ts } => LtCall {
+            txn: txn.number(),
+            wall: ts.wall,
+            logical: ts.logical,
+            kind: 3,
+            ..raw
+        },
+        Call::Finish { txn } => LtCall {
+            txn: txn.number(),
+            kind: 4,
+            ..raw
+        },
+        Call::Leave { number } => LtCall {
+            number,
+            kind: 5,
+            ..raw
+        },
+        Call::Look { number } => LtCall {
+            number,
+            kind: 6,
+            ..raw
+        },
+    }
+}
+
+/// What C sees of a step, beside its lets.
+pub(crate) fn raw_step(entry: &Entry) -> LtStep
+    ensures { result ≡ raw_step entry.now }
+{
+    LtStep {
+        key: raw_key_name(entry.key()),
+        call: raw_call(entry.call()),
+        pass: entry.pass(),
+        reply: reply_code(&entry.reply()),
+        reply_txn: reply_txn(&entry.reply()),
+        lets: entry.lets().len(),
     }
 }

@@ -1,10 +1,10 @@
 //! What does a call on a shared table answer, beside the codes of `codes.rt`? `specs/SharedCodes.antt` has the same numbers as
 //! definitions, for the contracts.
 ghost use Rattle.std.specs.Prelude.{◌≡◌, ◌≢◌, ◌<◌, ◌⊎◌};
-ghost use Rattle.lt_c.specs.SharedCodes.{prepare_code, try_code, enter_code, scan_code, scan_index, poll_code};
+ghost use Rattle.lt_c.specs.SharedCodes.{prepare_code, try_code, close_code, enter_code, scan_code, scan_index, poll_code};
 
 use crate::codes::{CLOSED, FIRST_REPLY, MEMORY};
-use lt_try::{EnterError, Poll, PrepareError, Scan, ScanError, TryError};
+use lt_try::{CloseError, EnterError, Poll, PrepareError, Scan, ScanError, TryError};
 
 /// Another caller is in the shard. The step was not made: call again.
 pub const BUSY: u32 = 12;
@@ -78,6 +78,18 @@ pub const NOT_WAITING: u32 = 72;
 /// No let is left of which nobody was told.
 pub const NO_LET: u32 = 73;
 
+/// This is no way to keep steps.
+pub const BAD_KEEPING: u32 = 74;
+
+/// The table keeps its steps until it is closed, so none can be taken.
+pub const KEPT_WHOLE: u32 = 75;
+
+/// Passes are out: the table is ended once all have come back.
+pub const PASSES_OUT: u32 = 76;
+
+/// The steps of a shard are not those that the passes count. No table that was opened answers this.
+pub const MISCOUNT: u32 = 77;
+
 /// The code of a number that is out of its range.
 pub(crate) fn prepare_code(error: PrepareError) -> u32
     ensures { result ≡ prepare_code error }
@@ -97,7 +109,8 @@ pub(crate) fn try_code(error: TryError) -> u32
     ensures code { result ≡ try_code error }
     ensures opened { result ≢ CLOSED }
     ensures below { result < FIRST_REPLY }
-    ensures tried { error ≢ TryError.HistoryFull → (result ≡ MEMORY) ⊎ ((result ≡ BUSY) ⊎ (result ≡ LOST)) }
+    ensures tried { (result ≡ MEMORY) ⊎ ((result ≡ BUSY) ⊎ ((result ≡ HISTORY_FULL) ⊎ (result ≡ LOST))) }
+    ensures full { result ≡ HISTORY_FULL → error ≡ TryError.HistoryFull }
     ensures memory { result ≡ MEMORY → error ≡ TryError.Memory }
 {
     match error {
@@ -105,6 +118,17 @@ pub(crate) fn try_code(error: TryError) -> u32
         TryError::Memory => MEMORY,
         TryError::Busy => BUSY,
         TryError::Lost => LOST,
+    }
+}
+
+/// The code of a table that was not ended.
+pub(crate) fn close_code(error: CloseError) -> u32
+    ensures { result ≡ close_code error }
+{
+    match error {
+        CloseError::PassesOut(_) => PASSES_OUT,
+        CloseError::Memory => MEMORY,
+        CloseError::Counts(_) => MISCOUNT,
     }
 }
 

@@ -38,7 +38,7 @@ read_is_text bytes (Err e) h = tt
 same_prefix : (a b : List ℕ) → a ++ 10 ∷ [] ≡ b ++ 10 ∷ [] → a ≡ b
 same_prefix a b e = append_cancel_right a b (10 ∷ []) e
 
-words_are : (bytes : List ℕ) (p : Parts) → IsLine p → line_text p ≡ bytes ++ 10 ∷ [] → slice_split (λ b. eqb b 32) bytes ≡ line_words p
+pub words_are : (bytes : List ℕ) (p : Parts) → IsLine p → line_text p ≡ bytes ++ 10 ∷ [] → slice_split (λ b. eqb b 32) bytes ≡ line_words p
 unfolding line_text
 words_are bytes p h e =
     ap (λ (t : List ℕ). slice_split (λ b. eqb b 32) t) (sym (same_prefix (join_with_byte 32 (line_words p)) bytes e)) ∙ split_join p.key _ (parts_plain p h)

@@ -20,13 +20,13 @@ use Rattle.lt_checker.specs.Cursor.{spot, latest_key}
 use Rattle.lt_checker.specs.Histories.{precedes}
 use Rattle.lt_ids.specs.Ids.{Wait}
 use Rattle.lt_checker.specs.declared.line.LineStep.{LineStep}
-use Rattle.lt_checker.specs.Lines.{Parts, IsLine, line_text, parts_with, step_at, lets_in_words}
+use Rattle.lt_checker.specs.Lines.{Parts, IsLine, line_text, lets_words, parts_with, step_at, step_words, lets_in_words}
 use Rattle.lt_checker.specs.Text.{Spot, IsOf, IsOrdered, HasItsIndex, IsShapelessIn, MayNotComeNext, start, text_by, spot_after, spot_from, outcome, index_after, Follows, AreLegal, AreLegalFrom, key_count, HasFault, HasFaultOr, FailsAt, Fails}
 use Rattle.lt_checker.specs.Verdict.{IsReported, FailsOr, GoesOn, Judges, IsLegalText, IsOrMemory, located}
 use Rattle.lt_checker.specs.Version.{IsVersion, header_of}
 use Rattle.lt_checker.specs.Pieces.{IsCountable, first_key, HasTaken, ReportsLegal, HasBegun, LacksHeader, IsFaultyLine, IsNoNextLine, key_or, TakesOneLine, TakesParts, IsFaultyParts, MovesOver, RefusesFrom, JudgesAtEnd, SaysAtEnd, AcceptsAtEnd, RefusesAtEnd, RisesTo, MayJoin, TakesBoth, first_of_both, IsJoined}
 use Rattle.lt_checker.proofs.Keys.{not_back, apart_back}
-use Rattle.lt_checker.proofs.LineLaws.{shapeless, wrong, cut_more, uncut_is_shapeless, one_line, without_key, with_parts, with_other_parts}
+use Rattle.lt_checker.proofs.LineLaws.{words_are, shapeless, wrong, cut_more, uncut_is_shapeless, one_line, of_other_version, without_key, with_parts, with_other_parts}
 use Rattle.lt_checker.proofs.Loop.{legal_push, spot_push, text_push, one_more_of, keys_push, room_of}
 use Rattle.lt_checker.proofs.Verdicts.{is_said, legal_is_said, fault_is_said, all_append}
 
@@ -374,3 +374,32 @@ refuses_line version at bytes key words rest s ts (Err e) split step lets h = el
   ])
   | inr b ↦ let p = with_parts bytes key words rest s ts split step lets b.0 in inr (parts_with key s ts, p.0, b.1, p.1, b.2)
 ]
+
+-- ---- a line that is taken after it was read
+
+same_parts : (p : Parts) (key : List ℕ) (ts : List Wait) → key ≡ p.key → ts ≡ p.tickets → parts_with key p.step ts ≡ p
+same_parts p key ts k t = rw (k, t) refl
+
+pub takes_read : (old new : Checker) (bytes : List ℕ) (p : Parts) (key : List ℕ) (ts : List Wait) → key ≡ p.key → ts ≡ p.tickets → IsLine p → line_text p ≡ bytes ++ 10 ∷ [] → TakesParts old (parts_with key p.step ts) new → TakesOneLine old bytes new
+takes_read old new bytes p key ts k t line text taken =
+    let h : TakesParts old p new = subst (λ (q : Parts). TakesParts old q new) (same_parts p key ts k t) taken in
+    record {
+      next = record { parts = p; line = line; of_version = h.of_version; is_text = text; follows = h.follows; leads = h.leads };
+      version = h.version;
+      steps = h.steps;
+      keys = h.keys;
+      first = h.first;
+    }
+
+refuses_parts : (version : ℕ) (at : Spot) (bytes : List ℕ) (p : Parts) (e : HistoryLineError) → IsLine p → line_text p ≡ bytes ++ 10 ∷ [] → IsFaultyParts version at p e → IsFaultyLine version at bytes e
+refuses_parts version at bytes p e line text h = elim h [
+  | inl a ↦ inl (elim a [
+    | inl none ↦ without_key version bytes p.key (step_words p.step ++ lets_words p.tickets) e (words_are bytes p line text) none
+    | inr other ↦ subst (λ x. IsShapelessIn version x bytes) (sym other.0) (of_other_version version bytes p line text other.1)
+  ])
+  | inr b ↦ inr (p, line, b.1, text, b.2)
+]
+
+pub refuses_read : (version : ℕ) (at : Spot) (bytes : List ℕ) (p : Parts) (key : List ℕ) (ts : List Wait) (e : HistoryLineError) → key ≡ p.key → ts ≡ p.tickets → IsLine p → line_text p ≡ bytes ++ 10 ∷ [] → IsFaultyParts version at (parts_with key p.step ts) e → IsFaultyLine version at bytes e
+refuses_read version at bytes p key ts e k t line text h =
+    refuses_parts version at bytes p e line text (subst (λ (q : Parts). IsFaultyParts version at q e) (same_parts p key ts k t) h)

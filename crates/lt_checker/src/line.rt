@@ -74,6 +74,8 @@ fn pass(word: &[u8]) -> Option<u32>
     Some(n as u32)
 }
 
+/// Parses the parts between the key and the lets. It is inlined: reading them is most of what a line costs.
+#[inline(always)]
 #[tactic(auto, unfolding(crate::specs::Lines::step_at, crate::specs::Lines::equals_of))]
 pub(crate) fn read_step(words: &mut Words) -> Option<LineStep>
     ensures { Gives result words.new (step_at words.old) }
@@ -112,6 +114,7 @@ fn tickets(alloc: Global, words: &mut Words) -> Result<Vec<Ticket>, HistoryLineE
 }
 
 /// Parses the tickets after `let`, of which there must be at least one. The list is empty if no word remains.
+#[inline(always)]
 #[tactic(auto, unfolding(crate::specs::Lines::lets_in_words))]
 pub(crate) fn lets(alloc: Global, words: &mut Words) -> Result<Vec<Ticket>, HistoryLineError>
     ensures { IsReadAs (λ v. v.items) result (lets_in_words words.old) }

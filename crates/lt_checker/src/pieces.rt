@@ -158,8 +158,7 @@ impl Checker {
         }
     }
 
-    /// Takes a line, given without its line end, and returns what it says. The line is read twice: once for what it
-    /// says, and once to take it.
+    /// Takes a line, given without its line end, and returns what it says.
     #[tactic(auto, using(crate::proofs::LineLaws::shapeless_in))]
     fn follow_line(&mut self, alloc: Global, bytes: &[u8]) -> Result<Line, HistoryLineError>
         ensures ok { IfOk result (λ _. TakesOneLine self.old bytes.now self.new) }
@@ -168,7 +167,7 @@ impl Checker {
         ensures report { OnErr result (self.new.report ≡ self.old.report) }
     {
         let line = read_line(alloc, bytes)?;
-        self.pass_line(alloc, bytes)?;
+        self.take_parts(alloc, line.key.as_bytes(), &line.step, &line.tickets)?;
         Ok(line)
     }
 

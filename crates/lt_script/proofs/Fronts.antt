@@ -2,15 +2,20 @@
 use Rattle.std.proofs.Common.{◌≡◌, ℕ, ◌+◌, List, [], ◌∷◌, ◌++◌, refl, sym, ap, ◌∙◌, append_assoc}
 use Rattle.std.specs.Prelude.{Option, Some, None, Result, Ok, Err}
 use Rattle.std.proofs.lemmas.List.{append-nil}
+use Rattle.lt_script.specs.declared.command.Action.{Action}
 use Rattle.lt_script.specs.declared.command.Command.{Command}
-use Rattle.lt_script.specs.declared.command.ParsedLine.{ParsedLine}
 use Rattle.lt_script.specs.declared.error.ScriptFault.{ScriptFault}
 use Rattle.lt_script.specs.declared.error.LineError.{LineError}
 use Rattle.lt_script.specs.declared.error.LineError.TheVariants as refusals
 use Rattle.lt_script.specs.declared.error.ScriptError.{ScriptError}
 use Rattle.lt_script.specs.declared.error.ScriptError.TheVariants as errors
-use Rattle.lt_script.specs.Reading.{IsReadFault}
-use Rattle.lt_script.specs.Script.{line_of, command_at, onto, then_lines, commands_from, with_prefix, lines_so_far, told, IsFirstFault}
+use Rattle.lt_script.specs.Reading.{◌>>=◌, IsReadFault}
+use Rattle.lt_script.specs.Script.{ParsedLine, line_of, command_at, onto, then_lines, command_so_far, commands_from, with_prefix, lines_so_far, told, IsFirstFault}
+
+-- What a line says, after its pass, is what its action says.
+pub of_action : (n pass : ℕ) (prefix : List Command) (read : Result Action ScriptFault) → lines_so_far n prefix (read >>= λ action. Ok (Some (record { pass = pass; action = action }))) ≡ command_so_far n pass prefix read
+of_action n pass prefix (Ok action) = refl
+of_action n pass prefix (Err fault) = refl
 
 prefix_onto : (prefix : List Command) (c : Command) (read : Result (List Command) ScriptError) → with_prefix prefix (onto c read) ≡ with_prefix (prefix ++ c ∷ []) read
 prefix_onto prefix c (Ok cs) = ap (λ (all : List Command). Ok all) (sym (append_assoc prefix (c ∷ []) cs))

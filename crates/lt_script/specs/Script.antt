@@ -10,7 +10,6 @@ use Rattle.lt_text.specs.Fields.{number_within, time_of, is_bound, bound_of}
 use Rattle.lt_text.specs.Fields as fields
 use Rattle.lt_script.specs.declared.command.Action.{Action}
 use Rattle.lt_script.specs.declared.command.Action.TheVariants.{Open, Scan, Await, Look, Acquire, Update, Finish, Leave}
-use Rattle.lt_script.specs.declared.command.ParsedLine.{ParsedLine}
 use Rattle.lt_script.specs.declared.command.Command.{Command}
 use Rattle.lt_script.specs.declared.error.ScriptFault.{ScriptFault}
 use Rattle.lt_script.specs.declared.error.ScriptFault.TheVariants.{BadPass, BadCall, BadWords, BadTxn, BadTime, BadMax, BadKey, BadAccess}
@@ -176,6 +175,11 @@ action_of (name ∷ args) = action_named name args
 
 -- ---- lines
 
+-- What a line says: which pass asks for what.
+pub record ParsedLine : Type 0 where
+  pub pass : ℕ
+  pub action : Action
+
 -- What the words of a line say. A line without words says nothing.
 abbrev pub parsed_line_of : List (List ℕ) → Result (Option ParsedLine) ScriptFault
 parsed_line_of [] = Ok None
@@ -233,3 +237,11 @@ with_said n prefix (Some s) = prefix ++ command_at n s ∷ []
 
 abbrev pub lines_so_far : ℕ → List Command → Result (Option ParsedLine) ScriptFault → Result (List Command) ScriptFault
 lines_so_far n prefix read = read >>= λ parsed_line. Ok (with_said n prefix parsed_line)
+
+-- The commands so far, followed by the command of this line and pass.
+abbrev pub with_command : ℕ → ℕ → List Command → Action → List Command
+with_command n pass prefix action = prefix ++ record { line = n; pass = pass; action = action } ∷ []
+
+-- The commands so far, followed by the command with the action that was read.
+abbrev pub command_so_far : ℕ → ℕ → List Command → Result Action ScriptFault → Result (List Command) ScriptFault
+command_so_far n pass prefix read = read >>= λ action. Ok (with_command n pass prefix action)

@@ -96,13 +96,6 @@ pub enum Action {
     Leave,
 }
 
-/// What a line says: which pass asks for what.
-#[derive(Debug, Drop)]
-pub(crate) struct ParsedLine {
-    pub pass: ScriptPass,
-    pub action: Action,
-}
-
 /// A line of a script that is neither a comment nor blank. Its number counts from 1 over all lines.
 #[derive(Debug, PartialEq, Eq, Drop)]
 pub struct Command {

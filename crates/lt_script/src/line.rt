@@ -1,18 +1,17 @@
 //! What does one line of a script ask for?
 //!
-//! `read_line` parses the words of a line from left to right and stops at the first fault. Each function here
-//! reads one word, a fixed number of words, or the arguments of one call. Read next: `specs/Script.antt`, which
-//! defines the same reading under the same names, and `words.rt`, which splits a line into words.
-ghost use Rattle.std.specs.Prelude.{◌≡◌};
+//! `read_line` parses the words of a line from left to right, stops at the first fault, and appends the command. Each
+//! function here reads one word, a fixed number of words, or the arguments of one call. Read next: `specs/Script.antt`,
+//! which defines the same reading under the same names, and `words.rt`, which splits a line into words.
+ghost use Rattle.std.specs.Prelude.{◌≡◌, Ok};
 ghost use Rattle.lt_text.specs.Fields.{number_within};
 ghost use Rattle.lt_script.specs.Lines.{is_comment};
 ghost use Rattle.lt_script.specs.Reading.{IsParsedAs};
-ghost use Rattle.lt_script.specs.Script.{pass_of, txn_of, parsed_owner, ts_of, key_of, split_access, names_access, is_for_bound, longest_of, parsed_access, accesses_of, next_of, none_of, one_of, two_of, three_of, open_of, look_of, acquire_of, update_of, parsed_finish, alone, action_named, action_of, parsed_line_of, line_of};
+ghost use Rattle.lt_script.specs.Script.{pass_of, txn_of, parsed_owner, ts_of, key_of, split_access, names_access, is_for_bound, longest_of, parsed_access, accesses_of, next_of, none_of, one_of, two_of, three_of, open_of, look_of, acquire_of, update_of, parsed_finish, alone, action_named, action_of, with_command, command_so_far, parsed_line_of, line_of, lines_so_far};
 
-use crate::command::ParsedLine;
 use crate::error::{LineError, ScriptFault};
 use crate::words::SpacedWords;
-use crate::{Accesses, Action, ScriptPass};
+use crate::{Accesses, Action, Command, ScriptPass};
 use lt_ids::{Access, IdError, Key, Timestamp, TxnId};
 use lt_text::field;
 use lt_text::number::number;
@@ -150,6 +149,7 @@ fn next<'a>(words: &mut SpacedWords<'a>) -> Result<&'a [u8], LineError>
 }
 
 /// Checks that no word remains.
+#[inline(always)]
 fn none(words: &mut SpacedWords) -> Result<(), LineError>
     ensures { IsParsedAs (λ _. tt) result (none_of words.old) }
 {
@@ -241,6 +241,7 @@ fn update(alloc: Global, args: &mut SpacedWords) -> Result<Action, LineError>
     Ok(Action::Update { txn, ts, key })
 }
 
+#[inline(always)]
 #[tactic(auto, unfolding(crate::specs::Script::parsed_finish))]
 fn finish(alloc: Global, args: &mut SpacedWords) -> Result<Action, LineError>
     ensures { IsParsedAs (λ action. action) result (parsed_finish args.old) }
@@ -252,6 +253,7 @@ fn finish(alloc: Global, args: &mut SpacedWords) -> Result<Action, LineError>
 }
 
 /// A call without arguments.
+#[inline(always)]
 fn alone(action: Action, args: &mut SpacedWords) -> Result<Action, LineError>
     ensures { IsParsedAs (λ action. action) result (alone action args.old) }
 {
@@ -259,55 +261,91 @@ fn alone(action: Action, args: &mut SpacedWords) -> Result<Action, LineError>
     Ok(action)
 }
 
-#[tactic(auto, unfolding(crate::specs::Script::action_named))]
-fn action_named(alloc: Global, name: &[u8], args: &mut SpacedWords) -> Result<Action, LineError>
-    ensures { IsParsedAs (λ action. action) result (action_named name.now args.old) }
+/// Appends the command of this line and pass. It is inlined, so that an action is built where it stays.
+#[inline(always)]
+fn put(
+    commands: &mut Vec<Command>,
+    line: usize,
+    pass: ScriptPass,
+    action: Action,
+) -> Result<(), LineError>
+    ensures { IsParsedAs (λ _. commands.new.items) result (Ok (with_command line pass commands.old.items action)) }
 {
+    commands.push(Command { line, pass, action })?;
+    Ok(())
+}
+
+/// Appends the command with the call of this name, which has these arguments.
+#[tactic(auto, unfolding(crate::specs::Script::action_named))]
+fn put_named(
+    commands: &mut Vec<Command>,
+    line: usize,
+    pass: ScriptPass,
+    name: &[u8],
+    args: &mut SpacedWords,
+) -> Result<(), LineError>
+    ensures { IsParsedAs (λ _. commands.new.items) result
+        (command_so_far line pass commands.old.items (action_named name.now args.old)) }
+{
+    let alloc = *commands.allocator();
     if is_name(name, b"open") {
-        return open(alloc, args);
+        return put(commands, line, pass, open(alloc, args)?);
     }
     if is_name(name, b"scan") {
-        return alone(Action::Scan, args);
+        return put(commands, line, pass, alone(Action::Scan, args)?);
     }
     if is_name(name, b"await") {
-        return alone(Action::Await, args);
+        return put(commands, line, pass, alone(Action::Await, args)?);
     }
     if is_name(name, b"look") {
-        return look(alloc, args);
+        return put(commands, line, pass, look(alloc, args)?);
     }
     if is_name(name, b"acquire") {
-        return acquire(alloc, args);
+        return put(commands, line, pass, acquire(alloc, args)?);
     }
     if is_name(name, b"update") {
-        return update(alloc, args);
+        return put(commands, line, pass, update(alloc, args)?);
     }
     if is_name(name, b"finish") {
-        return finish(alloc, args);
+        return put(commands, line, pass, finish(alloc, args)?);
     }
     if is_name(name, b"leave") {
-        return alone(Action::Leave, args);
+        return put(commands, line, pass, alone(Action::Leave, args)?);
     }
     Err(LineError::Fault(ScriptFault::BadCall))
 }
 
-fn action(alloc: Global, words: &mut SpacedWords) -> Result<Action, LineError>
-    ensures { IsParsedAs (λ action. action) result (action_of words.old) }
+/// Appends the command with the call that these words spell, its name first.
+fn put_action(
+    commands: &mut Vec<Command>,
+    line: usize,
+    pass: ScriptPass,
+    words: &mut SpacedWords,
+) -> Result<(), LineError>
+    ensures { IsParsedAs (λ _. commands.new.items) result
+        (command_so_far line pass commands.old.items (action_of words.old)) }
 {
     let Some(name) = words.next() else {
         return Err(LineError::Fault(ScriptFault::BadCall));
     };
-    action_named(alloc, name, words)
+    put_named(commands, line, pass, name, words)
 }
 
-fn parsed_line(alloc: Global, words: &mut SpacedWords) -> Result<Option<ParsedLine>, LineError>
-    ensures { IsParsedAs (λ parsed_line. parsed_line) result (parsed_line_of words.old) }
+/// Appends the command that these words spell, its pass first, if there are any words.
+#[tactic(auto, using(crate::proofs::Fronts::of_action))]
+fn put_command(
+    commands: &mut Vec<Command>,
+    line: usize,
+    words: &mut SpacedWords,
+) -> Result<(), LineError>
+    ensures { IsParsedAs (λ _. commands.new.items) result
+        (lines_so_far line commands.old.items (parsed_line_of words.old)) }
 {
     let Some(word) = words.next() else {
-        return Ok(None);
+        return Ok(());
     };
     let pass = pass(word)?;
-    let action = action(alloc, words)?;
-    Ok(Some(ParsedLine { pass, action }))
+    put_action(commands, line, pass, words)
 }
 
 fn is_comment(line: &[u8]) -> bool
@@ -319,12 +357,17 @@ fn is_comment(line: &[u8]) -> bool
     }
 }
 
-/// Parses a line, given without its line end. A comment and a line without words ask for nothing.
-pub(crate) fn read_line(alloc: Global, line: &[u8]) -> Result<Option<ParsedLine>, LineError>
-    ensures { IsParsedAs (λ parsed_line. parsed_line) result (line_of line.now) }
+/// Parses a line, given without its line end, and appends its command, if it has one. A comment and a line without words
+/// ask for nothing.
+pub(crate) fn read_line(
+    commands: &mut Vec<Command>,
+    line: usize,
+    bytes: &[u8],
+) -> Result<(), LineError>
+    ensures { IsParsedAs (λ _. commands.new.items) result (lines_so_far line commands.old.items (line_of bytes.now)) }
 {
-    if is_comment(line) {
-        return Ok(None);
+    if is_comment(bytes) {
+        return Ok(());
     }
-    parsed_line(alloc, &mut SpacedWords::new(line))
+    put_command(commands, line, &mut SpacedWords::new(bytes))
 }

@@ -1,21 +1,12 @@
 //! Reads a whole script, line by line.
 ghost use Rattle.std.specs.Prelude.{◌≡◌, IfOk, IfErr};
-ghost use Rattle.lt_script.specs.Reading.{IsParsedAs};
-ghost use Rattle.lt_script.specs.Script.{command_at, commands_of, lines_so_far, line_of, told, IsFirstFault};
+ghost use Rattle.lt_script.specs.Script.{commands_of, told, IsFirstFault};
 
-use crate::command::ParsedLine;
+use crate::Script;
 use crate::error::{LineError, ScriptError};
 use crate::line::read_line;
-use crate::{Command, Script};
 use bstr::ByteSlice;
 use std::alloc::Global;
-
-fn command_at(line: usize, parsed_line: ParsedLine) -> Command
-    ensures { result ≡ command_at line parsed_line }
-{
-    let ParsedLine { pass, action } = parsed_line;
-    Command { line, pass, action }
-}
 
 fn told(refusal: LineError, line: usize) -> ScriptError
     ensures { result ≡ told refusal line }
@@ -24,21 +15,6 @@ fn told(refusal: LineError, line: usize) -> ScriptError
         LineError::Memory => ScriptError::Memory,
         LineError::Fault(fault) => ScriptError::Fault { line, fault },
     }
-}
-
-/// Appends the command of this line, if it has one.
-fn read_into(
-    alloc: Global,
-    commands: &mut Vec<Command>,
-    line: usize,
-    bytes: &[u8],
-) -> Result<(), LineError>
-    ensures { IsParsedAs (λ _. commands.new.items) result (lines_so_far line commands.old.items (line_of bytes.now)) }
-{
-    if let Some(parsed_line) = read_line(alloc, bytes)? {
-        commands.push(command_at(line, parsed_line))?;
-    }
-    Ok(())
 }
 
 #[tactic(auto, using(crate::proofs::Fronts::goes_on, crate::proofs::Fronts::stops, crate::proofs::Fronts::ends))]
@@ -55,7 +31,7 @@ pub fn read_script(alloc: Global, text: &[u8]) -> Result<Script, ScriptError>
     let mut lines = text.lines();
     let mut line = 1;
     while let Some(bytes) = lines.next() {
-        if let Err(refusal) = read_into(alloc, &mut commands, line, bytes) {
+        if let Err(refusal) = read_line(&mut commands, line, bytes) {
             return Err(told(refusal, line));
         }
         line += 1;

@@ -171,6 +171,14 @@
 //! reserved or waited for, and [`Table::locked_keys_after`] a part of these keys. Each answer is true after the steps of
 //! the shard that the pass has then seen. None of the calls is in any history.
 //!
+//! # A value of the store beside each shard
+//!
+//! A store may keep a value of its own beside each shard, behind the shard's lock: a [`ShardValue`]. The value is told of
+//! each step of its shard, so it knows the shard's steps exactly, and it can say that a step was *not* made.
+//! [`open_valued`] opens such a table. [`Table::acquire_then`] takes a lock and looks at the value in one critical
+//! section. [`Table::finish_then`] frees a lock and changes the value in one. A table without such a value
+//! has `()` there.
+//!
 //! # Passes and threads
 //!
 //! A pass and a guard are not `Drop`: a path that forgets one does not compile, and `abandon` gives one up by name.
@@ -209,13 +217,14 @@
 mod linked;
 mod start;
 
-pub use linked::{linked_tables, open, open_waking};
+pub use linked::{linked_tables, open, open_valued, open_valued_waking, open_waking};
 pub use lt_ids::{MAX_KEY_BYTES, MAX_PASS, MAX_REQUEST, MAX_SHARDS, MAX_STEPS, MAX_WAIT};
 pub use lt_lock::LinkedTable;
 pub use lt_table_core::{
     Answer, CloseError, CloseRefused, Config, EnterError, EnterRefused, Gone, Guard, Histories,
     Keeping, KeyState, LeaveStopped, Left, Mode, Poll, PrepareError, Progress, Reader, Ready, Rest,
-    Rests, Scan, ScanError, StepError, Table, Waker, abandon_guards, empty_tables, laws,
-    open_waking_with, open_with, prepare, prepare_with,
+    Rests, Scan, ScanError, ShardValue, StepError, Table, Waker, abandon_guards, empty_tables,
+    laws, open_valued_waking_with, open_valued_with, open_waking_with, open_with, prepare,
+    prepare_with,
 };
 pub use start::random_start;

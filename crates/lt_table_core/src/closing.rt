@@ -11,7 +11,9 @@ ghost use Rattle.lt_words.specs.Row.{SeesMore};
 ghost use Rattle.lt_table_core.specs.Slots.{AreInPlace};
 ghost use Rattle.lt_walk.specs.Closed.{tally, tallied_at, taken_at, passes_of, IsCounted, AreCounted, IsMiscount, IsEnded, AreEnded, IsClosed, IsClosedRest, AreRestsOf, AreWhole, IsRoomFor, IsUnclosed, IsGivenBack};
 
-use crate::table::{Label, Named, Slot, Table};
+use crate::named::Named;
+use crate::shard_value::ShardValue;
+use crate::table::{Label, Slot, Table};
 use lt_entry::Entry;
 use lt_rules::KeyTable;
 use lt_shard::Rest;
@@ -24,14 +26,14 @@ use std::alloc::{AllocError, Global};
 use std::sync::Wait;
 
 /// A table that was not closed: the table, the passes and the guards come back as they were.
-pub struct CloseRefused<N: Name, T: KeyTable, W: Waker = ()> {
-    pub table: Table<N, T, W>,
+pub struct CloseRefused<N: Name, T: KeyTable, W: Waker = (), V: ShardValue = ()> {
+    pub table: Table<N, T, W, V>,
     pub passes: Vec<Pass>,
     pub guards: Vec<Guard>,
     pub error: CloseError,
 }
 
-impl<N: Name, T: KeyTable + Drop, W: Waker + Drop> CloseRefused<N, T, W> {
+impl<N: Name, T: KeyTable + Drop, W: Waker + Drop, V: ShardValue + Drop> CloseRefused<N, T, W, V> {
     /// Gives up the table with its passes and guards.
     pub fn abandon(self) {
         let CloseRefused {
@@ -46,8 +48,8 @@ impl<N: Name, T: KeyTable + Drop, W: Waker + Drop> CloseRefused<N, T, W> {
 }
 
 /// Names the first shard that is not counted in the sense of `is_counted`.
-fn count_fault<N: Name, T: KeyTable>(
-    shards: &[Named<N, T>],
+fn count_fault<N: Name, T: KeyTable, V: ShardValue>(
+    shards: &[Named<N, T, V>],
     wanted: Wanted,
     passes: &[Pass],
     guards: &[Guard],
@@ -68,10 +70,10 @@ fn count_fault<N: Name, T: KeyTable>(
 }
 
 /// Lets the pass meet the shard, and returns what is left of the shard.
-fn end_shard<N: Name, T: KeyTable + Drop, R: Wait>(
+fn end_shard<N: Name, T: KeyTable + Drop, V: ShardValue + Drop, R: Wait>(
     rt: &R,
     book: &Book,
-    named: Named<N, T>,
+    named: Named<N, T, V>,
     last: &mut Pass,
 ) -> Rest
     requires book { book.now ≡ N.of }
@@ -79,16 +81,16 @@ fn end_shard<N: Name, T: KeyTable + Drop, R: Wait>(
     ensures ended { IsEnded N.of last.old last.new named.index named result }
     ensures more { SeesMore last.old last.new }
 {
-    let mut shard = named.into_shard();
+    let (mut shard, _value) = named.into_parts();
     shard.meet(rt, book, last);
     shard.into_rest()
 }
 
 /// Lets the pass meet each shard, and returns what is left of each.
-fn end_shards<N: Name, T: KeyTable + Drop, R: Wait>(
+fn end_shards<N: Name, T: KeyTable + Drop, V: ShardValue + Drop, R: Wait>(
     rt: &R,
     book: &Book,
-    shards: Vec<Named<N, T>>,
+    shards: Vec<Named<N, T, V>>,
     last: &mut Pass,
     mut rests: Vec<Rest>,
 ) -> Vec<Rest>
@@ -108,11 +110,11 @@ fn end_shards<N: Name, T: KeyTable + Drop, R: Wait>(
 }
 
 /// Puts each shard back behind a lock, in order. `slots` is empty and has room for them.
-fn slots_back<N: Name, T: KeyTable + Drop>(
-    shards: Vec<Named<N, T>>,
+fn slots_back<N: Name, T: KeyTable + Drop, V: ShardValue + Drop>(
+    shards: Vec<Named<N, T, V>>,
     max_steps: u64,
-    mut slots: Vec<Slot<N, T>>,
-) -> Vec<Slot<N, T>>
+    mut slots: Vec<Slot<N, T, V>>,
+) -> Vec<Slot<N, T, V>>
     requires empty { slots.items ≡ [] }
     requires room { length shards.items ≤ vec_capacity slots }
     ensures many { length result.items ≡ length shards.items }
@@ -130,20 +132,20 @@ fn slots_back<N: Name, T: KeyTable + Drop>(
 
 /// Room for the shards, for their locks if the table comes back, for what is left of them, and for their histories.
 #[derive(Drop)]
-struct CloseRoom<N: Name, T: KeyTable> {
-    shards: Vec<Named<N, T>>,
-    slots: Vec<Slot<N, T>>,
+struct CloseRoom<N: Name, T: KeyTable, V: ShardValue> {
+    shards: Vec<Named<N, T, V>>,
+    slots: Vec<Slot<N, T, V>>,
     rests: Vec<Rest>,
     histories: Vec<Vec<Entry>>,
 }
 
 /// Allocates that room, and room in `passes` for the passes of so many guards.
-fn take_room<N: Name, T: KeyTable + Drop>(
+fn take_room<N: Name, T: KeyTable + Drop, V: ShardValue + Drop>(
     alloc: Global,
     shards: usize,
     passes: &mut Vec<Pass>,
     guards: usize,
-) -> Result<CloseRoom<N, T>, CloseError>
+) -> Result<CloseRoom<N, T, V>, CloseError>
     ensures shards { IfOk result (λ room. IsRoomFor shards room.shards) }
     ensures slots { IfOk result (λ room. IsRoomFor shards room.slots) }
     ensures rests { IfOk result (λ room. IsRoomFor shards room.rests) }
@@ -162,10 +164,10 @@ fn take_room<N: Name, T: KeyTable + Drop>(
 }
 
 /// Ends the table: one pass learns what all passes had seen and meets each shard, so it has then seen everything.
-fn end<N: Name, T: KeyTable + Drop, R: Wait>(
+fn end<N: Name, T: KeyTable + Drop, V: ShardValue + Drop, R: Wait>(
     rt: &R,
     book: &Book,
-    shards: Vec<Named<N, T>>,
+    shards: Vec<Named<N, T, V>>,
     wanted: Wanted,
     mut passes: Vec<Pass>,
     rests: Vec<Rest>,
@@ -198,12 +200,12 @@ fn end<N: Name, T: KeyTable + Drop, R: Wait>(
 }
 
 /// The table with its passes and guards, which come back because of this error.
-fn refusal<N: Name, T: KeyTable, W: Waker>(
-    table: Table<N, T, W>,
+fn refusal<N: Name, T: KeyTable, W: Waker, V: ShardValue>(
+    table: Table<N, T, W, V>,
     passes: Vec<Pass>,
     guards: Vec<Guard>,
     error: CloseError,
-) -> CloseRefused<N, T, W>
+) -> CloseRefused<N, T, W, V>
     requires { IsUnclosed error (length passes.items + length guards.items) table }
     ensures { IsGivenBack table passes.items guards.items result.error result.table result.passes.items result.guards.items }
 {
@@ -215,7 +217,7 @@ fn refusal<N: Name, T: KeyTable, W: Waker>(
     }
 }
 
-impl<N: Name, T: KeyTable + Drop, W: Waker + Drop> Table<N, T, W> {
+impl<N: Name, T: KeyTable + Drop, W: Waker + Drop, V: ShardValue + Drop> Table<N, T, W, V> {
     /// Closes a table whose passes are back, in this room. With `only_whole`, refuses it if steps are gone.
     fn close_in<R: Wait>(
         self,
@@ -223,8 +225,8 @@ impl<N: Name, T: KeyTable + Drop, W: Waker + Drop> Table<N, T, W> {
         only_whole: bool,
         passes: Vec<Pass>,
         guards: Vec<Guard>,
-        room: CloseRoom<N, T>,
-    ) -> Result<ClosedTable, CloseRefused<N, T, W>>
+        room: CloseRoom<N, T, V>,
+    ) -> Result<ClosedTable, CloseRefused<N, T, W, V>>
         requires passes { All (λ p. p.of ≡ N.of) passes.items }
         requires guards { All (λ g. g.pass.of ≡ N.of) guards.items }
         requires back { self.passes ≤ length passes.items + length guards.items }
@@ -278,7 +280,7 @@ impl<N: Name, T: KeyTable + Drop, W: Waker + Drop> Table<N, T, W> {
         only_whole: bool,
         mut passes: Vec<Pass>,
         guards: Vec<Guard>,
-    ) -> Result<ClosedTable, CloseRefused<N, T, W>>
+    ) -> Result<ClosedTable, CloseRefused<N, T, W, V>>
         requires passes { All (λ p. p.of ≡ N.of) passes.items }
         requires guards { All (λ g. g.pass.of ≡ N.of) guards.items }
         ensures closed { IfOk result (λ e. AreRestsOf N.of passes.items guards.items e.rests) }
@@ -312,7 +314,7 @@ impl<N: Name, T: KeyTable + Drop, W: Waker + Drop> Table<N, T, W> {
         alloc: Global,
         passes: Vec<Pass>,
         guards: Vec<Guard>,
-    ) -> Result<Histories, CloseRefused<N, T, W>>
+    ) -> Result<Histories, CloseRefused<N, T, W, V>>
         requires passes { All (λ p. p.of ≡ N.of) passes.items }
         requires guards { All (λ g. g.pass.of ≡ N.of) guards.items }
         ensures closed { IfOk result (λ h. IsClosed N.of (passes_of passes.items guards.items) h.shards.items h.draws) }
@@ -335,7 +337,7 @@ impl<N: Name, T: KeyTable + Drop, W: Waker + Drop> Table<N, T, W> {
         alloc: Global,
         passes: Vec<Pass>,
         guards: Vec<Guard>,
-    ) -> Result<Rests, CloseRefused<N, T, W>>
+    ) -> Result<Rests, CloseRefused<N, T, W, V>>
         requires passes { All (λ p. p.of ≡ N.of) passes.items }
         requires guards { All (λ g. g.pass.of ≡ N.of) guards.items }
         ensures closed { IfOk result (λ r. AreRestsOf N.of passes.items guards.items r) }

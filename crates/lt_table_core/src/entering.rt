@@ -3,6 +3,7 @@
 ghost use Rattle.std.specs.Prelude.{◌≡◌, IfOk, IfErr};
 ghost use Rattle.lt_walk.specs.Entered.{IsEntered, IsRefused};
 
+use crate::shard_value::ShardValue;
 use crate::table::Table;
 use lt_ids::{Access, Key, Timestamp, TxnId};
 use lt_rules::KeyTable;
@@ -10,7 +11,7 @@ use lt_walk::{EnterRefused, Guard, Terms, enter_on};
 use lt_words::{Name, Pass, Waker};
 use std::alloc::Global;
 
-impl<N: Name, T: KeyTable, W: Waker> Table<N, T, W> {
+impl<N: Name, T: KeyTable, W: Waker, V: ShardValue> Table<N, T, W, V> {
     /// Enters a request with these accesses. Its guard keeps the pass until the request leaves.
     ///
     /// The number is drawn last, so none is drawn if the accesses are refused or an allocation fails. `txn` is the

@@ -7,6 +7,7 @@ ghost use Rattle.lt_shard.specs.Shards.{AreLockedKeys, AreLockedKeysAfter};
 ghost use Rattle.lt_walk.specs.Inspected.{seen_record};
 
 use crate::key_steps::Blocking;
+use crate::shard_value::ShardValue;
 use crate::table::Table;
 use lt_ids::Key;
 use lt_rules::KeyTable;
@@ -16,7 +17,7 @@ use lt_words::{Name, Pass, Waker};
 use std::alloc::AllocError;
 use std::sync::Wait;
 
-impl<N: Name, T: KeyTable, W: Waker> Table<N, T, W> {
+impl<N: Name, T: KeyTable, W: Waker, V: ShardValue> Table<N, T, W, V> {
     /// The record of the key: the holder of its lock, the request that holds the reservation, the queued requests
     /// in order, and the distinguished waiter. It is the record after the steps of the key's shard that the pass
     /// has then seen. Waits for the shard's lock, copies the record while holding it, and changes nothing. Fails if

@@ -5,6 +5,7 @@ ghost use Rattle.lt_rules.specs.Memory.{gives_up};
 ghost use Rattle.lt_words.specs.declared.keeping.Keeping.TheVariants.{Unrecorded};
 ghost use Rattle.lt_shard.specs.declared.answer.StepError.TheVariants.{HistoryFull};
 
+use crate::shard_value::ShardValue;
 use crate::table::Table;
 use lt_ids::Key;
 use lt_rules::{Call, KeyTable};
@@ -16,12 +17,13 @@ use std::sync::Wait;
 
 /// A table, and the permission to wait for its locks.
 #[derive(Drop)]
-pub(crate) struct Blocking<'a, R: Wait, N: Name, T: KeyTable, W: Waker> {
+pub(crate) struct Blocking<'a, R: Wait, N: Name, T: KeyTable, W: Waker, V: ShardValue> {
     pub rt: &'a R,
-    pub table: &'a Table<N, T, W>,
+    pub table: &'a Table<N, T, W, V>,
 }
 
-impl<'a, R: Wait, N: Name, T: KeyTable, W: Waker> KeySteps for Blocking<'a, R, N, T, W> {
+impl<'a, R: Wait, N: Name, T: KeyTable, W: Waker, V: ShardValue> KeySteps
+    for Blocking<'a, R, N, T, W, V> {
     type Refusal = StepError;
 
     ghost of = { λ _. N.of };
@@ -31,7 +33,7 @@ impl<'a, R: Wait, N: Name, T: KeyTable, W: Waker> KeySteps for Blocking<'a, R, N
 
     #[inline(always)]
     fn book(&self) -> &Book {
-        let table: &Table<N, T, W> = self.table;
+        let table: &Table<N, T, W, V> = self.table;
         &table.book
     }
 
@@ -39,7 +41,7 @@ impl<'a, R: Wait, N: Name, T: KeyTable, W: Waker> KeySteps for Blocking<'a, R, N
     /// holds. If it is another one, which never happens in a table that was opened, the call locks again.
     #[inline(always)]
     fn step(&self, pass: &mut Pass, key: &Key, call: &Call) -> Result<Answer, StepError> {
-        let table: &Table<N, T, W> = self.table;
+        let table: &Table<N, T, W, V> = self.table;
         let rt: &R = self.rt;
         let index = table.shard_of(key);
         let lock = &table.shards[index].lock;
@@ -47,7 +49,7 @@ impl<'a, R: Wait, N: Name, T: KeyTable, W: Waker> KeySteps for Blocking<'a, R, N
             let mut locked = lock.lock(rt);
             let inside = &mut *locked;
             if inside.shard.index() == index {
-                let answer = inside.shard.step(rt, &table.book, pass, key, call)?;
+                let answer = inside.step(rt, &table.book, pass, key, call)?;
                 // Release the lock first, so that the threads that are woken do not run into it.
                 drop(locked);
                 table.book.wake(pass, &table.waker);
@@ -58,7 +60,8 @@ impl<'a, R: Wait, N: Name, T: KeyTable, W: Waker> KeySteps for Blocking<'a, R, N
     }
 }
 
-impl<'a, R: Wait, N: Name, T: KeyTable, W: Waker> KeyStates for Blocking<'a, R, N, T, W> {
+impl<'a, R: Wait, N: Name, T: KeyTable, W: Waker, V: ShardValue> KeyStates
+    for Blocking<'a, R, N, T, W, V> {
     type Refusal = AllocError;
 
     ghost of = { λ _. N.of };

@@ -4,6 +4,7 @@ ghost use Rattle.lt_walk.specs.Closed.{IsLeave};
 ghost use Rattle.lt_walk.specs.Reported.{PassStays, GuardStays};
 
 use crate::key_steps::Blocking;
+use crate::shard_value::ShardValue;
 use crate::table::Table;
 use lt_rules::KeyTable;
 use lt_shard::StepError;
@@ -11,7 +12,7 @@ use lt_walk::{Guard, LeaveStopped, Left, into_left, leave_on};
 use lt_words::{Keeping, Name, Waker};
 use std::sync::Wait;
 
-impl<N: Name, T: KeyTable, W: Waker> Table<N, T, W> {
+impl<N: Name, T: KeyTable, W: Waker, V: ShardValue> Table<N, T, W, V> {
     /// Gives up the request's queue entries and reservations, with one leave step for each key in the guard's
     /// order. A guard that is already leaving continues at the key whose leave was refused.
     #[inline(always)]

@@ -15,15 +15,19 @@
 #![tactic(auto)]
 
 mod closing;
+mod drawing;
 mod entering;
 mod inspecting;
 mod key_steps;
 mod leaving;
 mod locking;
+mod named;
 mod opening;
 mod scan_and_poll;
+mod shard_value;
 mod table;
 mod taking;
+mod valuing;
 mod waiting;
 
 pub use closing::CloseRefused;
@@ -34,5 +38,8 @@ pub use lt_walk::{
     prepare, prepare_with,
 };
 pub use lt_words::{Keeping, Waker};
-pub use opening::{empty_tables, open_waking_with, open_with};
+pub use opening::{
+    empty_tables, open_valued_waking_with, open_valued_with, open_waking_with, open_with,
+};
+pub use shard_value::ShardValue;
 pub use table::Table;

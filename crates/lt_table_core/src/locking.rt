@@ -6,6 +6,7 @@ ghost use Rattle.lt_rules.specs.declared.call.Call.TheVariants.{Acquire, Update,
 ghost use Rattle.lt_walk.specs.Reported.{ReportsCall, ReportsLook};
 
 use crate::key_steps::Blocking;
+use crate::shard_value::ShardValue;
 use crate::table::Table;
 use lt_ids::{Key, Timestamp, TxnId};
 use lt_rules::{Call, KeyTable};
@@ -20,7 +21,7 @@ use std::sync::Wait;
 ///
 /// In a table that records no steps, an update, a finish and a look are never refused, however little memory there
 /// is: whoever holds a lock can always give it up.
-impl<N: Name, T: KeyTable, W: Waker> Table<N, T, W> {
+impl<N: Name, T: KeyTable, W: Waker, V: ShardValue> Table<N, T, W, V> {
     /// The transaction takes the lock of the key, or raises the timestamp of the lock that it holds.
     pub fn acquire<R: Wait>(
         &self,

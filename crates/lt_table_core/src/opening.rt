@@ -1,13 +1,14 @@
 //! How is a table opened over a prepared book and one empty table for each shard?
 //!
 //! `lt_table` calls `open_with` and `open_waking_with` with linked tables. Read next `src/table.rt`.
-ghost use Rattle.std.specs.Prelude.{◌≡◌, ◌≤◌, ◌^◌, IfOk, length, map};
+ghost use Rattle.std.specs.Prelude.{◌≡◌, ◌≤◌, ◌^◌, ℕ, [], IfOk, length, map};
 ghost use Rattle.std.specs.List.{All};
 ghost use Rattle.std.specs.FinMap as finmap;
 ghost use Rattle.lt_words.specs.Row.{AreFresh, AreNoting, fresh_passes};
 ghost use Rattle.lt_walk.specs.Configs.{AreNewShards};
 ghost use Rattle.lt_table_core.specs.Slots.{AreInPlace};
 
+use crate::shard_value::ShardValue;
 use crate::table::{Label, Slot, Table};
 use lt_rules::KeyTable;
 use lt_shard::Shard;
@@ -37,13 +38,19 @@ fn shards_over<T: KeyTable + Drop>(
     Ok(shards)
 }
 
-/// Puts each of these new shards behind a lock of its own, in order.
-fn slots_of<N: Name, T: KeyTable + Drop>(
+/// Puts each of these new shards behind a lock of its own, in order, each with the value beside it that `make` makes for
+/// its index.
+fn slots_of<N: Name, T: KeyTable + Drop, V: ShardValue + Drop, F>(
     alloc: Global,
     shards: Vec<Shard<T>>,
     max_steps: u64,
-) -> Result<Vec<Slot<N, T>>, AllocError>
+    make: F,
+) -> Result<Vec<Slot<N, T, V>>, AllocError>
+where
+    F: Fn(usize) -> Result<V, AllocError>,
     requires new { AreNewShards N.of max_steps shards.items }
+    requires callable { F.IsAlwaysCallable make }
+    requires fit { (index : ℕ) (r : _) → F.post make index r → IfOk r (λ v. V.fits [] v) }
     ensures many { IfOk result (λ slots. length slots.items ≡ length shards.items) }
     ensures each { IfOk result (λ slots. AreInPlace max_steps (map (λ s. s.label) slots.items)) }
 {
@@ -53,28 +60,34 @@ fn slots_of<N: Name, T: KeyTable + Drop>(
             index: slots.len(),
             max_steps,
         };
-        slots.push(Slot::new(shard, label))?;
+        let value = make(label.index)?;
+        slots.push(Slot::new(shard, value, label))?;
     }
     Ok(slots)
 }
 
 /// The shards over these tables, each behind a lock of its own. Each may hold `max_steps` steps.
-fn slots_over<N: Name, T: KeyTable + Drop>(
+fn slots_over<N: Name, T: KeyTable + Drop, V: ShardValue + Drop, F>(
     alloc: Global,
     book: &Book,
     tables: Vec<T>,
     max_steps: u64,
-) -> Result<Vec<Slot<N, T>>, AllocError>
+    make: F,
+) -> Result<Vec<Slot<N, T, V>>, AllocError>
+where
+    F: Fn(usize) -> Result<V, AllocError>,
     requires book { book.now ≡ N.of }
     requires many { length tables.items ≡ N.of.shards }
     requires empty { All (λ t. T.records t ≡ finmap.empty) tables.items }
     requires low { 1 ≤ max_steps }
     requires high { max_steps ≤ 2 ^ 32 }
+    requires callable { F.IsAlwaysCallable make }
+    requires fit { (index : ℕ) (r : _) → F.post make index r → IfOk r (λ v. V.fits [] v) }
     ensures many { IfOk result (λ slots. length slots.items ≡ N.of.shards) }
     ensures each { IfOk result (λ slots. AreInPlace max_steps (map (λ s. s.label) slots.items)) }
 {
     let shards = shards_over(alloc, book, tables, max_steps)?;
-    slots_of(alloc, shards, max_steps)
+    slots_of(alloc, shards, max_steps, make)
 }
 
 /// Opens the table of a prepared book over these tables: one for each shard, in order, all of them empty. The
@@ -95,12 +108,34 @@ pub fn open_with<N: Name, T: KeyTable + Drop>(
     ensures passes { IfOk result (λ r. r.1.items ≡ fresh_passes N.of N.of.passes) }
     ensures of { IfOk result (λ r. All (λ p. p.of ≡ N.of) r.1.items) }
 {
+    open_valued_with(alloc, ready, tables, |_| Ok(()))
+}
+
+/// [`open_with`], with a value beside each shard. `make` makes it for the shard's index, and it fits a shard that has made
+/// no step.
+pub fn open_valued_with<N: Name, T: KeyTable + Drop, V: ShardValue + Drop, F>(
+    alloc: Global,
+    ready: Ready,
+    tables: Vec<T>,
+    make: F,
+) -> Result<(Table<N, T, (), V>, Vec<Pass>), AllocError>
+where
+    F: Fn(usize) -> Result<V, AllocError>,
+    requires named { ready.of ≡ N.of }
+    requires many { length tables.items ≡ N.of.shards }
+    requires empty { All (λ t. T.records t ≡ finmap.empty) tables.items }
+    requires callable { F.IsAlwaysCallable make }
+    requires fit { (index : ℕ) (r : _) → F.post make index r → IfOk r (λ v. V.fits [] v) }
+    ensures config { IfOk result (λ r. r.0 ≡ ready.config) }
+    ensures passes { IfOk result (λ r. r.1.items ≡ fresh_passes N.of N.of.passes) }
+    ensures of { IfOk result (λ r. All (λ p. p.of ≡ N.of) r.1.items) }
+{
     let ReadyParts {
         config,
         book,
         passes,
     } = parts_of(ready);
-    let Ok(shards) = slots_over(alloc, &book, tables, config.max_steps) else {
+    let Ok(shards) = slots_over(alloc, &book, tables, config.max_steps, make) else {
         abandon_all(passes);
         return Err(AllocError);
     };
@@ -129,13 +164,38 @@ pub fn open_waking_with<N: Name, T: KeyTable + Drop, W: Waker + Drop>(
     ensures noting { IfOk result (λ r. AreNoting N.of.passes r.1.items) }
     ensures of { IfOk result (λ r. All (λ p. p.of ≡ N.of) r.1.items) }
 {
-    let (table, passes) = open_with::<N, T>(alloc, ready, tables)?;
+    open_valued_waking_with(alloc, ready, tables, waker, |_| Ok(()))
+}
+
+/// [`open_waking_with`], with a value beside each shard, as in [`open_valued_with`].
+pub fn open_valued_waking_with<N: Name, T: KeyTable + Drop, W: Waker + Drop, V, F>(
+    alloc: Global,
+    ready: Ready,
+    tables: Vec<T>,
+    waker: W,
+    make: F,
+) -> Result<(Table<N, T, W, V>, Vec<Pass>), AllocError>
+where
+    V: ShardValue + Drop,
+    F: Fn(usize) -> Result<V, AllocError>,
+    requires named { ready.of ≡ N.of }
+    requires many { length tables.items ≡ N.of.shards }
+    requires empty { All (λ t. T.records t ≡ finmap.empty) tables.items }
+    requires callable { F.IsAlwaysCallable make }
+    requires fit { (index : ℕ) (r : _) → F.post make index r → IfOk r (λ v. V.fits [] v) }
+    ensures config { IfOk result (λ r. r.0 ≡ ready.config) }
+    ensures passes { IfOk result (λ r. AreFresh N.of N.of.passes r.1.items) }
+    // Each pass notes every let of a step.
+    ensures noting { IfOk result (λ r. AreNoting N.of.passes r.1.items) }
+    ensures of { IfOk result (λ r. All (λ p. p.of ≡ N.of) r.1.items) }
+{
+    let (table, passes) = open_valued_with(alloc, ready, tables, make)?;
     let passes = noting_lets(passes)?;
     Ok((table.with_waker(waker), passes))
 }
 
-impl<N: Name, T: KeyTable> Table<N, T> {
-    fn with_waker<W: Waker>(self, waker: W) -> Table<N, T, W>
+impl<N: Name, T: KeyTable, V: ShardValue> Table<N, T, (), V> {
+    fn with_waker<W: Waker>(self, waker: W) -> Table<N, T, W, V>
         ensures { result ≡ self }
     {
         let Table {

@@ -7,13 +7,14 @@ ghost use Rattle.lt_walk.specs.declared.scan_results.Scan.TheVariants.{Waiting, 
 ghost use Rattle.lt_walk.specs.Laws.{IsTooLong};
 
 use crate::key_steps::Blocking;
+use crate::shard_value::ShardValue;
 use crate::table::Table;
 use lt_rules::KeyTable;
 use lt_walk::{Guard, Mode, Poll, Scan, ScanError, poll_on, scan_on};
 use lt_words::{Keeping, Name, Waker};
 use std::sync::Wait;
 
-impl<N: Name, T: KeyTable, W: Waker> Table<N, T, W> {
+impl<N: Name, T: KeyTable, W: Waker, V: ShardValue> Table<N, T, W, V> {
     /// Whether the request was let through: one load of the pass's status word, compared with the whole ticket of
     /// the wait. `poll` never blocks, takes no lock and allocates nothing.
     pub fn poll(&self, guard: &mut Guard) -> Poll

@@ -4,6 +4,7 @@ ghost use Rattle.std.specs.Prelude.{◌≡◌, ◌≢◌, ◌<◌, [], length, I
 ghost use Rattle.lt_words.specs.Row.{SeesMore, MakesNoStep, TakesOut, AreGone};
 ghost use Rattle.lt_walk.specs.Taken.{IsTaken, reader_after};
 
+use crate::shard_value::ShardValue;
 use crate::table::Table;
 use lt_entry::Entry;
 use lt_rules::KeyTable;
@@ -11,7 +12,7 @@ use lt_walk::{Gone, Reader};
 use lt_words::{Keeping, Name, Pass, Waker};
 use std::sync::Wait;
 
-impl<N: Name, T: KeyTable, W: Waker> Table<N, T, W> {
+impl<N: Name, T: KeyTable, W: Waker, V: ShardValue> Table<N, T, W, V> {
     /// Takes out the steps that the shard holds, under the shard's lock, and returns how many steps of the shard
     /// were made before them. The table must not keep its steps whole. The held steps and the room of `steps`,
     /// which is empty, change places: nothing is copied, nothing is allocated, and the next steps go into that

@@ -3,6 +3,7 @@
 ghost use Rattle.std.specs.Prelude.{◌≡◌, ◌≢◌};
 ghost use Rattle.lt_walk.specs.Reported.{IsPoll, GuardStays, SeesLet};
 
+use crate::shard_value::ShardValue;
 use crate::table::Table;
 use lt_rules::KeyTable;
 use lt_walk::{Guard, Poll, pass_of, poll_again_on};
@@ -22,7 +23,7 @@ fn time_left(clock: &impl Clock, deadline: Instant) -> Option<Duration> {
     if left.is_zero() { None } else { Some(left) }
 }
 
-impl<N: Name, T: KeyTable, W: Waker> Table<N, T, W> {
+impl<N: Name, T: KeyTable, W: Waker, V: ShardValue> Table<N, T, W, V> {
     /// Polls up to `POLLS` more times after the first poll, while the request waits.
     fn poll_some(&self, guard: &mut Guard) -> Poll
         requires pass { guard.old.pass.of ≡ N.of }

@@ -99,7 +99,7 @@ taken_is (WaitFor t d) is = absurd cc
 taken_is (WaitFirst t d) is = absurd cc
 taken_is (WaitOwn t) is = absurd cc
 
-freed_is : (reply : Reply) → is_freed reply ≡ true → reply ≡ Freed
+pub freed_is : (reply : Reply) → is_freed reply ≡ true → reply ≡ Freed
 freed_is Freed is = refl
 freed_is Passed is = absurd cc
 freed_is MustWait is = absurd cc

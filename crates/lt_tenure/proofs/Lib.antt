@@ -2,6 +2,7 @@ mod Lists
 mod Owned
 mod Holders
 mod Held
+mod Following
 mod Serial
 mod Committed
 mod Ordered

@@ -1,12 +1,14 @@
 -- The laws of tenures. `AreLegalKeys es` says that the steps of each key are legal; a shard's part of what any pass has
 -- seen is such a list.
-use Rattle.std.specs.Prelude.{ℕ, ◌≡◌, ◌≢◌, ◌<◌, ◌≤◌, ◌⊎◌, Some, None, List, length, take, IsPermutation}
+use Rattle.std.specs.Prelude.{ℕ, true, ◌≡◌, ◌≢◌, ◌<◌, ◌≤◌, ◌⊎◌, Some, None, List, [], ◌∷◌, ◌++◌, length, take, IsPermutation}
 use mathlib.Core.List.{IsPrefix}
+use Rattle.lt_rules.specs.declared.call.Call.TheVariants.{Finish}
+use Rattle.lt_rules.specs.Step.{is_freed}
 use Rattle.lt_entry.specs.declared.entry.Entry.{Entry}
 use Rattle.lt_entry.specs.Legal.{AreLegalKeys}
 use Rattle.lt_words.specs.declared.event.Event.{Event}
-use Rattle.lt_words.specs.History.{key_record, IsLegalHistory}
-use Rattle.lt_tenure.specs.Tenure.{owner_with, lock_owner, owner_txn, holder_txn, Tenure, TakesAt, FreesAt, IsTenure, IsHeldAt, IsLocked}
+use Rattle.lt_words.specs.History.{key_record, MayFollow, IsLegalHistory}
+use Rattle.lt_tenure.specs.Tenure.{owner_with, owner_after, lock_owner, freed_after, last_freed, owner_txn, holder_txn, Tenure, TakesAt, FreesAt, IsTenure, IsHeldAt, IsLocked}
 use Rattle.lt_tenure.specs.Committed.{Committed, AreCommittedIn, AreOrderedBy, AreApart, PointsRise, IsSerial}
 
 -- ---- the owner
@@ -32,6 +34,34 @@ OwnerTook = (key : List ℕ) (es : List Entry) (txn taken : ℕ) → lock_owner 
 abbrev pub OwnedSince : Type 0
 OwnedSince = (key : List ℕ) (es : List Entry) (txn taken n : ℕ) → lock_owner key es ≡ Some (owner_with txn taken) → taken < n → n ≤ length es →
     lock_owner key (take n es) ≡ Some (owner_with txn taken)
+
+-- ---- step by step
+
+-- Legal steps and one that may follow them are legal.
+abbrev pub NextIsLegal : Type 0
+NextIsLegal = (es : List Entry) (e : Entry) → AreLegalKeys es → MayFollow es e → AreLegalKeys (es ++ e ∷ [])
+
+-- The owner after one more step.
+abbrev pub OwnerFollows : Type 0
+OwnerFollows = (key : List ℕ) (es : List Entry) (e : Entry) → lock_owner key (es ++ e ∷ []) ≡ owner_after key (lock_owner key es) (length es) e
+
+-- The latest step that freed the lock, after one more step.
+abbrev pub LastFreedFollows : Type 0
+LastFreedFollows = (key : List ℕ) (es : List Entry) (e : Entry) → last_freed key (es ++ e ∷ []) ≡ freed_after key (last_freed key es) (length es) e
+
+-- The step that `last_freed` names freed the lock, and no later one did.
+abbrev pub LastFreedIsLast : Type 0
+LastFreedIsLast = (key : List ℕ) (es : List Entry) (at : ℕ) → last_freed key es ≡ Some at →
+    ((txn : ℕ) × FreesAt es key txn at) × ((k txn : ℕ) → at < k → FreesAt es key txn k → ⊥)
+
+-- One more step that frees a lock ends a tenure of its transaction, which owned the lock until then.
+abbrev pub FreeingEndsATenure : Type 0
+FreeingEndsATenure = (es : List Entry) (e : Entry) (txn : ℕ) → AreLegalKeys es → MayFollow es e → e.call ≡ Finish txn → is_freed e.reply ≡ true →
+    (taken : ℕ) × (lock_owner e.key es ≡ Some (owner_with txn taken)) × IsTenure (es ++ e ∷ []) txn (record { key = e.key; taken = taken; freed = length es })
+
+-- A tenure among these steps is one among more steps.
+abbrev pub TenureLasts : Type 0
+TenureLasts = (es more : List Entry) (txn : ℕ) (t : Tenure) → IsTenure es txn t → IsTenure (es ++ more) txn t
 
 -- ---- tenures
 

@@ -50,6 +50,28 @@ owner_from key o at (e ∷ es) = owner_from key (owner_after key o at e) (suc at
 abbrev pub lock_owner : List ℕ → List Entry → Option Owner
 lock_owner key es = owner_from key None 0 es
 
+-- the index of the latest step that freed a lock, after the step at this index, which made this call and had this reply;
+-- `o` is the one before it
+abbrev pub freed_step : Option ℕ → ℕ → Call → Reply → Option ℕ
+freed_step o at (Visit ticket txn ts access longest) reply = o
+freed_step o at (Acquire txn ts) reply = o
+freed_step o at (Update txn ts) reply = o
+freed_step o at (Finish txn) reply = if is_freed reply then Some at else o
+freed_step o at (Leave number) reply = o
+freed_step o at (Look number) reply = o
+
+-- the same for the lock of this key
+abbrev pub freed_after : List ℕ → Option ℕ → ℕ → Entry → Option ℕ
+freed_after key o at e = if bytes_eq e.key key then freed_step o at e.call e.reply else o
+
+abbrev pub freed_from : List ℕ → Option ℕ → ℕ → List Entry → Option ℕ
+freed_from key o at [] = o
+freed_from key o at (e ∷ es) = freed_from key (freed_after key o at e) (suc at) es
+
+-- the index of the latest of these steps, the first of the key's shard, that freed the key's lock
+abbrev pub last_freed : List ℕ → List Entry → Option ℕ
+last_freed key es = freed_from key None 0 es
+
 -- the transaction of an owner
 abbrev pub owner_txn : Option Owner → Option ℕ
 owner_txn o = option_map (λ x. x.txn) o

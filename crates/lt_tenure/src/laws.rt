@@ -7,7 +7,7 @@
 //! To use a law, call it, as [`locked_is_held`] calls `parts_are_legal`. Its statement is then a fact in the rest of the
 //! body, and an answer in `proofs/` cites it: `c.parts_are_legal.ensures`.
 ghost use Rattle.lt_tenure.specs.Example.{ExampleOwners, SomeCommit};
-ghost use Rattle.lt_tenure.specs.Laws.{OwnerIsHolder, TakenWasFree, FreedWasOwn, OwnerTook, OwnedSince, FreedEndsATenure, HeldUntilFreed, TenuresNeverOverlap, LockedIsHeld, TenuresStay, LockPointsAreAnOrder, TenuresAreSerial, CommittedAreSerial, CommittedAreSerializable};
+ghost use Rattle.lt_tenure.specs.Laws.{OwnerIsHolder, TakenWasFree, FreedWasOwn, OwnerTook, OwnedSince, NextIsLegal, OwnerFollows, LastFreedFollows, LastFreedIsLast, FreeingEndsATenure, TenureLasts, FreedEndsATenure, HeldUntilFreed, TenuresNeverOverlap, LockedIsHeld, TenuresStay, LockPointsAreAnOrder, TenuresAreSerial, CommittedAreSerial, CommittedAreSerializable};
 
 use lt_words::laws::{parts_are_legal, parts_begin, steps_stay};
 
@@ -37,6 +37,39 @@ pub fn owner_took()
 /// An owner has owned the lock at every point since that step.
 pub fn owned_since()
     ensures { OwnedSince }
+{}
+
+// ---- step by step
+
+/// Legal steps and one that may follow them are legal. So whoever is told of each step of a shard as it is made keeps a
+/// list of which the laws above speak.
+pub fn next_is_legal()
+    ensures { NextIsLegal }
+{}
+
+/// One more step changes the owner as `owner_after` says, so a client can keep the owner beside the shard.
+pub fn owner_follows()
+    ensures { OwnerFollows }
+{}
+
+/// One more step changes the latest step that freed the lock as `freed_after` says.
+pub fn last_freed_follows()
+    ensures { LastFreedFollows }
+{}
+
+/// The step that `last_freed` names freed the lock, and no later one did.
+pub fn last_freed_is_last()
+    ensures { LastFreedIsLast }
+{}
+
+/// One more step that frees a lock ends a tenure of its transaction, which owned the lock until then.
+pub fn freeing_ends_a_tenure()
+    ensures { FreeingEndsATenure }
+{}
+
+/// A tenure among these steps is one among more steps.
+pub fn tenure_lasts()
+    ensures { TenureLasts }
 {}
 
 // ---- tenures

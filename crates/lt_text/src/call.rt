@@ -96,6 +96,7 @@ fn look(words: &mut Words) -> Option<Call>
     Some(Call::Look { number })
 }
 
+#[inline(always)]
 #[tactic(auto, unfolding(crate::specs::Calls::call_in_words))]
 fn call_named(name: &[u8], words: &mut Words) -> Option<Call>
     ensures { Gives result words.new (call_in_words name.now words.old) }
@@ -123,6 +124,7 @@ fn call_named(name: &[u8], words: &mut Words) -> Option<Call>
 
 /// The call that the next words spell, its name first. `None` if they spell no call, or if a number is out of its
 /// range. The words after the call remain.
+#[inline(always)]
 pub fn call(words: &mut Words) -> Option<Call>
     ensures { Gives result words.new (call_at words.old) }
 {

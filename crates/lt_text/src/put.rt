@@ -54,7 +54,8 @@ pub fn put_pair(out: &mut Vec<u8>, first: u64, second: u64) -> Result<(), AllocE
     put_number(out, second)
 }
 
-/// Appends a space and the word.
+/// Appends a space and the word. It is inlined, so that a constant word costs a test for room and a few stores.
+#[inline(always)]
 pub fn put_word(out: &mut Vec<u8>, word: &[u8]) -> Result<(), AllocError>
     ensures { OnOk result (out.new.items ≡ out.old.items ++ 32 ∷ word.now) }
 {

@@ -117,6 +117,7 @@ fn wait_own(words: &mut Words) -> Option<Reply>
     Some(Reply::WaitOwn(txn))
 }
 
+#[inline(always)]
 #[tactic(auto, unfolding(crate::specs::Replies::reply_in_words))]
 fn reply_named(name: &[u8], words: &mut Words) -> Option<Reply>
     ensures { Gives result words.new (reply_in_words name.now words.old) }
@@ -135,6 +136,7 @@ fn reply_named(name: &[u8], words: &mut Words) -> Option<Reply>
 
 /// The reply that the next words spell, its name first, or `None` if they spell no reply. The words after the
 /// reply remain.
+#[inline(always)]
 pub fn reply(words: &mut Words) -> Option<Reply>
     ensures { Gives result words.new (reply_at words.old) }
 {

@@ -38,6 +38,7 @@ fn line_end(bytes: &[u8]) -> Option<usize>
 
 /// The bytes before and after the first line end, or `None` if there is none. It does what [`cut`] does, and is faster
 /// if the line has more than a few bytes.
+#[inline(always)]
 #[tactic(auto, using(crate::proofs::Cuts::cut_of_none, crate::proofs::Cuts::cut_of_at))]
 pub fn cut_line(bytes: &[u8]) -> Option<(&[u8], &[u8])>
     ensures { MatchOption result (cut_of 10 bytes.now ≡ None) (λ parts. IsCut 10 bytes.now parts.0.now parts.1.now) }
@@ -112,6 +113,7 @@ impl<'a> Words<'a> {
     }
 
     /// The next word, which is consumed; `None` after the last.
+    #[inline(always)]
     pub fn next(&mut self) -> Option<&'a [u8]>
         ensures { MatchOption result ((self.old ≡ []) × (self.new ≡ [])) (λ word. self.old ≡ word.now ∷ self.new) }
     {

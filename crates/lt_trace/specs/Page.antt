@@ -1,5 +1,5 @@
 -- How lines are numbered.
-use Rattle.std.specs.Prelude.{ℕ, ◌≡◌, List, ◌++◌, Option, Some, None}
+use Rattle.std.specs.Prelude.{ℕ, ◌≡◌, ◌+◌, ◌==◌, if◌then◌else◌, List, ◌++◌, Option, Some, None}
 use Rattle.std.specs.Io.KnownBytes.{Appends}
 use Rattle.lt_checker.specs.Sorted.{next_index}
 use Rattle.lt_trace.specs.declared.line.TraceLine.{TraceLine}
@@ -7,11 +7,13 @@ use Rattle.lt_trace.specs.declared.page.KeyCounter.{KeyCounter}
 use Rattle.lt_trace.specs.declared.page.Page.{Page}
 use Rattle.lt_trace.specs.Trace.{plain_text, numbered_text}
 
--- The line of this key has this index, and the next line is numbered after it.
+-- The line of this key has this index, and the next line is numbered after it. A key is counted with its first line.
 pub record CountsLine (old new : KeyCounter) (key : List ℕ) (i : ℕ) : Type 0 where
   pub index : i ≡ next_index old.key.items old.index key
   pub key_after : new.key.items ≡ key
   pub index_after : new.index ≡ i
+  pub keys : new.keys ≡ (if i == 1 then old.keys + 1 else old.keys)
+  pub steps : new.steps ≡ old.steps + 1
 
 -- The line stands after what was on the page, as it was read.
 abbrev pub AppendsPlain : Page → Page → TraceLine → Type 0

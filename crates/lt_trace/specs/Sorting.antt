@@ -1,5 +1,5 @@
 -- What the lines of a trace say, one after the other, and what is written when they are sorted.
-use Rattle.std.specs.Prelude.{ℕ, ◌≡◌, ◌≢◌, ◌+◌, ◌⊎◌, ⊤, Bool, true, false, List, [], ◌∷◌, ◌++◌, length, codes, Option, None, Some, Err, IfSome}
+use Rattle.std.specs.Prelude.{ℕ, ◌≡◌, ◌≢◌, ◌+◌, ◌⊎◌, ◌==◌, if◌then◌else◌, ⊤, Bool, true, false, List, [], ◌∷◌, ◌++◌, length, codes, Option, None, Some, Err, IfSome}
 use Rattle.std.specs.List.Sorted.{IsSortedByKey, IsStableByKey}
 use Rattle.std.specs.Ordering.{nat_cmp}
 use Rattle.std.specs.Cmp.Lexicographic.{slice_cmp}
@@ -15,6 +15,7 @@ use Rattle.lt_trace.specs.declared.error.TraceLineError.TheVariants as refusals
 use Rattle.lt_trace.specs.declared.line.TraceLine.{TraceLine}
 use Rattle.lt_trace.specs.declared.page.KeyCounter.{KeyCounter}
 use Rattle.lt_trace.specs.declared.page.Page.{Page}
+use Rattle.lt_trace.specs.declared.sort.SortReport.{SortReport}
 use Rattle.lt_trace.specs.declared.sort.TraceForm.{TraceForm}
 use Rattle.lt_trace.specs.Form.{IsReadInForm, IsInputLine}
 use Rattle.lt_trace.specs.Trace.{plain_text, numbered_text}
@@ -32,10 +33,11 @@ steps_of_lines [] = []
 steps_of_lines (None ∷ os) = steps_of_lines os
 steps_of_lines (Some line ∷ os) = line ∷ steps_of_lines os
 
--- The bytes are lines of this form and empty ones.
-pub record AreInputLines (form : TraceForm) (bytes : List ℕ) : Type 0 where
+-- The bytes are lines of this form and empty ones, and so many are not empty.
+pub record HaveSteps (form : TraceForm) (steps : ℕ) (bytes : List ℕ) : Type 0 where
   pub lines : List (Option TraceLine)
   pub read : BeginWithLines form bytes lines []
+  pub count : steps ≡ length (steps_of_lines lines)
 
 -- The bytes are not ended by a line end.
 abbrev pub HaveNoLineEnd : List ℕ → Type 0
@@ -116,6 +118,7 @@ HasCollected form source old new = IfSome source (AreCollected form old new)
 
 -- These are the lines in the order of their keys. The lines of one key have the order that they had.
 pub record AreByKey (lines sorted : List TraceLine) : Type 0 where
+  pub count : length sorted ≡ length lines
   pub rising : IsSortedByKey (λ l. l.key) (slice_cmp nat_cmp) sorted
   pub stable : IsStableByKey (λ l. l.key) (slice_cmp nat_cmp) lines sorted
 
@@ -135,21 +138,37 @@ abbrev pub page_lines : Option KeyCounter → List TraceLine → List ℕ
 page_lines None lines = plain_lines lines
 page_lines (Some counter) lines = numbered_lines counter.key.items counter.index lines
 
--- What was on the page was written, and then these lines, in order.
-pub record WritesInOrder (before now : Option (List ℕ)) (page : Page) (lines : List TraceLine) : Type 0 where
+-- How many of the lines have the index 1, after a line of this key with this index.
+abbrev pub first_lines : List ℕ → ℕ → List TraceLine → ℕ
+first_lines key index [] = 0
+first_lines key index (line ∷ lines) =
+    (if next_index key index line.key == 1 then 1 else 0) + first_lines line.key (next_index key index line.key) lines
+
+-- The keys and the steps that a page with this counter has counted after these lines; none without a counter.
+abbrev pub counted : Option KeyCounter → List TraceLine → ℕ × ℕ
+counted None lines = (0, 0)
+counted (Some counter) lines = (counter.keys + first_lines counter.key.items counter.index lines, counter.steps + length lines)
+
+-- What was on the page was written, and then these lines, in order. They were counted.
+pub record WritesInOrder (before now : Option (List ℕ)) (old new : Page) (lines : List TraceLine) : Type 0 where
   pub sorted : List TraceLine
   pub in_order : AreByKey lines sorted
-  pub written : Appends before now (page.bytes.items ++ page_lines page.counter sorted)
+  pub written : Appends before now (old.bytes.items ++ page_lines old.counter sorted)
+  pub counts : counted new.counter [] ≡ counted old.counter sorted
 
--- What was on the page was written, and then these lines.
-pub record WritesSomeLines (before now : Option (List ℕ)) (page : Page) : Type 0 where
+-- What was on the page was written, and then these lines. They were counted.
+pub record WritesSomeLines (before now : Option (List ℕ)) (old new : Page) : Type 0 where
   pub lines : List TraceLine
-  pub written : Appends before now (page.bytes.items ++ page_lines page.counter lines)
+  pub written : Appends before now (old.bytes.items ++ page_lines old.counter lines)
+  pub counts : counted new.counter [] ≡ counted old.counter lines
 
--- Lines were written behind the line `locks 2`, each with its index.
-pub record IsNumberedInto (before now : Option (List ℕ)) : Type 0 where
+-- Lines were written behind the line `locks 2`, each with its index. The report has their number, and that of the lines
+-- with the index 1.
+pub record IsNumberedInto (before now : Option (List ℕ)) (report : SortReport) : Type 0 where
   pub lines : List TraceLine
   pub written : Appends before now (codes "locks 2\n" ++ numbered_lines [] 0 lines)
+  pub keys : report.keys ≡ first_lines [] 0 lines
+  pub steps : report.steps ≡ length lines
 
 -- The bytes were lines of this form, and these were written in order, behind the line `locks 2`.
 pub record IsSortedInto (form : TraceForm) (before now : Option (List ℕ)) (bytes : List ℕ) : Type 0 where

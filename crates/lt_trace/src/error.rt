@@ -38,7 +38,7 @@ pub enum SortError {
     /// A write of the output failed. A prefix of the output may have been written.
     #[error("the text could not be written to its end")]
     Write,
-    /// A key has more than 2^64 - 1 steps. A prefix of the output may have been written.
+    /// A key, or the whole trace, has more than 2^64 - 1 steps. A prefix of the output may have been written.
     #[error("a key has too many steps")]
     TooManySteps,
 }

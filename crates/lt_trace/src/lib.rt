@@ -11,9 +11,10 @@
 //!   With any index after its key, it is the text of a line of histories ([`laws::numbered_is_line`]).
 //! - If no temporary file was made, the header and the lines were written in the order of the keys. The lines of one key keep
 //!   their order, and have the indices from 1 (`sorted` of `sort_trace`).
-//! - Only a trace without a faulty line is sorted (`read`), and a refusal names the first one and its fault (`refused`), also if
-//!   lines before it are in temporary files. If a line is refused or a read of the trace fails, the output is unchanged
-//!   (`unchanged`).
+//! - Only a trace without a faulty line is sorted, and the report has the number of its lines (`read`). As many lines are written,
+//!   also if there were temporary files (`numbered`).
+//! - A refusal names the first faulty line and its fault (`refused`), also if lines before it are in temporary files. If a line
+//!   is refused or a read of the trace fails, the output is unchanged (`unchanged`).
 //! - A JSON line gives the step that its members spell, and a line is refused only if it says no step (`read_line` in
 //!   `src/sort.rt`).
 //! - A run has the lines of a full memory, sorted (`write_batch`). A merge takes the first of the least heads (`least_of`), and

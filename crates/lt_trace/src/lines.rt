@@ -1,6 +1,6 @@
 //! Which lines are in memory, and in which order? A [`Batch`] collects lines of a trace, counts the bytes that they
 //! take, and sorts them by key.
-ghost use Rattle.std.specs.Prelude.{◌≡◌, ◌++◌, ◌∷◌, [], OnOk, IfOk};
+ghost use Rattle.std.specs.Prelude.{◌≡◌, ◌++◌, ◌∷◌, [], OnOk, IfOk, length, vec_len};
 ghost use Rattle.std.specs.List.Sorted.{IsSortedByKey, IsStableByKey};
 ghost use Rattle.std.specs.Ordering.{nat_cmp};
 ghost use Rattle.std.specs.Cmp.Lexicographic.{slice_cmp};
@@ -22,6 +22,7 @@ pub(crate) struct Batch {
 fn sort_lines(lines: &mut Vec<TraceLine>) -> Result<(), AllocError>
     ensures sorted { OnOk result (IsSortedByKey (λ l. l.key) (slice_cmp nat_cmp) lines.new.items) }
     ensures stable { IsStableByKey (λ l. l.key) (slice_cmp nat_cmp) lines.old.items lines.new.items }
+    ensures len { vec_len lines.new ≡ vec_len lines.old }
 {
     lines.sort_by(|a, b| a.key.cmp(&b.key))?;
     Ok(())
@@ -60,6 +61,7 @@ impl Batch {
     pub fn sorted(&mut self) -> Result<&[TraceLine], AllocError>
         ensures sorted { IfOk result (λ s. IsSortedByKey (λ l. l.key) (slice_cmp nat_cmp) s.now) }
         ensures stable { IfOk result (λ s. IsStableByKey (λ l. l.key) (slice_cmp nat_cmp) self.old.lines.items s.now) }
+        ensures count { IfOk result (λ s. length s.now ≡ length self.old.lines.items) }
     {
         sort_lines(&mut self.lines)?;
         Ok(&self.lines)

@@ -82,7 +82,7 @@ pub(crate) fn merge<T: Read + Drop, W: Write>(
 ) -> Result<(), SortError>
     ensures failed { IsOfOutput fault → IfErr result IsOfOutput }
     // Whatever comes out of the runs, each line that is written has the index that is due.
-    ensures written { OnOk result (WritesSomeLines (W.contents writer.old) (W.contents writer.new) page.old) }
+    ensures written { OnOk result (WritesSomeLines (W.contents writer.old) (W.contents writer.new) page.old page.new) }
 {
     let mut bytes = Vec::new(alloc);
     let mut heads = first_lines(alloc, runs, &mut bytes)?;

@@ -5,6 +5,7 @@ ghost use Rattle.std.specs.Prelude.{◌≡◌, ◌+◌, ◌^◌, [], codes, None
 ghost use Rattle.std.specs.Io.KnownBytes.{Appends};
 ghost use Rattle.lt_trace.specs.Errors.{IsOfOutput};
 ghost use Rattle.lt_checker.specs.Sorted.{next_index};
+ghost use Rattle.lt_trace.specs.Sorting.{counted};
 ghost use Rattle.lt_trace.specs.Page.{AppendsPlain, AppendsNumbered, CountsLine, WritesFront};
 
 use crate::error::{SortError, stream_error};
@@ -42,6 +43,8 @@ impl KeyCounter {
     fn new(alloc: Global) -> KeyCounter
         ensures key { result.key.items ≡ [] }
         ensures index { result.index ≡ 0 }
+        ensures keys { result.keys ≡ 0 }
+        ensures steps { result.steps ≡ 0 }
     {
         KeyCounter {
             key: Vec::new(alloc),
@@ -59,13 +62,16 @@ impl KeyCounter {
         let Some(index) = next_index(&self.key, self.index, key.as_bytes()) else {
             return Err(SortError::TooManySteps);
         };
+        let (Some(keys), Some(steps)) = (self.keys.checked_add(1), self.steps.checked_add(1)) else {
+            return Err(SortError::TooManySteps);
+        };
         if index == 1 {
             self.key.clear();
             self.key.extend_from_slice(key.as_bytes())?;
-            self.keys = self.keys.saturating_add(1);
+            self.keys = keys;
         }
         self.index = index;
-        self.steps = self.steps.saturating_add(1);
+        self.steps = steps;
         Ok(index)
     }
 }
@@ -93,6 +99,8 @@ impl Page {
         ensures bytes { IfOk result (λ p. p.bytes.items ≡ codes "locks 2\n") }
         ensures counter { IfOk result (λ p. IfSome p.counter (λ c. c.index ≡ 0)) }
         ensures key { IfOk result (λ p. IfSome p.counter (λ c. c.key.items ≡ [])) }
+        ensures keys { IfOk result (λ p. IfSome p.counter (λ c. c.keys ≡ 0)) }
+        ensures steps { IfOk result (λ p. IfSome p.counter (λ c. c.steps ≡ 0)) }
         ensures numbers { IfOk result (λ p. IsSome p.counter) }
     {
         let mut bytes = Vec::new(alloc);
@@ -152,7 +160,9 @@ impl Page {
 
     /// The numbers of keys and steps that were numbered.
     pub fn report(&self, runs: u64) -> SortReport
-        ensures { result.runs ≡ runs }
+        ensures runs { result.runs ≡ runs }
+        ensures keys { result.keys ≡ (counted self.now.counter []).0 }
+        ensures steps { result.steps ≡ (counted self.now.counter []).1 }
     {
         match &self.counter {
             None => SortReport {

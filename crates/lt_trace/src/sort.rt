@@ -9,7 +9,7 @@ ghost use Rattle.std.specs.Prelude.{◌≡◌, ◌≢◌, ◌≤◌, [], ◌++�
 ghost use Rattle.std.specs.Io.KnownBytes.{Appends};
 ghost use Rattle.lt_trace.specs.Errors.{is_input_error, IsOfOutput};
 ghost use Rattle.lt_trace.specs.Form.{IsReadInForm, IsInputLine, IsInputRefusal};
-ghost use Rattle.lt_trace.specs.Sorting.{AreInputLines, TellsLineFault, RefusesFirstFault, TakesInputLine, RefusesNextLine, TakesBytes, IsNoRefusal, WritesInOrder, WritesSomeLines, IsNumberedInto, IsSortedInto, HasCollected, line_error, page_lines};
+ghost use Rattle.lt_trace.specs.Sorting.{TellsLineFault, RefusesFirstFault, TakesInputLine, RefusesNextLine, TakesBytes, IsNoRefusal, WritesInOrder, WritesSomeLines, IsNumberedInto, IsSortedInto, HaveSteps, HasCollected, counted, line_error, page_lines};
 
 use crate::error::{SortError, TraceFault, TraceLineError, stream_error};
 use crate::line::TraceLine;
@@ -46,7 +46,7 @@ pub struct SortOptions<'a> {
     pub folder: &'a str,
 }
 
-/// What was sorted.
+/// What was sorted: how many lines were written, and how many of them begin a key.
 #[derive(Clone, Copy, Debug, PartialEq, Eq)]
 pub struct SortReport {
     pub keys: u64,
@@ -183,6 +183,7 @@ fn write_lines<W: Write>(
     ensures failed { IsOfOutput fault → IfErr result IsOfOutput }
     ensures written { OnOk result (Appends (W.contents writer.old) (W.contents writer.new)
         (page.old.bytes.items ++ page_lines page.old.counter lines.now)) }
+    ensures counts { OnOk result (counted page.new.counter [] ≡ counted page.old.counter lines.now) }
 {
     for line in lines {
         page.put(line)?;
@@ -199,7 +200,7 @@ fn write_batch<W: Write>(
     fault: SortError,
 ) -> Result<(), SortError>
     ensures failed { IsOfOutput fault → IfErr result IsOfOutput }
-    ensures written { OnOk result (WritesInOrder (W.contents writer.old) (W.contents writer.new) page.old batch.old.lines.items) }
+    ensures written { OnOk result (WritesInOrder (W.contents writer.old) (W.contents writer.new) page.old page.new batch.old.lines.items) }
 {
     write_lines(batch.sorted()?, page, writer, fault)
 }
@@ -254,7 +255,7 @@ fn keep<F: Files>(
 }
 
 /// Reads all lines. Those that do not fit into memory become runs. Returns how many lines there are.
-#[tactic(auto, using(crate::proofs::SortLaws::begins, crate::proofs::SortLaws::skips_line, crate::proofs::SortLaws::keeps_line, crate::proofs::SortLaws::collected, crate::proofs::SortLaws::refused_next, crate::proofs::SortLaws::of_output))]
+#[tactic(auto, using(crate::proofs::SortLaws::begins, crate::proofs::SortLaws::skips_line, crate::proofs::SortLaws::keeps_line, crate::proofs::SortLaws::collected, crate::proofs::SortLaws::all_read, crate::proofs::SortLaws::refused_next, crate::proofs::SortLaws::of_output))]
 fn collect<F: Files, R: BufRead>(
     files: &F,
     alloc: Global,
@@ -265,7 +266,7 @@ fn collect<F: Files, R: BufRead>(
 ) -> Result<u64, SortError>
     ensures collected { OnOk result (stack.new.runs.items ≡ [] →
         HasCollected options.now.form (R.remaining input.old) batch.old.lines.items batch.new.lines.items) }
-    ensures read { OnOk result (IfSome (R.remaining input.old) (AreInputLines options.now.form)) }
+    ensures read { IfOk result (λ steps. IfSome (R.remaining input.old) (HaveSteps options.now.form steps)) }
     ensures stored { OnOk result (stack.new.runs.items ≢ [] → (stack.old.runs.items ≢ [] → 1 ≤ stack.old.stored) → 1 ≤ stack.new.stored) }
     ensures refused { IfErr result (RefusesFirstFault options.now.form (R.remaining input.old)) }
 {
@@ -295,7 +296,7 @@ fn merge_all<F: Files, W: Write>(
 ) -> Result<(), SortError>
     ensures failed { IfErr result IsOfOutput }
     ensures stored { stack.old.stored ≤ stack.new.stored }
-    ensures written { OnOk result (WritesSomeLines (W.contents output.old) (W.contents output.new) page.old) }
+    ensures written { OnOk result (WritesSomeLines (W.contents output.old) (W.contents output.new) page.old page.new) }
 {
     let ways = options.ways.max(2);
     for _ in 0..u64::MAX {
@@ -315,7 +316,7 @@ fn merge_all<F: Files, W: Write>(
 /// Reads all lines before it writes the first byte, so a refused trace leaves the output as it was. Uses temporary
 /// files in the given folder if the lines do not fit into memory, and leaves none behind, however it ends. Does not
 /// flush the output.
-#[tactic(auto, using(crate::proofs::SortLaws::sorted_into, crate::proofs::SortLaws::numbered_in_order, crate::proofs::SortLaws::numbered_some, crate::proofs::SortLaws::of_output))]
+#[tactic(auto, using(crate::proofs::SortLaws::sorted_into, crate::proofs::SortLaws::numbered_in_order, crate::proofs::SortLaws::numbered_some, crate::proofs::SortLaws::steps_in_order, crate::proofs::SortLaws::of_output))]
 pub fn sort_trace<F: Files, R: BufRead, W: Write>(
     files: &F,
     alloc: Global,
@@ -325,11 +326,13 @@ pub fn sort_trace<F: Files, R: BufRead, W: Write>(
 ) -> Result<SortReport, SortError>
     // If a line is refused or a read fails, the output is unchanged.
     ensures unchanged { IfErr result (λ e. is_input_error e ≡ true → output.new ≡ output.old) }
-    // Only a trace without a faulty line is sorted, and a refusal names the first one and its fault.
-    ensures read { OnOk result (IfSome (R.remaining input.old) (AreInputLines options.now.form)) }
+    // Only a trace without a faulty line is sorted, and as many lines are reported as it has. A refusal names the first
+    // faulty line and its fault.
+    ensures read { IfOk result (λ report. IfSome (R.remaining input.old) (HaveSteps options.now.form report.steps)) }
     ensures refused { IfErr result (RefusesFirstFault options.now.form (R.remaining input.old)) }
-    // Whatever the temporary files gave back, the text has the header, and each of its lines the index that is due.
-    ensures numbered { OnOk result (IsNumberedInto (W.contents output.old) (W.contents output.new)) }
+    // Whatever the temporary files gave back, the text has the header and as many lines as are reported, each with the
+    // index that is due. As many keys are reported as lines have the index 1.
+    ensures numbered { IfOk result (IsNumberedInto (W.contents output.old) (W.contents output.new)) }
     // If no run was made, the lines were written in order.
     ensures sorted { IfOk result (λ report. report.runs ≡ 0 → IfSome (R.remaining input.old)
         (IsSortedInto options.now.form (W.contents output.old) (W.contents output.new))) }

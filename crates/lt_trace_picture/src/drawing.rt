@@ -11,7 +11,8 @@ pub(crate) struct Area {
     pub height: u64,
 }
 
-/// Appends the bytes as they are.
+/// Appends the bytes as they are. It is inlined, since most of them are constants.
+#[inline(always)]
 pub(crate) fn put(out: &mut Vec<u8>, bytes: &[u8]) -> Result<(), AllocError> {
     out.extend_from_slice(bytes)
 }
@@ -23,6 +24,7 @@ fn start_element(out: &mut Vec<u8>, start: &[u8], class: &[u8]) -> Result<(), Al
 }
 
 /// Appends what stands before a number, and the number. Many attributes are written so, each with one more piece alone.
+#[inline(always)]
 pub(crate) fn put_with_number(
     out: &mut Vec<u8>,
     before: &[u8],

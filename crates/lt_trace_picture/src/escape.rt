@@ -26,7 +26,8 @@ fn hex_digit(b: u8) -> u8
     }
 }
 
-/// Appends the byte, or `\xHH` if it is not printable ASCII.
+/// Appends the byte, or `\xHH` if it is not printable ASCII. It is inlined: almost every byte is printable.
+#[inline(always)]
 fn put_printable_byte(out: &mut Vec<u8>, b: u8) -> Result<(), AllocError>
     ensures { OnOk result (out.new.items ≡ out.old.items ++ printable_byte b) }
 {

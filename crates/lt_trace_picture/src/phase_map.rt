@@ -30,40 +30,47 @@ fn writer_phase(writer: &QueuedWriter) -> Phase
     }
 }
 
-/// Puts the phase of the request with this number, unless the map has one.
-fn put_if_new(phases: &mut PhaseMap, number: u64, phase: Phase) -> Result<(), AllocError>
+/// Puts the phase of the request with this number, in place of the one that the map has.
+fn put_phase(phases: &mut PhaseMap, number: u64, phase: Phase) -> Result<(), AllocError>
     ensures { OnOk result ((n : ℕ) → get nat_cmp phases.new n ≡
-        option_or (get nat_cmp phases.old n) (cond (nat_eq number n) (Some phase) None)) }
+        option_or (cond (nat_eq number n) (Some phase) None) (get nat_cmp phases.old n)) }
 {
-    if phases.contains_key(&number) {
-        return Ok(());
-    }
     phases.insert(number, phase)?;
     Ok(())
 }
 
-/// Puts the phases of the writers that the map does not have.
+/// Puts the phases of the writers, in place of those that the map has. It begins with the last one. So the first one of a
+/// number stays, and numbers that rise along the queue come in falling order, for which the map finds the place at once.
 fn put_writers(phases: &mut PhaseMap, writers: &[QueuedWriter]) -> Result<(), AllocError>
     ensures { OnOk result ((n : ℕ) → get nat_cmp phases.new n ≡
-        option_or (get nat_cmp phases.old n) (option_map writer_phase (find (λ w. nat_eq (writer_number w) n) writers.now))) }
+        option_or (option_map writer_phase (find (λ w. nat_eq (writer_number w) n) writers.now)) (get nat_cmp phases.old n)) }
 {
-    for writer in writers {
-        put_if_new(phases, writer.request.ticket.number(), writer_phase(writer))?;
+    let mut left = writers.len();
+    while 0 < left {
+        left -= 1;
+        let writer = &writers[left];
+        put_phase(phases, writer.request.ticket.number(), writer_phase(writer))?;
     }
     Ok(())
 }
 
-/// Puts the phases of the readers that the map does not have.
+/// The phase of a reader.
+fn reader_phase(reader: &QueuedRequest) -> Phase
+    ensures { result ≡ reader_phase reader.now }
+{
+    Phase::Waits(reader.ticket.wait())
+}
+
+/// Puts the phases of the readers, as [`put_writers`] does.
 fn put_readers(phases: &mut PhaseMap, readers: &[QueuedRequest]) -> Result<(), AllocError>
     ensures { OnOk result ((n : ℕ) → get nat_cmp phases.new n ≡
-        option_or (get nat_cmp phases.old n) (option_map reader_phase (find (λ q. nat_eq (number_of q) n) readers.now))) }
+        option_or (option_map reader_phase (find (λ q. nat_eq (number_of q) n) readers.now)) (get nat_cmp phases.old n)) }
 {
-    for reader in readers {
-        put_if_new(
-            phases,
-            reader.ticket.number(),
-            Phase::Waits(reader.ticket.wait()),
-        )?;
+    let mut left = readers.len();
+    while 0 < left {
+        left -= 1;
+        let reader = &readers[left];
+        put_phase(phases, reader.ticket.number(), reader_phase(reader))?;
     }
     Ok(())
 }
@@ -73,8 +80,8 @@ fn map_of(alloc: Global, state: &KeyState) -> Result<PhaseMap, AllocError>
     ensures { IfOk result (λ phases. IsPhaseMap phases state.now) }
 {
     let mut phases = BTreeMap::new(alloc);
-    put_writers(&mut phases, &state.writers)?;
     put_readers(&mut phases, &state.readers)?;
+    put_writers(&mut phases, &state.writers)?;
     Ok(phases)
 }
 

@@ -35,7 +35,7 @@ fn cells_line(alloc: Global, width: usize, step: Option<&ShownStep>) -> Result<V
 {
     let widths = widths(width);
     let mut line = Vec::with_capacity(alloc, width)?;
-    let mut cell = Vec::new(alloc);
+    let mut cell = Vec::with_capacity(alloc, width)?;
     for column in 0..COLUMNS {
         make_cell(&mut cell, step, column)?;
         put_cell(&mut line, &cell, widths[column])?;

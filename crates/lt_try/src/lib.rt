@@ -7,7 +7,8 @@
 //! gives ([`TryError`]).
 //!
 //! Read next `src/slot.rt` (the shard in its slot), `src/table.rt` (how a call makes one key step) and
-//! `src/requests.rt` (how a request enters, scans and leaves).
+//! `src/requests.rt` (how a request enters, scans and leaves). `src/seats.rt` says how the passes of a table come back if its
+//! callers hold it by shares.
 #![tactic(auto)]
 
 mod closing;
@@ -18,6 +19,7 @@ mod linked;
 mod locking;
 mod opening;
 mod requests;
+mod seats;
 mod slot;
 mod table;
 mod taking;
@@ -32,4 +34,5 @@ pub use lt_walk::{
     prepare_with,
 };
 pub use lt_words::{Keeping, Pass, Waker, abandon_all};
+pub use seats::Seats;
 pub use table::TryTable;

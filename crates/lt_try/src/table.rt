@@ -1,5 +1,5 @@
 //! What is a table whose callers never wait, and how does a call make one key step? Read next `src/requests.rt`.
-ghost use Rattle.std.specs.Prelude.{◌≡◌, ◌<◌, IfOk, IfErr, OnErr, IfSome};
+ghost use Rattle.std.specs.Prelude.{◌≡◌, ◌≤◌, ◌<◌, IfOk, IfErr, OnErr, IfSome};
 ghost use Rattle.lt_entry.specs.Ranges.{NamesNumber};
 ghost use Rattle.lt_words.specs.History.{shard_of};
 ghost use Rattle.lt_words.specs.Row.{awoken};
@@ -13,7 +13,7 @@ use lt_ids::Key;
 use lt_rules::{Call, KeyTable};
 use lt_shard::{Answer, EmptyTables};
 use lt_walk::{Config, KeySteps};
-use lt_words::{Book, Pass, Waker, shard_of};
+use lt_words::{Book, Keeping, Pass, Waker, shard_of};
 use std::marker::Model;
 
 /// A lock table that callers share, and whose calls never wait. `T` keeps the records of a shard's keys, `M` makes empty
@@ -82,6 +82,22 @@ impl<T: KeyTable + Drop, M: EmptyTables<T>, W: Waker> TryTable<T, M, W> {
         ensures below { result < self.now.of.shards }
     {
         shard_of(key, self.slots.len())
+    }
+
+    /// How many passes the table has, from 1 to 1024.
+    pub fn passes(&self) -> usize
+        ensures passes { result ≡ self.now.config.passes }
+        ensures same { result ≡ self.now.of.passes }
+        ensures few { result ≤ 1024 }
+    {
+        self.config.passes
+    }
+
+    /// How the table keeps its steps.
+    pub fn keeping(&self) -> Keeping
+        ensures { result ≡ self.now.of.keeping }
+    {
+        self.book.keeping()
     }
 
     /// Takes the shard with this index out of its slot, if no other caller is in it.

@@ -1,14 +1,16 @@
 -- Keys are in the order of their ranks, if the ranks differ.
-use Rattle.std.proofs.Common.{◌≡◌, ◌<◌, ◌+◌, ◌*◌, ℕ, zero, suc, List, [], ◌∷◌, refl, sym, ap, subst, ◌∙◌, arith}
+use Rattle.std.proofs.Common.{◌≡◌, ◌<◌, ◌≤◌, ◌+◌, ◌*◌, ◌%◌, length, ℕ, zero, suc, List, [], ◌∷◌, refl, sym, ap, subst, ◌∙◌, arith}
 use Rattle.std.specs.Prelude.{All, IsTrue}
 use Rattle.std.specs.declared.cmp.Ordering.{Ordering}
 use Rattle.std.specs.declared.cmp.Ordering.TheVariants.{Less, Equal, Greater}
 use Rattle.std.specs.Ordering.{nat_cmp, ordering_then, ordering_reverse, MatchOrdering}
-use Rattle.std.specs.Cmp.{ranks}
+use Rattle.std.specs.Cmp.{ranks, Equal-is}
 use Rattle.std.specs.Cmp.Lexicographic.{slice_cmp}
 use Rattle.std.proofs.lemmas.Cmp.{nat_list_cmp_total}
 use Rattle.std.proofs.Common.{leb}
 use Rattle.std.proofs.lemmas.Bool.{leb-true, and_parts}
+use Rattle.std.proofs.lemmas.Map.Text.{is_eq-slice_cmp}
+use Rattle.std.proofs.lemmas.Slice.Eq.{bytes_eq-Decides}
 use Rattle.lt_ids.specs.Key.{IsKey, is_key_byte}
 use Rattle.lt_writer.specs.Rank.{byte_or_0, rank_of}
 
@@ -148,3 +150,74 @@ small_bytes (x ∷ xs) h (suc k) = small_bytes xs (λ i d lt. h (suc i) d (omega
 -- If the ranks of two keys differ, the keys compare as the ranks do.
 pub keys_by_rank : (xs ys : List ℕ) (r : Ordering) → IsKey xs → IsKey ys → r ≡ nat_cmp (rank_of xs) (rank_of ys) → (r ≡ Equal → ⊥) → slice_cmp nat_cmp xs ys ≡ r
 keys_by_rank xs ys r f g = by_rank xs ys r (small_bytes xs f.each) (small_bytes ys g.each)
+
+-- ---- a rank that spells a whole key
+
+abbrev AreKeyBytes : List ℕ → Type 0
+AreKeyBytes xs = All (λ b. IsTrue (is_key_byte b)) xs
+
+key_rest : (x : ℕ) (xs : List ℕ) → AreKeyBytes (x ∷ xs) → AreKeyBytes xs
+key_rest x xs h = λ i d lt. h (suc i) d (omega arith)
+
+no_zero : (x : ℕ) (xs : List ℕ) → AreKeyBytes (x ∷ xs) → 0 < x
+no_zero x xs h =
+    let le = leb-true 33 x (and_parts (leb 33 x) (leb x 126) (h 0 x (omega arith))).0 in
+    omega arith
+
+-- A key ends where its first zero byte would stand.
+ends : (k : ℕ) (xs : List ℕ) → AreKeyBytes xs → byte_or_0 xs k ≡ 0 → length xs ≤ k
+ends k [] h e = omega arith
+ends zero (x ∷ xs) h e =
+    let some : 0 < x = no_zero x xs h in
+    let none : x ≡ 0 = e in
+    absurd (omega arith)
+ends (suc k) (x ∷ xs) h e =
+    let rest : length xs ≤ k = ends k xs (key_rest x xs h) e in
+    omega arith
+
+same_head : (n a x y : ℕ) (xs ys : List ℕ) → AreBytes xs → AreBytes ys → spelt (a * 256 + x) n xs ≡ spelt (a * 256 + y) n ys → (r : Ordering) → MatchOrdering r (x < y) (x ≡ y) (y < x) → x ≡ y
+same_head n a x y xs ys f g e Equal h = h
+same_head n a x y xs ys f g e Less h =
+    let under : x < y = h in
+    let less : spelt (a * 256 + x) n xs < spelt (a * 256 + y) n ys = rises n (a * 256 + x) (a * 256 + y) xs ys f (omega arith) in
+    absurd (omega (arith, e, less))
+same_head n a x y xs ys f g e Greater h =
+    let over : y < x = h in
+    let more : spelt (a * 256 + y) n ys < spelt (a * 256 + x) n xs = rises n (a * 256 + y) (a * 256 + x) ys xs g (omega arith) in
+    absurd (omega (arith, e, more))
+
+-- Keys of at most n bytes that are spelt alike are the same.
+same_spelt : (n a : ℕ) (xs ys : List ℕ) → AreKeyBytes xs → AreKeyBytes ys → length xs ≤ n → length ys ≤ n → spelt a n xs ≡ spelt a n ys → xs ≡ ys
+same_spelt n a [] [] f g lx ly e = refl
+same_spelt zero a [] (y ∷ ys) f g lx ly e = absurd (omega arith)
+same_spelt zero a (x ∷ xs) ys f g lx ly e = absurd (omega arith)
+same_spelt (suc n) a [] (y ∷ ys) f g lx ly e =
+    let some : 0 < y = no_zero y ys g in
+    let more : spelt (a * 256) n [] < spelt (a * 256 + y) n ys = rises n (a * 256) (a * 256 + y) [] ys no_bytes (omega arith) in
+    absurd (omega (arith, e, more))
+same_spelt (suc n) a (x ∷ xs) [] f g lx ly e =
+    let some : 0 < x = no_zero x xs f in
+    let more : spelt (a * 256) n [] < spelt (a * 256 + x) n xs = rises n (a * 256) (a * 256 + x) [] xs no_bytes (omega arith) in
+    absurd (omega (arith, e, more))
+same_spelt (suc n) a (x ∷ xs) (y ∷ ys) f g lx ly e =
+    let rest_f = key_rest x xs f in
+    let rest_g = key_rest y ys g in
+    let head : x ≡ y = same_head n a x y xs ys (small_bytes xs rest_f) (small_bytes ys rest_g) e (nat_cmp x y) (ranks x y) in
+    let tail : xs ≡ ys = same_spelt n (a * 256 + x) xs ys rest_f rest_g (omega arith) (omega arith) (subst (λ (z : ℕ). spelt (a * 256 + x) n xs ≡ spelt (a * 256 + z) n ys) (sym head) e) in
+    ap (λ (zs : List ℕ). x ∷ zs) tail ∙ ap (λ (z : ℕ). z ∷ ys) head
+
+-- A key whose rank ends in a zero byte has at most seven bytes.
+seven : (xs : List ℕ) → IsKey xs → rank_of xs % 256 ≡ 0 → length xs ≤ 7
+seven xs f e =
+    let small : byte_or_0 xs 7 < 256 = small_bytes xs f.each 7 in
+    let sum = rank_sum xs in
+    ends 7 xs f.each (omega (arith, small, sum, e))
+
+-- Keys of the same rank are the same, if the rank ends in a zero byte.
+pub same_rank : (xs ys : List ℕ) (r : Ordering) → IsKey xs → IsKey ys → r ≡ nat_cmp (rank_of xs) (rank_of ys) → r ≡ Equal → rank_of xs % 256 ≡ 0 → slice_cmp nat_cmp xs ys ≡ Equal
+same_rank xs ys r f g e equal zero_end =
+    let same : rank_of xs ≡ rank_of ys = subst (λ (o : Ordering). MatchOrdering o (rank_of xs < rank_of ys) (rank_of xs ≡ rank_of ys) (rank_of ys < rank_of xs)) (sym e ∙ equal) (ranks (rank_of xs) (rank_of ys)) in
+    let short_x : length xs ≤ 7 = seven xs f zero_end in
+    let short_y : length ys ≤ 7 = seven ys g (subst (λ (n : ℕ). n % 256 ≡ 0) same zero_end) in
+    let keys : xs ≡ ys = same_spelt 8 0 xs ys f.each g.each (omega arith) (omega arith) (sym (rank_is xs) ∙ (same ∙ rank_is ys)) in
+    (Equal-is (slice_cmp nat_cmp xs ys)).0 (is_eq-slice_cmp xs ys ∙ (bytes_eq-Decides xs ys).1 keys)

@@ -3,7 +3,7 @@
 //! [`put_histories`] collects the entries of all shards, sorts them by key without changing the order within a key,
 //! and writes one line for each. [`compose`] does the same into a new vector. Read next: `specs/Histories.antt`,
 //! which defines the text of a list of entries, and `printer.rt`, which writes it to a stream.
-ghost use Rattle.std.specs.Prelude.{◌≡◌, ◌+◌, ◌<◌, ◌≤◌, ◌^◌, ◌++◌, ◌∷◌, [], OnOk, IfOk, map, length};
+ghost use Rattle.std.specs.Prelude.{◌≡◌, IsTrue, ◌%◌, ◌+◌, ◌<◌, ◌≤◌, ◌^◌, ◌++◌, ◌∷◌, [], OnOk, IfOk, map, length};
 ghost use Rattle.std.specs.List.{flat_map};
 ghost use Rattle.lt_text.specs.Compose.{spaced};
 ghost use Rattle.lt_text.specs.Fields.{ticket_word};
@@ -69,6 +69,13 @@ fn with_rank<'a>(entry: &'a Entry) -> Ranked<'a>
     Ranked { rank, entry }
 }
 
+/// Whether the rank spells a whole key: its last byte is 0, and no byte of a key is.
+fn is_whole(rank: u64) -> bool
+    ensures { IsTrue result → rank % 256 ≡ 0 }
+{
+    rank % 256 == 0
+}
+
 /// Compares two keys, of which most are equal.
 fn compare_keys(a: &Key, b: &Key) -> Ordering
     ensures { result ≡ slice_cmp nat_cmp a.now b.now }
@@ -76,11 +83,13 @@ fn compare_keys(a: &Key, b: &Key) -> Ordering
     if a == b { Ordering::Equal } else { a.cmp(b) }
 }
 
-/// Compares two entries by key: by their ranks first, and by the whole keys if the ranks are equal.
+/// Compares two entries by key: by their ranks first. Keys of the same rank are the same if the rank ends in a zero byte,
+/// because then it spells both whole. Otherwise the keys are compared.
 fn compare(a: &Ranked, b: &Ranked) -> Ordering
     ensures { result ≡ slice_cmp nat_cmp a.now.entry.now.key b.now.entry.now.key }
 {
     match a.rank.cmp(&b.rank) {
+        Ordering::Equal if is_whole(a.rank) => Ordering::Equal,
         Ordering::Equal => compare_keys(a.entry.key(), b.entry.key()),
         unequal => unequal,
     }

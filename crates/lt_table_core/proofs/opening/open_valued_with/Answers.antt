@@ -3,7 +3,7 @@ use Rattle.lt_words.specs.Row.{Opening}
 use Rattle.lt_walk.specs.declared.config.Config.{Config}
 use Rattle.lt_walk.specs.Configs.{IsOpened}
 use Rattle.lt_walk.proofs.Noted.{handed_are_of}
-use Rattle.lt_table_core.proofs.opening.open_with.Goals as goal
+use Rattle.lt_table_core.proofs.opening.open_valued_with.Goals as goal
 
 pub slots_over-requires-clause-many : goal.slots_over-requires-clause-many
 slots_over-requires-clause-many g c = c.requires.many

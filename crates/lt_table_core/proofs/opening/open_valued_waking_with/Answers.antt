@@ -2,7 +2,7 @@ use Rattle.std.proofs.Common.{◌∙◌, ap, length, subst, sym}
 use Rattle.std.specs.List.{All}
 use Rattle.lt_words.specs.Row.{AreNoting, OwesNoWakeUp}
 use Rattle.lt_walk.proofs.Noted.{fresh_owe_none, many_fresh, quiet_are_of}
-use Rattle.lt_table_core.proofs.opening.open_waking_with.Goals as goal
+use Rattle.lt_table_core.proofs.opening.open_valued_waking_with.Goals as goal
 
 pub noting_lets-requires : goal.noting_lets-requires
 noting_lets-requires g c =

@@ -1,0 +1,6 @@
+mod Knows
+mod Freed
+mod Draws
+mod Learning
+mod Logged
+mod InOrder

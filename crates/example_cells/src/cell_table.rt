@@ -1,0 +1,98 @@
+//! What is a table with cells? Read next `src/taking.rt`, how a transaction takes a lock and reads the key.
+ghost use Rattle.std.specs.Prelude.{◌≡◌, List, IfOk};
+ghost use Rattle.lt_entry.specs.declared.entry.Entry.{Entry};
+ghost use Rattle.lt_words.specs.History.{part, shard_of};
+ghost use Rattle.lt_words.specs.Row.{SeesMore};
+ghost use Rattle.lt_words.specs.declared.keeping.Keeping.TheVariants.{Unrecorded};
+ghost use Rattle.example_cells.specs.Knowing.{CellMap, CellsKnow, ReadsCell, cell_at};
+
+use crate::cell::{CellReading, Put};
+use crate::cells::Cells;
+use lt_ids::Key;
+use lt_rules::KeyTable;
+use lt_table_core::Table;
+use lt_words::{Name, Pass};
+use std::alloc::{AllocError, Global};
+use std::sync::Wait;
+
+/// A lock table that has the [`Cells`] of each shard's keys beside the shard. It stores no steps: so no transaction that
+/// gives up its locks is ever refused.
+#[derive(Drop)]
+pub struct CellTable<N: Name, T: KeyTable> {
+    pub(crate) alloc: Global,
+    /// The locks.
+    pub table: Table<N, T, (), Cells>,
+    pub ghost keeping: { N.of.keeping ≡ Unrecorded },
+}
+
+impl<N: Name, T: KeyTable> CellTable<N, T> {
+    /// A table with cells. Readings allocate from `alloc`.
+    pub fn new(alloc: Global, table: Table<N, T, (), Cells>) -> CellTable<N, T>
+        requires { N.of.keeping ≡ Unrecorded }
+    {
+        CellTable { alloc, table }
+    }
+
+    /// The allocator of the readings.
+    pub fn alloc(&self) -> Global {
+        self.alloc
+    }
+
+    /// Ghost call: tells the prover that the table stores no steps.
+    pub(crate) fn stores_none(&self)
+        ensures { N.of.keeping ≡ Unrecorded }
+    {}
+
+    /// The lock table, to be closed. The values are gone.
+    pub fn into_table(self) -> Table<N, T, (), Cells> {
+        let CellTable { table, .. } = self;
+        table
+    }
+
+    /// Gives the key this value, whoever holds its lock: for a store that fills its keys before transactions begin. The only
+    /// error is that memory ran out. Then nothing has changed.
+    pub fn load<R: Wait>(
+        &self,
+        rt: &R,
+        pass: &mut Pass,
+        key: &Key,
+        value: Put,
+    ) -> Result<(), AllocError>
+        requires of { pass.old.of ≡ N.of }
+        ensures more { SeesMore pass.old pass.new }
+    {
+        self.table.change_value(
+            rt,
+            pass,
+            key,
+            |cells: &mut Cells| -> Result<(), AllocError>
+                ensures { (es : List Entry) → CellsKnow es cells.old.map → CellsKnow es cells.new.map }
+            { cells.load(key, value) },
+        )
+    }
+
+    /// Reads the key as all steps of its shard have left it: the value of the transaction whose tenure of the lock ended
+    /// last. Takes no lock and waits for no transaction, so two reads of one transaction may differ (read committed). The
+    /// only error is that memory ran out.
+    pub fn read<R: Wait>(
+        &self,
+        rt: &R,
+        pass: &mut Pass,
+        key: &Key,
+    ) -> Result<CellReading, AllocError>
+        requires of { pass.old.of ≡ N.of }
+        ensures more { SeesMore pass.old pass.new }
+        ensures read { IfOk result (λ r. (cells : CellMap)
+            × CellsKnow (part (shard_of key.now N.of.shards) pass.new.seen) cells × ReadsCell (cell_at cells key.now) r) }
+    {
+        let alloc = self.alloc;
+        self.table.value(
+            rt,
+            pass,
+            key,
+            |cells: &Cells| -> Result<CellReading, AllocError>
+                ensures { IfOk result (λ r. ReadsCell (cell_at cells.now.map key.entry.now) r) }
+            { cells.read(alloc, key) },
+        )
+    }
+}
