@@ -7,20 +7,16 @@ use Rattle.std.proofs.lemmas.List.{take-append-drop, take-append-le}
 use mathlib.Core.List.{IsPrefix}
 use Rattle.lt_ids.specs.declared.timestamp.Timestamp.{Timestamp}
 use Rattle.lt_rules.specs.declared.call.Call.{Call}
-use Rattle.lt_rules.specs.declared.call.Call.TheVariants.{Acquire, Finish}
 use Rattle.lt_rules.specs.declared.call.Reply.{Reply}
-use Rattle.lt_rules.specs.declared.call.Reply.TheVariants.{Freed, Taken}
-use Rattle.lt_rules.specs.Step.{is_freed}
 use Rattle.lt_entry.specs.declared.entry.Entry.{Entry}
 use Rattle.lt_words.specs.declared.event.Event.{Event}
 use Rattle.lt_words.specs.History.{part, shard_of}
 use Rattle.lt_words.specs.Laws.{PartsBegin}
-use Rattle.lt_shard.specs.declared.answer.Answer.{Answer}
-use Rattle.lt_tenure.specs.Tenure.{Tenure, IsTenure, IsHeldAt}
+use Rattle.lt_tenure.specs.Tenure.{IsTenure, IsHeldAt}
 use Rattle.lt_tenure.specs.Laws.{TenureLasts, TenuresStay}
 use Rattle.example_cells.specs.declared.cell.Cell.{Cell}
 use Rattle.example_cells.specs.declared.cell.PastTenure.{PastTenure}
-use Rattle.example_cells.specs.Knowing.{Put, installed, CellMap, cell_at, last_of, tenure_of, Knows, CellKnows, CellsKnow, InstallsAt}
+use Rattle.example_cells.specs.Knowing.{Put, installed, CellMap, cell_at, last_of, tenure_of, CellKnows, CellsKnow, InstallsAt}
 use Rattle.example_cells.specs.Committing.{step_outcome, IsTakenAt, tenure_of_lock, Installs, IsFreed, LeavesValue}
 use Rattle.example_cells.specs.declared.committed.LockTenure.{LockTenure}
 

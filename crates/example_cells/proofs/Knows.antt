@@ -11,7 +11,6 @@ use Rattle.lt_rules.specs.declared.call.Reply.{Reply}
 use Rattle.lt_rules.specs.Step.{is_taken, is_freed}
 use Rattle.lt_entry.specs.declared.entry.Entry.{Entry}
 use Rattle.lt_entry.specs.Legal.{AreLegalKeys}
-use Rattle.lt_words.specs.History.{MayFollow}
 use Rattle.lt_shard.specs.declared.answer.Answer.{Answer}
 use Rattle.lt_shard.specs.Shards.{entry_of}
 use Rattle.lt_tenure.specs.Tenure as tenure

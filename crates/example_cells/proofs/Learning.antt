@@ -1,5 +1,5 @@
 -- What a pass has learned of all locks of a transaction, and that their tenures are around one moment.
-use Rattle.std.proofs.Common.{◌≡◌, ℕ, ◌+◌, ◌<◌, List, [], ◌∷◌, ◌++◌, Option, length, take, map, refl, sym, subst, ◌∙◌}
+use Rattle.std.proofs.Common.{◌≡◌, ℕ, ◌+◌, ◌<◌, List, [], ◌∷◌, Option, length, take, map, refl, sym, subst, ◌∙◌}
 use Rattle.std.specs.List.{All, AllZip, AllByRecursion}
 use Rattle.std.proofs.lemmas.List.{take_more, append-nil}
 use lib.ListN.{get_or}

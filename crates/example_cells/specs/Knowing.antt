@@ -1,5 +1,5 @@
 -- What the cells beside a shard say of the shard's steps.
-use Rattle.std.specs.Prelude.{ℕ, ◌≡◌, false, unwrap_or, MatchOption, if◌then◌else◌, Option, Some, None, IfSome, IsSome, List, [], ◌∷◌, ◌++◌, length}
+use Rattle.std.specs.Prelude.{ℕ, ◌≡◌, false, unwrap_or, MatchOption, if◌then◌else◌, Option, Some, None, IfSome, IsSome, List}
 use Rattle.std.specs.Option.{option_map}
 use Rattle.std.specs.Str.{bytes_eq}
 use Rattle.std.specs.HashMap as hash
@@ -10,7 +10,6 @@ use Rattle.lt_rules.specs.declared.call.Call.TheVariants.{Visit, Acquire, Update
 use Rattle.lt_rules.specs.declared.call.Reply.{Reply}
 use Rattle.lt_rules.specs.Step.{is_taken, is_freed}
 use Rattle.lt_entry.specs.declared.entry.Entry.{Entry}
-use Rattle.lt_entry.specs.Legal.{AreLegalKeys}
 use Rattle.lt_links.specs.declared.hashing.KeyHashing.{KeyHashing}
 use Rattle.lt_tenure.specs.Tenure as tenure
 use Rattle.lt_tenure.specs.Tenure.{owner_with, lock_owner, last_freed, Tenure, IsTenure}

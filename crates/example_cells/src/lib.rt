@@ -5,6 +5,9 @@
 //! step of the shard. So the cell of a key knows, of all steps of the shard, who owns the key's lock, and whose tenure of it
 //! ended last.
 //!
+//! The table must be one that stores no steps (`keeping` of [`CellTable`]), because only such a table never refuses a finish.
+//! What follows holds of these tables.
+//!
 //! ```text
 //!   steps of the key   0: acquire by 1   1: finish by 1   2: acquire by 2   3: finish by 2
 //!   value              none              a                a                 b
@@ -25,22 +28,26 @@
 //!
 //! - **Each read under a lock** is of the cells after exactly the steps of the shard up to its acquire (`read` of
 //!   [`CellTable::take`]).
-//! - **Each commit** held all of its locks at one moment of the table's history, the one at which it began, each without a
-//!   break from the step that took it to the step that freed it (`IsCommit` in `specs/Committing.antt`).
+//! - **Each commit** that returns `Some` held all of its locks at one moment of the table's history, the one at which it
+//!   began, each without a break from the step that took it to the step that freed it (`IsCommit` in
+//!   `specs/Committing.antt`).
 //! - **All transactions of a run went one after the other**: the logs of all passes have an order of their transactions in
 //!   which, at every key that two of them share, the earlier one freed the lock before the later one took it
 //!   ([`commits_went_in_order`]). Its premises are a legal history that has all that the passes have seen, such as a close
 //!   of the table tells, and that the logs are of different passes.
 //! - **What a commit put is the key's value** before anybody else can see the key (`freed` of [`CellTable::commit`]), and an
-//!   abort leaves the value as it is (`leaves` of [`CellTable::abort`]).
+//!   abort that returns true leaves the value as it is (`leaves` of [`CellTable::abort`]).
 //! - **No two transactions have one name**: each drew its own (`DrewIn` in `IsCommit`).
 //!
 //! # What is not proved
 //!
-//! No clause ties the value of one critical section to that of the next one at the same key. That nothing but a commit and
-//! [`CellTable::load`] changes a value, each of these calls keeps, and no contract says it of all of them. The test in
-//! `example_cells_tests` reads what was left. Nothing here waits for a lock: a store that has requests waits before it takes one.
-//! And [`CellTable::read`], which takes no lock, is read committed.
+//! No clause ties the value of one critical section to that of the next one at the same key. The clauses on values (`read`,
+//! `freed`, `leaves`) speak of some cells that know the steps. That these are the table's own is in the bodies, which change
+//! and read what the calls of `lt_table_core::Table` lend them. Only a commit and [`CellTable::load`] change a value: each
+//! call is written so, and no contract says it of all of them. The test in `example_cells_tests` reads what was left.
+//!
+//! Nothing here waits for a lock: a store that has requests waits before it takes one. And [`CellTable::read`], which takes
+//! no lock, is read committed.
 //!
 //! Read in this order: `src/cell.rt`, `src/cells.rt`, `src/taking.rt`, `src/freeing.rt`, `src/committing.rt`, `src/log.rt`.
 #![tactic(auto)]

@@ -1,4 +1,4 @@
--- The steps that a shard has made, as a beginning of the shard's part of what a pass has seen.
+-- The steps that a shard has made, as a prefix of the shard's part of what a pass has seen.
 use Rattle.std.proofs.Common.{◌≡◌, ℕ, ◌+◌, List, [], ◌∷◌, ◌++◌, length, take, sym, ap, ◌∙◌, arith, length-append}
 use Rattle.std.proofs.lemmas.List.{take-append-le, take_all}
 use mathlib.Core.List.{IsPrefix}

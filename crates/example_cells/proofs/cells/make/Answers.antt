@@ -1,4 +1,4 @@
-use Rattle.std.proofs.Common.{◌≡◌, ◌∙◌, sym, subst, List, ℕ, cond, Some, false}
+use Rattle.std.proofs.Common.{◌≡◌, ◌∙◌, sym, subst, List, ℕ, cond, Some}
 use Rattle.std.specs.Str.{bytes_eq}
 use Rattle.example_cells.specs.Knowing.{cell_at}
 use Rattle.example_cells.proofs.Knows.{none_of, made_knows}

@@ -1,4 +1,4 @@
-use Rattle.std.proofs.Common.{◌≡◌, rules}
+use Rattle.std.proofs.Common.{rules}
 use Rattle.example_cells.specs.declared.held.HeldLock.{HeldLock}
 use Rattle.example_cells.specs.Committing.{LeavesValue}
 use Rattle.example_cells.proofs.Freed.{followed, every_more, leaves_on}

@@ -1,8 +1,6 @@
-use Rattle.std.proofs.Common.{◌≡◌, sym, subst, ◌∙◌}
+use Rattle.std.proofs.Common.{sym, subst}
 use Rattle.std.specs.List.{AllZip}
 use mathlib.Core.List.{IsPrefix}
-use Rattle.lt_words.specs.History.{draws_of, DrewIn}
-use Rattle.lt_tenure.specs.Tenure.{IsTwoPhase}
 use Rattle.example_cells.specs.declared.held.HeldLock.{HeldLock}
 use Rattle.example_cells.specs.declared.committed.LockTenure.{LockTenure}
 use Rattle.example_cells.specs.Committing.{IsFreed}

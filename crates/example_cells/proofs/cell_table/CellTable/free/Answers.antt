@@ -2,7 +2,6 @@ use Rattle.std.proofs.Common.{◌≡◌, ◌≤◌, ◌+◌, Some, length, take,
 use Rattle.lt_words.specs.History.{part, shard_of}
 use Rattle.example_cells.specs.declared.cells.Cells.{Cells}
 use Rattle.example_cells.specs.Knowing.{last_of, cell_at, CellsKnow, InstallsAt}
-use Rattle.example_cells.specs.Committing.{Installs}
 use Rattle.example_cells.proofs.Freed.{was_held, installs, if_freed, at_some, some_at}
 use Rattle.example_cells.proofs.cell_table.CellTable.free.Goals as goal
 

@@ -1,4 +1,4 @@
-use Rattle.std.proofs.Common.{◌≡◌, None, sym, ◌∙◌}
+use Rattle.std.proofs.Common.{None, sym, ◌∙◌}
 use Rattle.lt_words.specs.History.{part, shard_of}
 use Rattle.lt_tenure.specs.Tenure.{IsHeldAt}
 use Rattle.example_cells.specs.Committing.{Installs}

@@ -1,4 +1,4 @@
-use Rattle.std.proofs.Common.{◌≡◌, ◌<◌, rules, sym, ap, subst}
+use Rattle.std.proofs.Common.{◌≡◌, ◌<◌, rules}
 use Rattle.lt_words.specs.History.{draws_of, DrewIn}
 use Rattle.example_cells.proofs.Draws.{above_all, counts_all}
 use Rattle.example_cells.proofs.cell_table.CellTable.name.Goals as goal

@@ -1,6 +1,5 @@
 use Rattle.std.proofs.Common.{◌≡◌, [], ◌∷◌, ◌++◌, sym, ap, subst, ◌∙◌}
 use mathlib.Core.List.{IsPrefix}
-use Rattle.lt_words.specs.declared.event.Event.{Event}
 use Rattle.example_cells.specs.Committing.{LogState, IsLog}
 use Rattle.example_cells.proofs.Logged.{log_more}
 use Rattle.example_cells.proofs.log.CommitLog.push.Goals as goal
