@@ -1,34 +1,41 @@
 //! `example_bank`: how does a program use a store over the lock table?
 //!
-//! The store is `example_store`. This program runs two workloads on it. The first one transfers money between
-//! accounts on all processors, and the total must not change. The second one shows what the store's isolation does
-//! not give.
+//! The store is `example_store`. This program runs two workloads on it. In the first one, threads transfer money between
+//! accounts and audit all of them, and the total must not change. The second one shows what a read without a lock does not
+//! give.
 //!
 //! Read in this order:
 //!
-//! 1. `src/run.rt`: how the table and the store over it are opened, used by threads and closed.
-//! 2. `src/transfer.rt` and `src/skew.rt`: the workloads.
-//! 3. `src/trace.rt`: how the table's steps are taken out while it runs.
+//! 1. `src/bank.rt`: what an account is in the store.
+//! 2. `src/teller.rt` and `src/skew.rt`: the workloads.
+//! 3. `src/run.rt`: how the bank is opened, used by threads and closed.
+//! 4. `src/trace.rt`: how the table's steps are taken out while it runs.
 //!
 //! # What is proved
 //!
-//! Every function is safe, and every call of the store and of its table meets the premises of that call.
+//! - Every function is safe, and every call of the store and of its table meets the premises of that call.
+//! - The transactions that a run commits went one after the other at every account that two of them share, over the one
+//!   history that the close of the table gives (`in_order` of `serve`).
 //!
 //! # What is not proved
 //!
-//! No contract says that the total stays the same or that the figures are right. The program compares the totals of
-//! each run. `lockrun check FILE` checks the trace of a run with `--trace FILE`.
+//! No contract says that the total stays the same or that the figures are right. Each audit compares the total with what was
+//! there at first, and the program compares the totals of each run, and how many transactions it counted with how many the
+//! store logged. `lockrun check FILE` checks the trace of a run with `--trace FILE`.
 #![tactic(auto)]
 
+mod bank;
+mod fault;
 mod plan;
 mod run;
 mod skew;
+mod teller;
 mod trace;
-mod transfer;
 
-use crate::plan::{HELP, StorePlan, read_plan};
-use crate::run::{StoreRun, config_of, keeping_of, serve};
+use crate::plan::{BankPlan, HELP, read_plan};
+use crate::run::{BankRun, config_of, keeping_of, serve};
 use anyhow::bail;
+use example_values::ValueBook;
 use lt_history::print;
 use lt_table::prepare_with;
 use std::alloc::Global;
@@ -37,26 +44,35 @@ use std::fs::{File, Files};
 use std::marker::Brand;
 use std::random::RandomSource;
 use std::rt::Runtime;
-use std::sync::Wait;
+use std::sync::{Arc, Wait};
 use std::thread::{Threads, available_parallelism};
 use std::time::Clock;
 
 /// Prints the figures of this run to standard error.
-fn tell_figures<R: Runtime>(rt: &R, plan: &StorePlan, run: &StoreRun) -> anyhow::Result<()> {
-    let each_second = run.transfers / plan.seconds.max(1);
+fn tell_figures<R: Runtime>(rt: &R, plan: &BankPlan, run: &BankRun) -> anyhow::Result<()> {
+    let each_second = run.counts.transfers / plan.seconds.max(1);
     eprint!(rt;
         "{} threads, {} accounts, {} seconds: ",
         plan.threads, plan.accounts, plan.seconds
     )?;
     eprintln!(rt;
-        "{each_second} transfers a second, {} waits, {} deadlocks",
-        run.waits, run.deadlocks
+        "{each_second} transfers a second, {} audits, {} waits, {} deadlocks",
+        run.counts.audits, run.waits, run.counts.deadlocks
     )?;
     Ok(())
 }
 
+/// How many transactions the run has committed by its own count: those of the tellers, and two that skew.
+fn commits_of(run: &BankRun) -> u64 {
+    let counts = run.counts;
+    counts
+        .transfers
+        .saturating_add(counts.audits)
+        .saturating_add(2)
+}
+
 /// Prints what came of the workloads. An error if money was made or lost.
-fn tell_outcome<R: Runtime>(rt: &R, run: &StoreRun) -> anyhow::Result<()> {
+fn tell_outcome<R: Runtime>(rt: &R, run: &BankRun) -> anyhow::Result<()> {
     println!(rt;
         "total before: {}, after: {}",
         run.total_before, run.total_after
@@ -72,6 +88,9 @@ fn tell_outcome<R: Runtime>(rt: &R, run: &StoreRun) -> anyhow::Result<()> {
     if run.total_before != run.total_after {
         bail!("the total has changed");
     }
+    if run.closed.commits != commits_of(run) {
+        bail!("a transaction was lost");
+    }
     Ok(())
 }
 
@@ -79,10 +98,10 @@ fn tell_outcome<R: Runtime>(rt: &R, run: &StoreRun) -> anyhow::Result<()> {
 fn write_trace<F: Files>(
     files: &F,
     alloc: Global,
-    plan: &StorePlan,
-    run: &StoreRun,
+    plan: &BankPlan,
+    run: &BankRun,
 ) -> anyhow::Result<()> {
-    if let (Some(name), Some(histories)) = (&plan.trace, &run.histories) {
+    if let (Some(name), Some(histories)) = (&plan.trace, &run.closed.histories) {
         let mut file = File::create(files, name.as_str())?;
         print(alloc, histories, &mut file)?;
     }
@@ -94,10 +113,11 @@ fn run_plan<H: Threads + Wait + Clock + RandomSource + Sync, R: Runtime + Files>
     threads: &H,
     rt: &R,
     alloc: Global,
-    plan: &StorePlan,
+    plan: &BankPlan,
 ) -> anyhow::Result<()> {
+    let values = Arc::new(alloc, ValueBook::open(alloc)?)?;
     let ready = prepare_with(alloc, config_of(plan), keeping_of(plan))?;
-    let run = serve::<Brand, H>(threads, alloc, ready, plan)?;
+    let run = serve::<Brand, H>(threads, alloc, ready, values, plan)?;
     tell_figures(rt, plan, &run)?;
     tell_outcome(rt, &run)?;
     write_trace(rt, alloc, plan, &run)

@@ -1,21 +1,27 @@
-//! How is the store opened, used by threads and closed? [`serve`] does all of it for the table that `N` names.
-ghost use Rattle.std.specs.Prelude.{◌≡◌, ◌≢◌};
-ghost use Rattle.std.specs.List.{All};
+//! How is the bank opened, used by threads and closed? [`serve`] does all of it for the table that `N` names.
+ghost use Rattle.std.specs.Arc.{arc_value};
+ghost use Rattle.std.specs.Prelude.{◌≡◌, ◌≢◌, IfOk, IfSome, length};
+ghost use Rattle.example_cells.specs.Committing.{all_commits};
+ghost use Rattle.example_bank.specs.Run.{WentInOne};
 
-use crate::plan::StorePlan;
+use crate::bank::Bank;
+use crate::fault::BankFault;
+use crate::plan::BankPlan;
 use crate::skew::{PairRule, run_skew};
+use crate::teller::{Teller, teller_of, work_until};
 use crate::trace::{ShardTrace, TraceTaker, histories_of, take_until, taker_of};
-use crate::transfer::{Teller, teller_of, total, work};
 use anyhow::bail;
-use example_store::{Store, StoreError, StoreSession, passes_back, sessions_of};
+use example_cells::CommitLog;
+use example_store::{ClosedStore, Store, StoreSession, sessions_of};
+use example_values::{ValueBook, ValueName};
 use lt_entry::Entry;
-use lt_table::{Config, Keeping, MAX_REQUEST, MAX_WAIT, Ready, Rest, Rests, open, random_start};
-use lt_words::{Name, Pass};
+use lt_table::{Config, Keeping, MAX_REQUEST, MAX_WAIT, Ready, Rest, Rests, random_start};
+use lt_words::Name;
 use std::alloc::{AllocError, Global};
 use std::mem;
 use std::random::RandomSource;
-use std::sync::Wait;
 use std::sync::atomic::{AtomicBool, Ordering};
+use std::sync::{Arc, Wait};
 use std::thread::{Threads, join, map_vec};
 use std::time::{Clock, Duration, Instant};
 
@@ -30,44 +36,60 @@ const HELD: u64 = 1 << 20;
 
 /// What came of a run.
 #[derive(Drop)]
-pub struct StoreRun {
+pub struct BankRun {
     pub total_before: u64,
     pub total_after: u64,
-    pub transfers: u64,
+    pub counts: WorkCounts,
     pub waits: u64,
-    pub deadlocks: u64,
     /// What two accounts had together before two transactions withdrew from them, and after.
     pub skew: (u64, u64),
     /// What should have stayed in the two accounts.
     pub stays: u64,
+    /// What the close has left.
+    pub closed: ClosedBank,
+}
+
+/// What is left of a closed bank.
+#[derive(Drop)]
+pub struct ClosedBank {
+    /// How many transactions were committed.
+    pub commits: u64,
     /// The histories of the shards, if they were traced.
     pub histories: Option<Vec<Vec<Entry>>>,
 }
 
+/// What all tellers did.
+#[derive(Clone, Copy)]
+pub struct WorkCounts {
+    pub transfers: u64,
+    pub audits: u64,
+    pub deadlocks: u64,
+}
+
 /// The two sessions of this thread.
 #[derive(Drop)]
-struct SessionPair<N: Name> {
+struct SessionPair<N: Name + ValueName> {
     first: StoreSession<N>,
     second: StoreSession<N>,
 }
 
 /// Those who work on threads of their own: the tellers, and for a trace the taker.
 #[derive(Drop)]
-struct BankCrew<N: Name> {
+struct BankCrew<N: Name + ValueName> {
     tellers: Vec<Teller<N>>,
     taker: Option<TraceTaker<N>>,
 }
 
-/// An open store, and those who work at it.
+/// An open bank, and those who work at it.
 #[derive(Drop)]
-struct OpenStore<N: Name> {
-    store: Store<N>,
+struct OpenBank<N: Name + ValueName> {
+    bank: Bank<N>,
     pair: SessionPair<N>,
     crew: BankCrew<N>,
 }
 
 /// How the table of a plan keeps its steps.
-pub fn keeping_of(plan: &StorePlan) -> Keeping
+pub fn keeping_of(plan: &BankPlan) -> Keeping
     ensures { result ≢ Keeping.Whole }
 {
     if plan.trace.is_some() {
@@ -78,7 +100,7 @@ pub fn keeping_of(plan: &StorePlan) -> Keeping
 }
 
 /// The configuration of a plan's table: a pass for each teller, two for this thread, and for a trace one more.
-pub fn config_of(plan: &StorePlan) -> Config
+pub fn config_of(plan: &BankPlan) -> Config
     ensures { result.shards ≡ SHARDS }
 {
     let others = if plan.trace.is_some() { 3 } else { 2 };
@@ -92,7 +114,9 @@ pub fn config_of(plan: &StorePlan) -> Config
 }
 
 /// Two of the sessions.
-fn pair_of<N: Name>(sessions: &mut Vec<StoreSession<N>>) -> anyhow::Result<SessionPair<N>> {
+fn pair_of<N: Name + ValueName>(
+    sessions: &mut Vec<StoreSession<N>>,
+) -> anyhow::Result<SessionPair<N>> {
     match (sessions.pop(), sessions.pop()) {
         (Some(first), Some(second)) => Ok(SessionPair { first, second }),
         _ => bail!("there is no session left"),
@@ -100,10 +124,10 @@ fn pair_of<N: Name>(sessions: &mut Vec<StoreSession<N>>) -> anyhow::Result<Sessi
 }
 
 /// A taker with one of the sessions, if the plan asks for a trace.
-fn next_taker<N: Name>(
+fn next_taker<N: Name + ValueName>(
     alloc: Global,
     sessions: &mut Vec<StoreSession<N>>,
-    plan: &StorePlan,
+    plan: &BankPlan,
 ) -> anyhow::Result<Option<TraceTaker<N>>>
     requires shards { N.of.shards ≡ SHARDS }
     requires keeping { N.of.keeping ≢ Keeping.Whole }
@@ -118,7 +142,7 @@ fn next_taker<N: Name>(
 }
 
 /// A teller for each session.
-fn tellers_of<N: Name>(
+fn tellers_of<N: Name + ValueName>(
     alloc: Global,
     sessions: Vec<StoreSession<N>>,
 ) -> Result<Vec<Teller<N>>, AllocError> {
@@ -131,10 +155,10 @@ fn tellers_of<N: Name>(
 }
 
 /// The taker of a trace, if the plan asks for one, and a teller for each other session.
-fn crew_of<N: Name>(
+fn crew_of<N: Name + ValueName>(
     alloc: Global,
     mut sessions: Vec<StoreSession<N>>,
-    plan: &StorePlan,
+    plan: &BankPlan,
 ) -> anyhow::Result<BankCrew<N>>
     requires shards { N.of.shards ≡ SHARDS }
     requires keeping { N.of.keeping ≢ Keeping.Whole }
@@ -144,42 +168,31 @@ fn crew_of<N: Name>(
     Ok(BankCrew { tellers, taker })
 }
 
-/// Shares the passes out: to this thread, to the taker of a trace, and to the tellers.
-fn shared_out<N: Name>(
-    alloc: Global,
-    passes: Vec<Pass>,
-    plan: &StorePlan,
-) -> anyhow::Result<(SessionPair<N>, BankCrew<N>)>
-    requires passes { All (λ p. p.of ≡ N.of) passes.items }
-    requires shards { N.of.shards ≡ SHARDS }
-    requires keeping { N.of.keeping ≢ Keeping.Whole }
-{
-    let mut sessions = sessions_of::<N>(alloc, passes)?;
-    let pair = pair_of(&mut sessions)?;
-    let crew = crew_of(alloc, sessions, plan)?;
-    Ok((pair, crew))
-}
-
-/// Opens the table and the store over it, with two accounts more than the plan says.
-fn open_store<N: Name>(
+/// Opens the bank, with two accounts more than the plan says, each with its first balance.
+fn open_bank<N: Name + ValueName, R: Wait>(
+    rt: &R,
     alloc: Global,
     ready: Ready,
     start: u64,
-    plan: &StorePlan,
-) -> anyhow::Result<OpenStore<N>>
+    values: Arc<ValueBook>,
+    plan: &BankPlan,
+) -> anyhow::Result<OpenBank<N>>
     requires named { ready.of ≡ N.of }
+    requires values { arc_value values ≡ N.values }
     requires shards { ready.of.shards ≡ SHARDS }
     requires keeping { ready.of.keeping ≢ Keeping.Whole }
 {
-    let (table, passes) = open::<N>(alloc, ready, start)?;
-    let (pair, crew) = shared_out(alloc, passes, plan)?;
-    let count = (plan.accounts as usize).saturating_add(2);
-    let store = Store::new(alloc, table, count, BALANCE)?;
-    Ok(OpenStore { store, pair, crew })
+    let (store, passes) = Store::<N>::open(alloc, ready, start, values)?;
+    let mut sessions = sessions_of::<N>(alloc, passes)?;
+    let mut pair = pair_of(&mut sessions)?;
+    let crew = crew_of(alloc, sessions, plan)?;
+    let bank = Bank::new(alloc, store, (plan.accounts as usize).saturating_add(2))?;
+    bank.fill(rt, &mut pair.first, BALANCE)?;
+    Ok(OpenBank { bank, pair, crew })
 }
 
 /// The time at which the tellers stop.
-fn end_of<C: Clock>(clock: &C, plan: &StorePlan) -> anyhow::Result<Instant> {
+fn end_of<C: Clock>(clock: &C, plan: &BankPlan) -> anyhow::Result<Instant> {
     match Instant::now(clock)?.checked_add(Duration::from_secs(plan.seconds)) {
         Some(end) => Ok(end),
         None => bail!("the clock does not go so far"),
@@ -187,27 +200,28 @@ fn end_of<C: Clock>(clock: &C, plan: &StorePlan) -> anyhow::Result<Instant> {
 }
 
 /// All tellers work, each on a thread.
-fn work_all<N: Name + Send + Sync, H: Threads + Wait + Clock + Sync>(
+fn work_all<N: Name + ValueName + Send + Sync, H: Threads + Wait + Clock + Sync>(
     threads: &H,
-    store: &Store<N>,
+    bank: &Bank<N>,
     tellers: Vec<Teller<N>>,
-    plan: &StorePlan,
+    plan: &BankPlan,
     end: Instant,
 ) -> Result<Vec<Teller<N>>, AllocError> {
+    let total = plan.accounts.saturating_mul(BALANCE);
     map_vec(
         threads,
         tellers,
-        &|teller: Teller<N>| -> Teller<N> { work(threads, store, teller, plan, end) },
+        &|teller: Teller<N>| -> Teller<N> { work_until(threads, bank, teller, plan, total, end) },
     )
 }
 
 /// All tellers work, and if there is a taker, it takes the table's steps meanwhile.
-fn work_traced<N: Name + Send + Sync, H: Threads + Wait + Clock + Sync>(
+fn work_traced<N: Name + ValueName + Send + Sync, H: Threads + Wait + Clock + Sync>(
     threads: &H,
     alloc: Global,
-    store: &Store<N>,
+    bank: &Bank<N>,
     crew: &mut BankCrew<N>,
-    plan: &StorePlan,
+    plan: &BankPlan,
     end: Instant,
 ) -> Result<(), AllocError> {
     let tellers = mem::replace(&mut crew.tellers, Vec::new(alloc));
@@ -217,12 +231,12 @@ fn work_traced<N: Name + Send + Sync, H: Threads + Wait + Clock + Sync>(
     let (worked, taker) = join(
         threads,
         move || {
-            let worked = work_all(threads, store, tellers, plan, end);
+            let worked = work_all(threads, bank, tellers, plan, end);
             done.store(true, Ordering::SeqCst);
             worked
         },
         move || match taker {
-            Some(taker) => Some(take_until(threads, alloc, store, taker, done)),
+            Some(taker) => Some(take_until(threads, alloc, &bank.store, taker, done)),
             None => None,
         },
     );
@@ -231,26 +245,30 @@ fn work_traced<N: Name + Send + Sync, H: Threads + Wait + Clock + Sync>(
     Ok(())
 }
 
-/// The transfers and the deadlocks of all tellers. An error if a teller stopped before its time.
-fn count_all<N: Name>(tellers: &[Teller<N>]) -> anyhow::Result<(u64, u64)> {
-    let mut transfers = 0u64;
-    let mut deadlocks = 0u64;
+/// What all tellers did. An error if a teller stopped before its time.
+fn count_all<N: Name + ValueName>(tellers: &[Teller<N>]) -> anyhow::Result<WorkCounts> {
+    let mut counts = WorkCounts {
+        transfers: 0,
+        audits: 0,
+        deadlocks: 0,
+    };
     for teller in tellers {
         if let Some(fault) = teller.fault {
-            bail!("a transfer failed: {fault}");
+            bail!("a teller stopped: {fault}");
         }
-        transfers = transfers.saturating_add(teller.committed);
-        deadlocks = deadlocks.saturating_add(teller.deadlocks);
+        counts.transfers = counts.transfers.saturating_add(teller.transfers);
+        counts.audits = counts.audits.saturating_add(teller.audits);
+        counts.deadlocks = counts.deadlocks.saturating_add(teller.deadlocks);
     }
-    Ok((transfers, deadlocks))
+    Ok(counts)
 }
 
 /// Runs the second workload on the two accounts that no teller uses.
-fn skew_of<N: Name, H: Wait + Clock>(
+fn skew_of<N: Name + ValueName, H: Wait + Clock>(
     rt: &H,
-    opened: &mut OpenStore<N>,
-    plan: &StorePlan,
-) -> Result<(u64, u64), StoreError> {
+    opened: &mut OpenBank<N>,
+    plan: &BankPlan,
+) -> Result<(u64, u64), BankFault> {
     let one = plan.accounts as usize;
     let rule = PairRule {
         one,
@@ -259,79 +277,57 @@ fn skew_of<N: Name, H: Wait + Clock>(
     };
     run_skew(
         rt,
-        &opened.store,
+        &opened.bank,
         &mut opened.pair.first,
         &mut opened.pair.second,
         &rule,
     )
 }
 
-/// What came of the transfers, and then of the second workload. The table is still open.
-fn outcome_of<N: Name, H: Wait + Clock>(
+/// What all accounts of the plan have together, while nobody writes.
+fn total_of<N: Name + ValueName, H: Wait>(
     rt: &H,
-    opened: &mut OpenStore<N>,
-    plan: &StorePlan,
+    opened: &mut OpenBank<N>,
+    plan: &BankPlan,
+) -> Result<u64, BankFault> {
+    let accounts = plan.accounts as usize;
+    opened.bank.total(rt, &mut opened.pair.first, accounts)
+}
+
+/// What came of both workloads.
+#[derive(Clone, Copy)]
+struct BothRun {
     total_before: u64,
-) -> anyhow::Result<StoreRun> {
-    let total_after = total(rt, &opened.store, &mut opened.pair.first, plan.accounts)?;
-    let (transfers, deadlocks) = count_all(&opened.crew.tellers)?;
-    let skew = skew_of(rt, opened, plan)?;
-    Ok(StoreRun {
+    total_after: u64,
+    counts: WorkCounts,
+    waits: u64,
+    skew: (u64, u64),
+}
+
+/// Runs both workloads on an open bank. The table is still open afterwards.
+fn run_both<N: Name + ValueName + Send + Sync, H: Threads + Wait + Clock + Sync>(
+    threads: &H,
+    alloc: Global,
+    opened: &mut OpenBank<N>,
+    plan: &BankPlan,
+) -> anyhow::Result<BothRun> {
+    let total_before = total_of(threads, opened, plan)?;
+    let end = end_of(threads, plan)?;
+    work_traced(threads, alloc, &opened.bank, &mut opened.crew, plan, end)?;
+    let total_after = total_of(threads, opened, plan)?;
+    let counts = count_all(&opened.crew.tellers)?;
+    let skew = skew_of(threads, opened, plan)?;
+    Ok(BothRun {
         total_before,
         total_after,
-        transfers,
-        waits: opened.store.waits(),
-        deadlocks,
+        counts,
+        waits: opened.bank.store.waits(),
         skew,
-        stays: BALANCE,
-        histories: None,
     })
 }
 
-/// Runs both workloads on an open store.
-fn run_both<N: Name + Send + Sync, H: Threads + Wait + Clock + Sync>(
-    threads: &H,
-    alloc: Global,
-    opened: &mut OpenStore<N>,
-    plan: &StorePlan,
-) -> anyhow::Result<StoreRun> {
-    let total_before = total(
-        threads,
-        &opened.store,
-        &mut opened.pair.first,
-        plan.accounts,
-    )?;
-    let end = end_of(threads, plan)?;
-    work_traced(threads, alloc, &opened.store, &mut opened.crew, plan, end)?;
-    outcome_of(threads, opened, plan, total_before)
-}
-
-/// Opens the store over the prepared table, runs both workloads and closes the table.
-pub fn serve<N: Name + Send + Sync, H: Threads + Wait + Clock + RandomSource + Sync>(
-    threads: &H,
-    alloc: Global,
-    ready: Ready,
-    plan: &StorePlan,
-) -> anyhow::Result<StoreRun>
-    requires named { ready.of ≡ N.of }
-    requires shards { ready.of.shards ≡ SHARDS }
-    requires keeping { ready.of.keeping ≢ Keeping.Whole }
-{
-    let start = match random_start(threads) {
-        Ok(start) => start,
-        Err(error) => {
-            ready.abandon();
-            return Err(error.into());
-        }
-    };
-    let mut opened = open_store::<N>(alloc, ready, start, plan)?;
-    let mut run = run_both(threads, alloc, &mut opened, plan)?;
-    run.histories = close_store(threads, alloc, opened)?;
-    Ok(run)
-}
-
 /// The sessions of this thread and of the tellers.
-fn sessions_back<N: Name>(
+fn sessions_back<N: Name + ValueName>(
     alloc: Global,
     pair: SessionPair<N>,
     tellers: Vec<Teller<N>>,
@@ -346,7 +342,7 @@ fn sessions_back<N: Name>(
 }
 
 /// All sessions, and what the taker took, if there is one. An error if it has lost steps.
-fn dismissed<N: Name>(
+fn dismissed<N: Name + ValueName>(
     alloc: Global,
     pair: SessionPair<N>,
     crew: BankCrew<N>,
@@ -363,7 +359,7 @@ fn dismissed<N: Name>(
 }
 
 /// The histories of the shards: what was taken, and what the close has left. `None` if there was no taker.
-fn joined<N: Name>(
+fn joined<N: Name + ValueName>(
     alloc: Global,
     traces: Option<Vec<ShardTrace<N>>>,
     rests: Vec<Rest>,
@@ -377,35 +373,68 @@ fn joined<N: Name>(
     }
 }
 
-/// Closes the store's table. Returns the histories of its shards, if they were traced.
-fn close_store<N: Name, H: Wait>(
-    rt: &H,
-    alloc: Global,
-    opened: OpenStore<N>,
-) -> anyhow::Result<Option<Vec<Vec<Entry>>>> {
-    let OpenStore { store, pair, crew } = opened;
-    let (sessions, traces) = dismissed(alloc, pair, crew)?;
-    let rests = close_table(rt, alloc, store, sessions)?;
-    joined(alloc, traces, rests)
+/// How many transactions these logs have. `None` if they are too many to be counted.
+fn count_commits<N: Name + ValueName>(logs: &Vec<CommitLog<N>>) -> Option<u64>
+    ensures { IfSome result (λ n. n ≡ length (all_commits logs.now.items)) }
+{
+    let mut commits = 0u64;
+    for log in logs {
+        commits = commits.checked_add(log.commits().len() as u64)?;
+    }
+    Some(commits)
 }
 
-/// Closes the store's table with the passes of all sessions. Returns what is left of each shard.
-fn close_table<N: Name, H: Wait>(
+/// Closes the bank's store. Returns the histories of the table's shards, if they were traced.
+fn close_bank<N: Name + ValueName, H: Wait>(
     rt: &H,
     alloc: Global,
-    store: Store<N>,
-    sessions: Vec<StoreSession<N>>,
-) -> anyhow::Result<Vec<Rest>> {
-    let passes = passes_back(alloc, sessions)?;
-    match store
-        .into_table()
-        .close_rest(rt, alloc, passes, Vec::new(alloc))
-    {
-        Ok(Rests { shards, draws: _ }) => Ok(shards),
-        Err(refused) => {
-            let error = refused.error;
-            refused.abandon();
-            bail!("the table was not closed: {error}");
+    opened: OpenBank<N>,
+) -> anyhow::Result<ClosedBank>
+    ensures in_order { IfOk result (λ closed. WentInOne N.of.shards closed.commits) }
+{
+    let OpenBank { bank, pair, crew } = opened;
+    let (sessions, traces) = dismissed(alloc, pair, crew)?;
+    let ClosedStore { rests, logs } = bank.into_store().close(rt, sessions)?;
+    let Some(commits) = count_commits(&logs) else {
+        bail!("too many transactions were committed");
+    };
+    let Rests { shards, draws: _ } = rests;
+    let histories = joined(alloc, traces, shards)?;
+    Ok(ClosedBank { commits, histories })
+}
+
+/// Opens the bank over the prepared table, runs both workloads and closes the table.
+pub fn serve<N: Name + ValueName + Send + Sync, H: Threads + Wait + Clock + RandomSource + Sync>(
+    threads: &H,
+    alloc: Global,
+    ready: Ready,
+    values: Arc<ValueBook>,
+    plan: &BankPlan,
+) -> anyhow::Result<BankRun>
+    requires named { ready.of ≡ N.of }
+    requires values { arc_value values ≡ N.values }
+    requires shards { ready.of.shards ≡ SHARDS }
+    requires keeping { ready.of.keeping ≢ Keeping.Whole }
+    // All transactions that were committed went one after the other.
+    ensures in_order { IfOk result (λ run. WentInOne N.of.shards run.closed.commits) }
+{
+    let start = match random_start(threads) {
+        Ok(start) => start,
+        Err(error) => {
+            ready.abandon();
+            return Err(error.into());
         }
-    }
+    };
+    let mut opened = open_bank::<N, H>(threads, alloc, ready, start, values, plan)?;
+    let both = run_both(threads, alloc, &mut opened, plan)?;
+    let closed = close_bank(threads, alloc, opened)?;
+    Ok(BankRun {
+        total_before: both.total_before,
+        total_after: both.total_after,
+        counts: both.counts,
+        waits: both.waits,
+        skew: both.skew,
+        stays: BALANCE,
+        closed,
+    })
 }

@@ -1,8 +1,11 @@
-//! What does the isolation of this store not give? Two transactions each read two accounts and write one of them.
-//! Each decides by what it read, and neither sees what the other writes. Both commit, though no order of the two
-//! explains the outcome: *write skew*. A store that must exclude it takes locks for its reads as well, as
-//! `get_for_update` does, or validates its reads when it commits.
-use example_store::{Store, StoreError, StoreSession};
+//! What does a read without a lock not give? Two transactions each read two accounts with `get`, which is read committed, and
+//! write one of them. Each decides by what it read, and neither sees what the other writes. Both commit, though no order of
+//! the two explains the outcome: *write skew*. With `get_for_update` in place of `get` the second one would wait for the
+//! first.
+use crate::bank::Bank;
+use crate::fault::BankFault;
+use example_store::StoreSession;
+use example_values::ValueName;
 use lt_words::Name;
 use std::sync::Wait;
 use std::time::Clock;
@@ -16,49 +19,47 @@ pub struct PairRule {
     pub stays: u64,
 }
 
-/// What the accounts have together, as this transaction reads it.
-fn read_both<N: Name, R: Wait + Clock>(
+/// What the accounts have together, as this session reads it.
+fn read_both<N: Name + ValueName, R: Wait>(
     rt: &R,
-    store: &Store<N>,
+    bank: &Bank<N>,
     session: &mut StoreSession<N>,
     pair: &PairRule,
-) -> Result<u64, StoreError> {
-    let one = store.get(rt, session, pair.one)?;
-    let other = store.get(rt, session, pair.other)?;
-    Ok(one.value.saturating_add(other.value))
+) -> Result<u64, BankFault> {
+    let one = bank.balance(rt, session, pair.one)?;
+    let other = bank.balance(rt, session, pair.other)?;
+    Ok(one.saturating_add(other))
 }
 
-/// Takes as much from the account as may be taken if both accounts have `sum` together.
-fn withdraw<N: Name, R: Wait + Clock>(
+/// Takes as much from the account as may be taken if both accounts have `sum` together, and commits.
+fn withdraw<N: Name + ValueName, R: Wait + Clock>(
     rt: &R,
-    store: &Store<N>,
+    bank: &Bank<N>,
     session: &mut StoreSession<N>,
-    index: usize,
+    account: usize,
     most: u64,
-) -> Result<(), StoreError> {
-    let value = store.get(rt, session, index)?.value;
-    store.put(rt, session, index, value.saturating_sub(most))?;
-    store.commit(rt, session)
+) -> Result<(), BankFault> {
+    let balance = bank.balance(rt, session, account)?;
+    bank.set(rt, session, account, balance.saturating_sub(most))?;
+    Ok(bank.store.commit(rt, session)?)
 }
 
 /// Runs the two transactions, and returns what both accounts have together before and after them.
-pub fn run_skew<N: Name, R: Wait + Clock>(
+pub fn run_skew<N: Name + ValueName, R: Wait + Clock>(
     rt: &R,
-    store: &Store<N>,
+    bank: &Bank<N>,
     first: &mut StoreSession<N>,
     second: &mut StoreSession<N>,
     pair: &PairRule,
-) -> Result<(u64, u64), StoreError> {
-    store.begin(first)?;
-    store.begin(second)?;
-    let first_read = read_both(rt, store, first, pair)?;
-    let second_read = read_both(rt, store, second, pair)?;
+) -> Result<(u64, u64), BankFault> {
+    bank.store.begin(first)?;
+    bank.store.begin(second)?;
+    let first_read = read_both(rt, bank, first, pair)?;
+    let second_read = read_both(rt, bank, second, pair)?;
     let most = first_read.saturating_sub(pair.stays);
-    withdraw(rt, store, first, pair.one, most)?;
+    withdraw(rt, bank, first, pair.one, most)?;
     let most = second_read.saturating_sub(pair.stays);
-    withdraw(rt, store, second, pair.other, most)?;
-    store.begin(first)?;
-    let left = read_both(rt, store, first, pair)?;
-    store.commit(rt, first)?;
+    withdraw(rt, bank, second, pair.other, most)?;
+    let left = read_both(rt, bank, first, pair)?;
     Ok((first_read, left))
 }

@@ -5,9 +5,10 @@ ghost use Rattle.std.specs.Prelude.{◌≡◌, ◌≢◌, ◌<◌};
 ghost use Rattle.lt_words.specs.declared.keeping.Keeping.TheVariants.{Whole};
 
 use example_store::{Store, StoreSession};
+use example_values::ValueName;
 use lt_entry::Entry;
 use lt_table::{Keeping, Reader, Rest};
-use lt_words::{Name, Pass};
+use lt_words::Name;
 use std::alloc::{AllocError, Global};
 use std::marker::PhantomData;
 use std::sync::Wait;
@@ -20,16 +21,16 @@ const PAUSE: u64 = 1;
 
 /// A reader of one shard's history, and the steps that it was given.
 #[derive(Drop)]
-pub struct ShardTrace<N: Name> {
+pub struct ShardTrace<N: Name + ValueName> {
     reader: Reader,
     entries: Vec<Entry>,
     name: PhantomData<N>,
     ghost below: { reader.shard < N.of.shards },
 }
 
-/// A caller that takes the steps of the table that `N` names.
+/// A caller that takes the steps of the table that `N` names. Its session commits nothing.
 #[derive(Drop)]
-pub struct TraceTaker<N: Name> {
+pub struct TraceTaker<N: Name + ValueName> {
     pub session: StoreSession<N>,
     pub shards: Vec<ShardTrace<N>>,
     /// Whether all steps that were taken were kept.
@@ -38,7 +39,7 @@ pub struct TraceTaker<N: Name> {
 }
 
 /// A taker for a table with so many shards.
-pub fn taker_of<N: Name>(
+pub fn taker_of<N: Name + ValueName>(
     alloc: Global,
     session: StoreSession<N>,
     shards: usize,
@@ -62,42 +63,38 @@ pub fn taker_of<N: Name>(
 }
 
 /// Takes the new steps of one shard. True if they were taken and kept.
-fn take_steps<N: Name, R: Wait>(
+fn take_steps<N: Name + ValueName, R: Wait>(
     rt: &R,
     alloc: Global,
     store: &Store<N>,
-    pass: &mut Pass,
+    session: &mut StoreSession<N>,
     trace: &mut ShardTrace<N>,
 ) -> bool
-    requires pass { pass.old.of ≡ N.of }
-    requires keeping { N.of.keeping ≢ Keeping.Whole }
-    ensures { pass.new.of ≡ N.of }
+    requires { N.of.keeping ≢ Keeping.Whole }
 {
     let mut steps = Vec::new(alloc);
     let mut reader = trace.reader;
-    let taken = store.table.take_next(rt, pass, &mut reader, &mut steps);
+    let taken = store.take_next(rt, session, &mut reader, &mut steps);
     trace.reader.next = reader.next;
-    taken.is_ok() && trace.entries.append(&mut steps).is_ok()
+    taken && trace.entries.append(&mut steps).is_ok()
 }
 
 /// Takes the new steps of each shard in turn. True if all were taken and kept.
-fn take_all<N: Name, R: Wait>(
+fn take_all<N: Name + ValueName, R: Wait>(
     rt: &R,
     alloc: Global,
     store: &Store<N>,
-    pass: &mut Pass,
+    session: &mut StoreSession<N>,
     shards: &mut Vec<ShardTrace<N>>,
 ) -> bool
-    requires pass { pass.old.of ≡ N.of }
-    requires keeping { N.of.keeping ≢ Keeping.Whole }
-    ensures { pass.new.of ≡ N.of }
+    requires { N.of.keeping ≢ Keeping.Whole }
 {
     let mut is_whole = true;
     for index in 0..shards.len() {
         let Some(trace) = shards.get_mut(index) else {
             break;
         };
-        if !take_steps(rt, alloc, store, pass, trace) {
+        if !take_steps(rt, alloc, store, session, trace) {
             is_whole = false;
         }
     }
@@ -106,32 +103,37 @@ fn take_all<N: Name, R: Wait>(
 
 /// Takes the steps of all shards, round after round, until the tellers are done. It goes on also after steps were
 /// lost, so that no shard stays full.
-pub fn take_until<N: Name, R: Wait + Clock>(
+pub fn take_until<N: Name + ValueName, R: Wait + Clock>(
     rt: &R,
     alloc: Global,
     store: &Store<N>,
     taker: TraceTaker<N>,
     done: &AtomicBool,
 ) -> TraceTaker<N> {
-    let mut taker = taker;
-    let Some(mut pass) = taker.session.slot.take() else {
-        return taker;
-    };
+    let TraceTaker {
+        mut session,
+        mut shards,
+        mut is_whole,
+        ..
+    } = taker;
     for _ in rt.forever() {
         if done.load(Ordering::SeqCst) {
             break;
         }
-        if !take_all(rt, alloc, store, &mut pass, &mut taker.shards) {
-            taker.is_whole = false;
+        if !take_all(rt, alloc, store, &mut session, &mut shards) {
+            is_whole = false;
         }
         sleep(rt, Duration::from_millis(PAUSE));
     }
-    taker.session.slot.put(pass);
-    taker
+    TraceTaker {
+        session,
+        shards,
+        is_whole,
+    }
 }
 
 /// The history of one shard. `None` if what is left does not continue what was taken, or an allocation fails.
-fn history_of<N: Name>(trace: ShardTrace<N>, rest: Rest) -> Option<Vec<Entry>> {
+fn history_of<N: Name + ValueName>(trace: ShardTrace<N>, rest: Rest) -> Option<Vec<Entry>> {
     let ShardTrace {
         reader,
         mut entries,
@@ -150,7 +152,7 @@ fn history_of<N: Name>(trace: ShardTrace<N>, rest: Rest) -> Option<Vec<Entry>> {
 
 /// The history of each shard: the steps that were taken, and those that the close has left. `None` if what is left
 /// does not continue what was taken, or an allocation fails.
-pub fn histories_of<N: Name>(
+pub fn histories_of<N: Name + ValueName>(
     alloc: Global,
     traces: Vec<ShardTrace<N>>,
     rests: Vec<Rest>,

@@ -1,5 +1,5 @@
 -- What the step that frees a lock tells: the lock was held until then, and what was put is the key's value.
-use Rattle.std.proofs.Common.{◌≡◌, ℕ, zero, suc, ◌+◌, ◌<◌, ◌≤◌, true, Option, Some, None, List, [], ◌∷◌, ◌++◌, length, take, drop, refl, sym, ap, subst, ◌∙◌, arith, length-append, append_assoc}
+use Rattle.std.proofs.Common.{◌≡◌, ℕ, Bool, zero, suc, ◌+◌, ◌<◌, ◌≤◌, true, Option, Some, None, List, [], ◌∷◌, ◌++◌, length, take, drop, refl, sym, ap, subst, ◌∙◌, arith, length-append, append_assoc}
 use Rattle.std.specs.Prelude.{IfSome, MatchOption, is_some, slice_get}
 use Rattle.std.specs.Option.{option_map}
 use Rattle.std.specs.List.{AllZip, AllByRecursion}
@@ -16,7 +16,7 @@ use Rattle.lt_tenure.specs.Tenure.{IsTenure, IsHeldAt}
 use Rattle.lt_tenure.specs.Laws.{TenureLasts, TenuresStay}
 use Rattle.example_cells.specs.declared.cell.Cell.{Cell}
 use Rattle.example_cells.specs.declared.cell.PastTenure.{PastTenure}
-use Rattle.example_cells.specs.Knowing.{Put, installed, CellMap, cell_at, last_of, tenure_of, CellKnows, CellsKnow, InstallsAt}
+use Rattle.example_cells.specs.Knowing.{Put, installed, CellMap, cell_at, last_of, tenure_of, CellKnows, CellsKnow, InstallsWith}
 use Rattle.example_cells.specs.Committing.{step_outcome, IsTakenAt, tenure_of_lock, Installs, IsFreed, LeavesValue}
 use Rattle.example_cells.specs.declared.committed.LockTenure.{LockTenure}
 
@@ -47,29 +47,25 @@ was_held begins lasts shards old seen point from key txn ts taken freed w took e
     }
 
 -- what was put is the value of a cell that is there
-record WasInstalled (o n : Option Cell) (put : Option Put) : Type 0 where
+record WasInstalled (left : Bool) (o n : Option Cell) (put : Option Put) : Type 0 where
   old : Cell
   new : Cell
   was : o ≡ Some old
   is : n ≡ Some new
-  value : new ≡ installed put old
+  value : new ≡ installed left put old
 
-was_installed : (o n : Option Cell) (put : Option Put) (t : PastTenure) → MatchOption o (n ≡ None) (λ c. n ≡ Some (installed put c)) → last_of o ≡ Some t → WasInstalled o n put
-was_installed None n put t at last = absurd cc
-was_installed (Some c) n put t at last = record { old = c; new = installed put c; was = refl; is = at; value = refl }
+was_installed : (left : Bool) (o n : Option Cell) (put : Option Put) (t : PastTenure) → MatchOption o (n ≡ None) (λ c. n ≡ Some (installed left put c)) → last_of o ≡ Some t → WasInstalled left o n put
+was_installed left None n put t at last = absurd cc
+was_installed left (Some c) n put t at last = record { old = c; new = installed left put c; was = refl; is = at; value = refl }
 
-pub installs : (es : List Entry) (key : List ℕ) (freed : ℕ) (put : Option Put) (v w : CellMap) (t : PastTenure) → CellsKnow (take (freed + 1) es) v → InstallsAt v w key put → CellsKnow (take (freed + 1) es) w → last_of (cell_at v key) ≡ Some t → Installs es key freed put
-installs es key freed put v w t knew at know last =
-    let x = was_installed (cell_at v key) (cell_at w key) put t at.here last in
-    record { cells = v; old = x.old; new = x.new; knew = knew; was = x.was; after = w; know = know; is = x.is; value = x.value }
+pub installs : (left : Bool) (es : List Entry) (key : List ℕ) (freed : ℕ) (put : Option Put) (v w : CellMap) (t : PastTenure) → CellsKnow (take (freed + 1) es) v → InstallsWith left v w key put → CellsKnow (take (freed + 1) es) w → last_of (cell_at v key) ≡ Some t → Installs es key freed put
+installs left es key freed put v w t knew at know last =
+    let x = was_installed left (cell_at v key) (cell_at w key) put t at.here last in
+    record { cells = v; old = x.old; new = x.new; knew = knew; was = x.was; after = w; know = know; is = x.is; left = left; value = x.value }
 
-pub if_freed : (P : ℕ → Type 0) (o : Option ℕ) → ((at : ℕ) → o ≡ Some at → P at) → IfSome o P
+pub if_freed : {A : Type 0} (P : A → Type 0) (o : Option A) → ((at : A) → o ≡ Some at → P at) → IfSome o P
 if_freed P None each = tt
 if_freed P (Some at) each = each at refl
-
-pub at_some : (P : ℕ → Type 0) (o : Option ℕ) (at : ℕ) → o ≡ Some at → IfSome o P → P at
-at_some P None at is holds = absurd cc
-at_some P (Some x) at is holds = let same : x ≡ at = cc is in subst P same holds
 
 -- ---- all locks, one after the other
 
@@ -104,6 +100,7 @@ installs_on es fs key freed put p within i =
       after = i.after;
       know = subst (λ l. CellsKnow l i.after) (sym after) i.know;
       is = i.is;
+      left = i.left;
       value = i.value;
     }
 
@@ -131,7 +128,7 @@ freed_on stay begins shards seen later point key txn taken put t p f =
       installs = installs_on (part s seen) (part s later) key t.freed put (begins s seen later p) (subst (λ k. t.freed < length (part (shard_of k shards) seen)) f.key_is here) f.installs;
     }
 
-pub some_of : (o : Option ℕ) → is_some o ≡ true → (n : ℕ) × (o ≡ Some n)
+pub some_of : {A : Type 0} (o : Option A) → is_some o ≡ true → (n : A) × (o ≡ Some n)
 some_of None is = absurd cc
 some_of (Some n) is = (n, refl)
 

@@ -19,7 +19,7 @@ use Rattle.lt_tenure.specs.Laws.{OwnerFollows, LastFreedFollows, FreeingEndsATen
 use Rattle.example_cells.specs.declared.cell.Cell.{Cell}
 use Rattle.example_cells.specs.declared.cell.Owner.{Owner}
 use Rattle.example_cells.specs.declared.cell.PastTenure.{PastTenure}
-use Rattle.example_cells.specs.Knowing.{Put, owner_next, past_of, past_next, ToldCell, owner_named, tenure_of, Knows, CellKnows, CellMap, cell_at, CellsKnow, ToldEach, HasCellFor, installed, InstallsAt}
+use Rattle.example_cells.specs.Knowing.{Put, owner_next, past_of, past_next, ToldCell, owner_named, tenure_of, Knows, CellKnows, CellMap, cell_at, CellsKnow, ToldEach, HasCellFor, installed, InstallsWith}
 use Rattle.lt_table_core.specs.Values.{IsNextStep}
 
 own_bytes : (a : List ℕ) → bytes_eq a a ≡ true
@@ -204,13 +204,13 @@ pub made_knows : (old new : CellMap) (key : List ℕ) (made : Cell) → cell_at 
 made_knows old new key made none owner last is es knows q =
     made_at (cell_at old q) (cell_at new q) q es made (bytes_eq key q) (is q) (λ same. ap (cell_at old) (sym ((bytes_eq-Decides key q).0 same)) ∙ none) owner last (knows q)
 
-install_at : (old n : Option Cell) (q : List ℕ) (es : List Entry) (put : Option Put) → MatchOption old (n ≡ None) (λ c. n ≡ Some (installed put c)) → CellKnows q es old → CellKnows q es n
-install_at None n q es put is knows = subst (CellKnows q es) (sym is) knows
-install_at (Some c) n q es put is knows = subst (CellKnows q es) (sym is) knows
+install_at : (left : Bool) (old n : Option Cell) (q : List ℕ) (es : List Entry) (put : Option Put) → MatchOption old (n ≡ None) (λ c. n ≡ Some (installed left put c)) → CellKnows q es old → CellKnows q es n
+install_at left None n q es put is knows = subst (CellKnows q es) (sym is) knows
+install_at left (Some c) n q es put is knows = subst (CellKnows q es) (sym is) knows
 
-install_in : (old new : CellMap) (key q : List ℕ) (es : List Entry) (put : Option Put) → InstallsAt old new key put → CellsKnow es old → (b : Bool) → bytes_eq key q ≡ b → CellKnows q es (cell_at new q)
-install_in old new key q es put installs knows true is = subst (λ k. CellKnows k es (cell_at new k)) ((bytes_eq-Decides key q).0 is) (install_at (cell_at old key) (cell_at new key) key es put installs.here (knows key))
-install_in old new key q es put installs knows false is = subst (CellKnows q es) (sym (installs.others q is)) (knows q)
+install_in : (left : Bool) (old new : CellMap) (key q : List ℕ) (es : List Entry) (put : Option Put) → InstallsWith left old new key put → CellsKnow es old → (b : Bool) → bytes_eq key q ≡ b → CellKnows q es (cell_at new q)
+install_in left old new key q es put installs knows true is = subst (λ k. CellKnows k es (cell_at new k)) ((bytes_eq-Decides key q).0 is) (install_at left (cell_at old key) (cell_at new key) key es put installs.here (knows key))
+install_in left old new key q es put installs knows false is = subst (CellKnows q es) (sym (installs.others q is)) (knows q)
 
-pub install_knows : (old new : CellMap) (key : List ℕ) (put : Option Put) → InstallsAt old new key put → (es : List Entry) → CellsKnow es old → CellsKnow es new
-install_knows old new key put installs es knows q = install_in old new key q es put installs knows (bytes_eq key q) refl
+pub install_knows : (left : Bool) (old new : CellMap) (key : List ℕ) (put : Option Put) → InstallsWith left old new key put → (es : List Entry) → CellsKnow es old → CellsKnow es new
+install_knows left old new key put installs es knows q = install_in left old new key q es put installs knows (bytes_eq key q) refl

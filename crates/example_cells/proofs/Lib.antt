@@ -4,3 +4,4 @@ mod Draws
 mod Learning
 mod Logged
 mod InOrder
+pub mod Lefts

@@ -28,8 +28,8 @@ rises of pass seen (c ∷ cs) d each commit after rise = (
   rises of pass seen cs d each.1 commit after rise.1,
 )
 
-pub log_more : (of : Opening) (l : LogState) (d : Commit) → IsLog of l → IsCommit of d → d.pass ≡ l.pass → IsPrefix l.seen d.began → IsLog of (record { pass = l.pass; seen = d.seen; commits = l.commits ++ d ∷ [] })
-log_more of l d log commit own after =
+pub log_more : (of : Opening) (l : LogState) (d : Commit) (capacity : ℕ) → IsLog of l → IsCommit of d → d.pass ≡ l.pass → IsPrefix l.seen d.began → IsLog of (record { pass = l.pass; seen = d.seen; commits = l.commits ++ d ∷ []; capacity = capacity })
+log_more of l d capacity log commit own after =
     let whole : IsPrefix l.seen d.seen = followed l.seen d.began d.seen after (followed d.began d.point d.seen commit.began commit.two_phase.within) in
     record {
       each = every_more (IsLogged of l.pass l.seen) (IsLogged of l.pass d.seen) l.commits d (λ c x. record { commit = x.commit; own = x.own; within = followed c.seen l.seen d.seen x.within whole }) log.each (record { commit = commit; own = own; within = ([], append-nil d.seen) });

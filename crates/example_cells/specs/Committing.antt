@@ -1,6 +1,6 @@
 -- What it means that a transaction of the store committed: it held each of its locks at one moment of the table's
 -- history, and left its values as it freed them.
-use Rattle.std.specs.Prelude.{ℕ, ⊤, ◌≡◌, ◌≢◌, ◌<◌, ◌++◌, IsPermutation, ◌+◌, Option, Some, None, List, [], ◌∷◌, length, map, take, slice_get}
+use Rattle.std.specs.Prelude.{ℕ, Bool, ⊤, ◌≡◌, ◌≢◌, ◌<◌, ◌++◌, IsPermutation, ◌+◌, Option, Some, None, List, [], ◌∷◌, length, map, take, slice_get}
 use Rattle.std.specs.Option.{option_map}
 use Rattle.lt_ids.specs.declared.timestamp.Timestamp.{Timestamp}
 use Rattle.lt_rules.specs.declared.call.Call.{Call}
@@ -45,7 +45,8 @@ pub record Installs (es : List Entry) (key : List ℕ) (freed : ℕ) (put : Opti
   pub after : CellMap
   pub know : CellsKnow (take (freed + 1) es) after
   pub is : cell_at after key ≡ Some new
-  pub value : new ≡ installed put old
+  pub left : Bool
+  pub value : new ≡ installed left put old
 
 -- This tenure is the one of this transaction between these two steps.
 abbrev pub IsPast : PastTenure → ℕ → ℕ → ℕ → Type 0
@@ -90,12 +91,13 @@ pub record IsCommit (of : Opening) (c : Commit) : Type 0 where
 
 -- ---- the transactions that one caller committed
 
--- what contracts see of a log of commits: the number of the pass, what it had seen when the latest one was done, and the
--- transactions, in order
+-- what contracts see of a log of commits: the number of the pass, what it had seen when the latest one was done, the
+-- transactions, in order, and for how many there is room
 pub record LogState : Type 0 where
   pub pass : ℕ
   pub seen : List Event
   pub commits : List Commit
+  pub capacity : ℕ
 
 -- The names rise along the list.
 abbrev pub NamesRise : List Commit → Type 0

@@ -1,5 +1,5 @@
 -- What the cells beside a shard say of the shard's steps.
-use Rattle.std.specs.Prelude.{ℕ, ◌≡◌, false, unwrap_or, MatchOption, if◌then◌else◌, Option, Some, None, IfSome, IsSome, List}
+use Rattle.std.specs.Prelude.{ℕ, ◌≡◌, Bool, true, false, unwrap_or, MatchOption, if◌then◌else◌, Option, Some, None, IfSome, IsSome, List}
 use Rattle.std.specs.Option.{option_map}
 use Rattle.std.specs.Str.{bytes_eq}
 use Rattle.std.specs.HashMap as hash
@@ -49,15 +49,25 @@ past_next last o at (Finish txn) reply = if is_freed reply then past_of o at els
 past_next last o at (Leave number) reply = last
 past_next last o at (Look number) reply = last
 
+-- whether the log of values still has what the cell says, after a step of this call
+abbrev pub left_next : Bool → Call → Reply → Bool
+left_next left (Visit ticket txn ts access longest) reply = left
+left_next left (Acquire txn ts) reply = left
+left_next left (Update txn ts) reply = left
+left_next left (Finish txn) reply = if is_freed reply then false else left
+left_next left (Leave number) reply = left
+left_next left (Look number) reply = left
+
 -- The cell was told of this step of its key. Its value stays.
 pub record ToldCell (old new : Cell) (call : Call) (reply : Reply) (at : ℕ) : Type 0 where
   pub value : new.value ≡ old.value
+  pub left : new.left ≡ left_next old.left call reply
   pub owner : new.owner ≡ owner_next old.owner at call reply
   pub last : new.last ≡ past_next old.last old.owner at call reply
 
 -- the cell, once what was put is its value
-abbrev pub installed : Option Put → Cell → Cell
-installed put c = record c { value = unwrap_or put c.value }
+abbrev pub installed : Bool → Option Put → Cell → Cell
+installed left put c = record c { value = unwrap_or put c.value; left = left }
 
 -- ---- what a cell says
 
@@ -104,12 +114,12 @@ last_of (Some c) = c.last
 
 -- What is read of a key with this cell.
 abbrev pub ReadsCell : Option Cell → CellReading → Type 0
-ReadsCell None r = (r.value ≡ None) × (r.last ≡ None) × (r.owner ≡ None)
-ReadsCell (Some c) r = (value_bytes r.value ≡ value_bytes c.value) × (r.last ≡ c.last) × (r.owner ≡ c.owner)
+ReadsCell None r = (r.value ≡ None) × (r.last ≡ None) × (r.owner ≡ None) × (r.left ≡ false)
+ReadsCell (Some c) r = (value_bytes r.value ≡ value_bytes c.value) × (r.last ≡ c.last) × (r.owner ≡ c.owner) × (r.left ≡ c.left)
 
--- The key's cell, if it has one, has what was put. All else is as before.
-pub record InstallsAt (old new : CellMap) (key : List ℕ) (put : Option Put) : Type 0 where
-  pub here : MatchOption (cell_at old key) (cell_at new key ≡ None) (λ c. cell_at new key ≡ Some (installed put c))
+-- The key's cell, if it has one, has what was put, and says so much of the log of values. All else is as before.
+pub record InstallsWith (left : Bool) (old new : CellMap) (key : List ℕ) (put : Option Put) : Type 0 where
+  pub here : MatchOption (cell_at old key) (cell_at new key ≡ None) (λ c. cell_at new key ≡ Some (installed left put c))
   pub others : (q : List ℕ) → bytes_eq key q ≡ false → cell_at new q ≡ cell_at old q
 
 -- A key that a call may lock has a cell.

@@ -7,6 +7,7 @@ ghost use Rattle.example_cells.specs.Committing.{LeavesValue};
 use crate::cell_table::CellTable;
 use crate::committing::ActiveTxn;
 use crate::held::HeldLock;
+use example_values::ValueName;
 use lt_rules::KeyTable;
 use lt_words::laws::parts_begin;
 use lt_words::{Name, Pass};
@@ -19,7 +20,7 @@ fn are_both(one: bool, other: bool) -> bool
     one && other
 }
 
-impl<N: Name, T: KeyTable> CellTable<N, T> {
+impl<N: Name + ValueName, T: KeyTable> CellTable<N, T> {
     /// Frees the lock. The key keeps its value. False if the lock was not the transaction's, which never happens.
     fn give_up<R: Wait>(&self, rt: &R, pass: &mut Pass, lock: &HeldLock<N>) -> bool
         requires of { pass.old.of ≡ N.of }
@@ -34,8 +35,8 @@ impl<N: Name, T: KeyTable> CellTable<N, T> {
         self.free(rt, pass, lock, &point, None).is_some()
     }
 
-    /// Aborts the transaction: frees its locks, and drops what it has put. Needs no memory. False if one of the locks was
-    /// not the transaction's, which never happens.
+    /// Aborts the transaction: frees its locks, and drops what it has put. Waits while a key's shard is full of steps,
+    /// and needs no memory if the table stores none. False if one of the locks was not the transaction's, which never happens.
     pub fn abort<R: Wait>(&self, rt: &R, pass: &mut Pass, txn: ActiveTxn<N>) -> bool
         requires of { pass.old.of ≡ N.of }
         ensures of { pass.new.of ≡ N.of }

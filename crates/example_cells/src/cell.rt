@@ -1,11 +1,15 @@
 //! What does a store keep for a key? A [`Cell`]: the key's value, who owns the key's lock, and whose tenure of the lock
 //! ended last.
-ghost use Rattle.std.specs.Prelude.{◌≡◌, IfOk};
+ghost use Rattle.std.specs.Prelude.{◌≡◌, true, IfOk};
+ghost use mathlib.Core.List.{IsPrefix};
 ghost use Rattle.lt_rules.specs.Step.{is_taken, is_freed};
-ghost use Rattle.example_cells.specs.Knowing.{owner_next, past_next, past_of, ToldCell};
+ghost use Rattle.example_cells.specs.Knowing.{owner_next, past_next, past_of, left_next, ToldCell, value_bytes};
+ghost use Rattle.example_cells.specs.Leaving.{LeftAt};
 
-use lt_ids::TxnId;
+use example_values::{SeenValues, ValueBook};
+use lt_ids::{Key, TxnId};
 use lt_rules::{Call, Reply};
+use lt_words::shard_of;
 use std::alloc::{AllocError, Global};
 
 /// Who owns a key's lock.
@@ -40,6 +44,8 @@ pub struct Cell {
     pub owner: Option<Owner>,
     /// The tenure of the key's lock that ended last.
     pub last: Option<PastTenure>,
+    /// Whether the log of values has the value, as what the step left that ended this tenure.
+    pub left: bool,
 }
 
 /// What a transaction reads of a key.
@@ -51,6 +57,8 @@ pub struct CellReading {
     pub last: Option<PastTenure>,
     /// Who owns the key's lock.
     pub owner: Option<Owner>,
+    /// Whether the log of values has the value, as what the step left that ended this tenure.
+    pub left: bool,
 }
 
 /// A copy of these bytes.
@@ -118,20 +126,55 @@ fn past_next(
     }
 }
 
+/// Whether the log of values still has what the cell says, after this step.
+fn left_next(left: bool, call: &Call, reply: &Reply) -> bool
+    ensures { result ≡ left_next left call.now reply.now }
+{
+    match call {
+        Call::Finish { txn: _ } if is_freed(reply) => false,
+        _ => left,
+    }
+}
+
+/// Appends to the log of values that the step with this index left this value at the key, and says whether it did. A table
+/// has 1 to 64 shards.
+fn is_left(
+    book: &ValueBook,
+    seen: &mut SeenValues,
+    key: &Key,
+    shards: usize,
+    at: u64,
+    value: &Option<Vec<u8>>,
+) -> bool
+    requires book { book.now ≡ seen.old.book }
+    ensures book { seen.new.book ≡ seen.old.book }
+    ensures more { IsPrefix seen.old.log seen.new.log }
+    ensures left { result ≡ true → LeftAt shards seen.new.log key.now at (value_bytes value.now) }
+{
+    if shards == 0 || shards > 64 {
+        return false;
+    }
+    book.leave(seen, shard_of(key, shards), key, at, value)
+}
+
 impl Cell {
-    ghost use Rattle.std.specs.Prelude.{◌≡◌, None, IfOk};
+    ghost use Rattle.std.specs.Prelude.{◌≡◌, false, None, IfOk};
+    ghost use mathlib.Core.List.{IsPrefix};
     ghost use Rattle.example_cells.specs.Knowing.{ToldCell, value_bytes, installed};
+    ghost use Rattle.example_cells.specs.Leaving.{IsCellLeft};
 
     /// The cell of a key that nobody has locked yet.
     pub fn empty() -> Cell
         ensures value { result.value ≡ None }
         ensures owner { result.owner ≡ None }
         ensures last { result.last ≡ None }
+        ensures left { result.left ≡ false }
     {
         Cell {
             value: None,
             owner: None,
             last: None,
+            left: false,
         }
     }
 
@@ -140,6 +183,7 @@ impl Cell {
         ensures value { IfOk result (λ r. value_bytes r.value ≡ value_bytes self.now.value) }
         ensures last { IfOk result (λ r. r.last ≡ self.now.last) }
         ensures owner { IfOk result (λ r. r.owner ≡ self.now.owner) }
+        ensures left { IfOk result (λ r. r.left ≡ self.now.left) }
     {
         let value = match &self.value {
             None => None,
@@ -149,6 +193,7 @@ impl Cell {
             value,
             last: self.last,
             owner: self.owner,
+            left: self.left,
         })
     }
 
@@ -156,16 +201,40 @@ impl Cell {
     pub(crate) fn told(&mut self, call: &Call, reply: &Reply, at: u64)
         ensures { ToldCell self.old self.new call.now reply.now at }
     {
+        self.left = left_next(self.left, call, reply);
         self.last = past_next(&self.last, &self.owner, call, reply, at);
         self.owner = owner_next(&self.owner, call, reply, at);
     }
 
-    /// Gives the key what was put. If nothing was put, the value stays.
+    /// Gives the key what was put. If nothing was put, the value stays. The log of values does not have it yet.
     pub(crate) fn install(&mut self, put: Option<Put>)
-        ensures { self.new ≡ installed put self.old }
+        ensures { self.new ≡ installed false put self.old }
     {
+        self.left = false;
         if let Some(value) = put {
             self.value = value;
         }
+    }
+
+    /// Appends the value to the log of values, as what the step left that ended the last tenure. Says in `left` whether it
+    /// did, which it does unless the log says something of a later step of the shard.
+    pub(crate) fn leave(
+        &mut self,
+        book: &ValueBook,
+        seen: &mut SeenValues,
+        key: &Key,
+        shards: usize,
+    )
+        requires book { book.now ≡ seen.old.book }
+        ensures book { seen.new.book ≡ seen.old.book }
+        ensures more { IsPrefix seen.old.log seen.new.log }
+        ensures same { self.new ≡ record self.old { left = self.new.left } }
+        ensures left { IsCellLeft shards seen.new.log key.now self.new }
+    {
+        let Some(last) = &self.last else {
+            self.left = false;
+            return;
+        };
+        self.left = is_left(book, seen, key, shards, last.freed, &self.value);
     }
 }

@@ -3,11 +3,11 @@ ghost use Rattle.std.specs.Prelude.{◌≡◌, List, IfOk};
 ghost use Rattle.lt_entry.specs.declared.entry.Entry.{Entry};
 ghost use Rattle.lt_words.specs.History.{part, shard_of};
 ghost use Rattle.lt_words.specs.Row.{SeesMore};
-ghost use Rattle.lt_words.specs.declared.keeping.Keeping.TheVariants.{Unrecorded};
 ghost use Rattle.example_cells.specs.Knowing.{CellMap, CellsKnow, ReadsCell, cell_at};
 
 use crate::cell::{CellReading, Put};
 use crate::cells::Cells;
+use example_values::ValueName;
 use lt_ids::Key;
 use lt_rules::KeyTable;
 use lt_table_core::Table;
@@ -15,21 +15,17 @@ use lt_words::{Name, Pass};
 use std::alloc::{AllocError, Global};
 use std::sync::Wait;
 
-/// A lock table that has the [`Cells`] of each shard's keys beside the shard. It stores no steps: so no transaction that
-/// gives up its locks is ever refused.
+/// A lock table that has the [`Cells`] of each shard's keys beside the shard.
 #[derive(Drop)]
-pub struct CellTable<N: Name, T: KeyTable> {
+pub struct CellTable<N: Name + ValueName, T: KeyTable> {
     pub(crate) alloc: Global,
     /// The locks.
-    pub table: Table<N, T, (), Cells>,
-    pub ghost keeping: { N.of.keeping ≡ Unrecorded },
+    pub table: Table<N, T, (), Cells<N>>,
 }
 
-impl<N: Name, T: KeyTable> CellTable<N, T> {
+impl<N: Name + ValueName, T: KeyTable> CellTable<N, T> {
     /// A table with cells. Readings allocate from `alloc`.
-    pub fn new(alloc: Global, table: Table<N, T, (), Cells>) -> CellTable<N, T>
-        requires { N.of.keeping ≡ Unrecorded }
-    {
+    pub fn new(alloc: Global, table: Table<N, T, (), Cells<N>>) -> CellTable<N, T> {
         CellTable { alloc, table }
     }
 
@@ -38,13 +34,8 @@ impl<N: Name, T: KeyTable> CellTable<N, T> {
         self.alloc
     }
 
-    /// Ghost call: tells the prover that the table stores no steps.
-    pub(crate) fn stores_none(&self)
-        ensures { N.of.keeping ≡ Unrecorded }
-    {}
-
     /// The lock table, to be closed. The values are gone.
-    pub fn into_table(self) -> Table<N, T, (), Cells> {
+    pub fn into_table(self) -> Table<N, T, (), Cells<N>> {
         let CellTable { table, .. } = self;
         table
     }
@@ -65,7 +56,7 @@ impl<N: Name, T: KeyTable> CellTable<N, T> {
             rt,
             pass,
             key,
-            |cells: &mut Cells| -> Result<(), AllocError>
+            |cells: &mut Cells<N>| -> Result<(), AllocError>
                 ensures { (es : List Entry) → CellsKnow es cells.old.map → CellsKnow es cells.new.map }
             { cells.load(key, value) },
         )
@@ -90,7 +81,7 @@ impl<N: Name, T: KeyTable> CellTable<N, T> {
             rt,
             pass,
             key,
-            |cells: &Cells| -> Result<CellReading, AllocError>
+            |cells: &Cells<N>| -> Result<CellReading, AllocError>
                 ensures { IfOk result (λ r. ReadsCell (cell_at cells.now.map key.entry.now) r) }
             { cells.read(alloc, key) },
         )

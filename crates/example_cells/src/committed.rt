@@ -1,5 +1,6 @@
 //! What is left of a transaction when it has committed?
 use crate::naming::DrawnName;
+use example_values::SeenValues;
 use lt_ids::{Key, TxnId};
 use lt_words::{Front, Name};
 use std::marker::{Model, PhantomData};
@@ -12,6 +13,8 @@ pub struct LockTenure {
     pub taken: u64,
     /// The index of the step that freed it.
     pub freed: u64,
+    /// What was then seen of the log of values.
+    pub values: SeenValues,
 }
 
 /// A transaction that committed.
@@ -54,6 +57,20 @@ impl<N: Name> Model for Committed<N> {
 impl<N: Name> Committed<N> {
     ghost use Rattle.std.specs.Prelude.{◌≡◌};
     ghost use Rattle.example_cells.specs.Committing.{IsCommit};
+
+    /// The transaction.
+    pub fn txn(&self) -> TxnId
+        ensures { result ≡ self.now.txn }
+    {
+        self.name.id
+    }
+
+    /// The tenures of its locks, in the order in which it took them.
+    pub fn tenures(&self) -> &[LockTenure]
+        ensures { result.now ≡ self.now.tenures }
+    {
+        &self.tenures
+    }
 
     /// What the transaction's pass had seen when the commit was done.
     pub fn seen(&self) -> Front

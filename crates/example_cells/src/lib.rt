@@ -5,9 +5,6 @@
 //! step of the shard. So the cell of a key knows, of all steps of the shard, who owns the key's lock, and whose tenure of it
 //! ended last.
 //!
-//! The table must be one that stores no steps (`keeping` of [`CellTable`]), because only such a table never refuses a finish.
-//! What follows holds of these tables.
-//!
 //! ```text
 //!   steps of the key   0: acquire by 1   1: finish by 1   2: acquire by 2   3: finish by 2
 //!   value              none              a                a                 b
@@ -18,8 +15,9 @@
 //! A transaction:
 //!
 //! 1. draws its name ([`CellTable::name`]) and begins ([`ActiveTxn::new`]);
-//! 2. takes locks ([`CellTable::take`]) and notes them ([`ActiveTxn::note`]). What it reads it reads in the critical section of
-//!    its acquire: what the transaction left whose tenure ended last;
+//! 2. takes locks ([`CellTable::take`], or [`CellTable::take_in`] by a request that waited) and notes them
+//!    ([`ActiveTxn::note`]). What it reads it reads in the critical section of its acquire: what the transaction left whose
+//!    tenure ended last;
 //! 3. puts values: `put` of a [`HeldLock`], which nobody else sees yet;
 //! 4. commits ([`CellTable::commit`]) or aborts ([`CellTable::abort`]). Each lock comes free and what was put becomes the key's
 //!    value in one critical section. A [`CommitLog`] keeps what was committed through a pass.
@@ -37,17 +35,22 @@
 //!   of the table tells, and that the logs are of different passes.
 //! - **What a commit put is the key's value** before anybody else can see the key (`freed` of [`CellTable::commit`]), and an
 //!   abort that returns true leaves the value as it is (`leaves` of [`CellTable::abort`]).
+//! - **What is read is what was put.** The log of values (`example_values`) has what each commit has put, as what its finish
+//!   left (`left` of [`CellTable::commit`]), and what each locked read found, as what the finish left that ended the last
+//!   tenure, if the reading says so (`left` of [`CellTable::take`]). The log says one value of a step. So a locked read of what
+//!   a transaction left returns what that transaction had put ([`HeldLock::reads_what_was_left`]).
 //! - **No two transactions have one name**: each drew its own (`DrewIn` in `IsCommit`).
 //!
 //! # What is not proved
 //!
-//! No clause ties the value of one critical section to that of the next one at the same key. The clauses on values (`read`,
-//! `freed`, `leaves`) speak of some cells that know the steps. That these are the table's own is in the bodies, which change
-//! and read what the calls of `lt_table_core::Table` lend them. Only a commit and [`CellTable::load`] change a value: each
-//! call is written so, and no contract says it of all of them. The test in `example_cells_tests` reads what was left.
+//! The clauses `read`, `freed` and `leaves` speak of some cells that know the steps: that these are the table's own is in the
+//! bodies. The log of values says more, but only of what was put: a transaction that frees a lock without having written leaves
+//! what it found, and that is in the log too, but in no clause. No clause says that a reading has `left`: it has, unless the
+//! key was never freed or was loaded since ([`CellTable::load`]). The test in `example_cells_tests` asks for it.
 //!
-//! Nothing here waits for a lock: a store that has requests waits before it takes one. And [`CellTable::read`], which takes
-//! no lock, is read committed.
+//! Nothing here waits for another transaction: a store that has requests waits before it takes a lock (`example_store`). But
+//! while a shard of a table that stores its steps is full, a commit and an abort wait until some are taken out. And
+//! [`CellTable::read`], which takes no lock, is read committed.
 //!
 //! Read in this order: `src/cell.rt`, `src/cells.rt`, `src/taking.rt`, `src/freeing.rt`, `src/committing.rt`, `src/log.rt`.
 #![tactic(auto)]
@@ -63,12 +66,14 @@ mod held;
 mod log;
 mod naming;
 mod taking;
+mod values;
 
 pub use cell::{Cell, CellReading, Owner, PastTenure, Put};
 pub use cell_table::CellTable;
-pub use cells::Cells;
+pub use cells::{Cells, Installed};
 pub use committed::{Committed, LockTenure};
 pub use committing::ActiveTxn;
+pub use freeing::FreedLock;
 pub use held::HeldLock;
 pub use log::{CommitLog, commits_went_in_order};
 pub use naming::DrawnName;

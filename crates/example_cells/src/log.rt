@@ -22,6 +22,7 @@ pub struct CommitLog<N: Name> {
 }
 
 impl<N: Name> Model for CommitLog<N> {
+    ghost use Rattle.std.specs.Prelude.{vec_capacity};
     ghost use Rattle.example_cells.specs.Committing.{LogState, IsLog};
 
     ghost Value = { LogState };
@@ -30,17 +31,19 @@ impl<N: Name> Model for CommitLog<N> {
       pass = l.pass;
       seen = l.seen.seen;
       commits = l.commits.items;
+      capacity = vec_capacity l.commits;
     } };
 
     ghost invariant = { λ l. IsLog N.of (record {
       pass = l.pass;
       seen = l.seen.seen;
       commits = l.commits.items;
+      capacity = vec_capacity l.commits;
     }) };
 }
 
 impl<N: Name> CommitLog<N> {
-    ghost use Rattle.std.specs.Prelude.{◌≡◌, [], ◌∷◌, ◌++◌, OnOk, OnErr};
+    ghost use Rattle.std.specs.Prelude.{◌≡◌, ◌<◌, [], ◌∷◌, ◌++◌, length, OnOk};
     ghost use mathlib.Core.List.{IsPrefix};
     ghost use Rattle.example_cells.specs.Committing.{IsLog};
 
@@ -57,25 +60,37 @@ impl<N: Name> CommitLog<N> {
         }
     }
 
-    /// Adds a transaction that this pass has committed and that began after the log's latest one was done. If memory runs
-    /// out, the transaction is not in the log.
-    pub fn push(&mut self, commit: Committed<N>) -> Result<(), AllocError>
+    /// Makes room for one more transaction.
+    pub fn reserve(&mut self) -> Result<(), AllocError>
+        ensures room { OnOk result (length self.new.commits < self.new.capacity) }
+        ensures pass { self.new.pass ≡ self.old.pass }
+        ensures seen { self.new.seen ≡ self.old.seen }
+        ensures commits { self.new.commits ≡ self.old.commits }
+    {
+        self.commits.reserve(1)
+    }
+
+    /// Adds a transaction that this pass has committed and that began after the log's latest one was done. There is room
+    /// for it.
+    pub fn push(&mut self, commit: Committed<N>)
         requires own { commit.pass ≡ self.old.pass }
         requires after { IsPrefix self.old.seen commit.began }
-        ensures ok { OnOk result (self.new.commits ≡ self.old.commits ++ commit ∷ []) }
-        ensures seen { OnOk result (self.new.seen ≡ commit.seen) }
+        requires room { length self.old.commits < self.old.capacity }
+        ensures commits { self.new.commits ≡ self.old.commits ++ commit ∷ [] }
+        ensures seen { self.new.seen ≡ commit.seen }
         ensures pass { self.new.pass ≡ self.old.pass }
-        ensures err { OnErr result (self.new ≡ self.old) }
     {
         commit.is_commit();
         let seen = commit.seen();
-        match self.commits.push(commit) {
-            Ok(()) => {
-                self.seen = seen;
-                Ok(())
-            }
-            Err(_) => Err(AllocError),
-        }
+        self.commits.push_reserved(commit);
+        self.seen = seen;
+    }
+
+    /// The transactions, in the order in which they were committed.
+    pub fn commits(&self) -> &[Committed<N>]
+        ensures { result.now ≡ self.now.commits }
+    {
+        &self.commits
     }
 
     /// Ghost call: tells the prover what a log is.

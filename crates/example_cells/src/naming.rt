@@ -5,6 +5,7 @@ ghost use Rattle.lt_words.specs.History.{draws_of, DrewIn};
 ghost use Rattle.lt_words.specs.Row.{SeesMore};
 
 use crate::cell_table::CellTable;
+use example_values::ValueName;
 use lt_ids::TxnId;
 use lt_rules::KeyTable;
 use lt_words::{Front, Name, Pass};
@@ -29,7 +30,7 @@ pub struct DrawnName<N: Name> {
     pub ghost drew: { ∥ DrewIn seen.seen pass id ∥₁ },
 }
 
-impl<N: Name, T: KeyTable> CellTable<N, T> {
+impl<N: Name + ValueName, T: KeyTable> CellTable<N, T> {
     /// Draws a name for a transaction of this pass. `None` if the numbers are used up.
     pub fn name(&self, pass: &mut Pass) -> Option<DrawnName<N>>
         requires of { pass.old.of ≡ N.of }

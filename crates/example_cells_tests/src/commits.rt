@@ -1,27 +1,29 @@
 //! What do transactions leave at a key, and what do they find there? A test plays rows, each a transaction of one key: it
 //! takes the key's lock, says what it finds, writes or does not, and commits or aborts. The expected values are found by
 //! hand: each transaction makes two steps at the key, so the one in row r takes the lock by step 2r and frees it by step
-//! 2r + 1.
+//! 2r + 1. So it does however the table keeps its steps.
 //!
 //! A take that runs out of memory is made once more.
-ghost use Rattle.std.specs.Prelude.{◌≡◌, IfSome};
-ghost use Rattle.lt_words.specs.declared.keeping.Keeping.TheVariants.{Unrecorded};
+ghost use Rattle.std.specs.Prelude.{◌≡◌, [], IfSome, IfOk};
+ghost use Rattle.example_cells.specs.Knowing.{CellsKnow};
+ghost use Rattle.std.specs.Arc.{arc_value};
 
 use example_cells::{ActiveTxn, CellReading, CellTable, Cells, HeldLock, PastTenure, TakenLock};
+use example_values::{ValueBook, ValueName};
 use lt_ids::{Key, Timestamp};
 use lt_table::{Config, Keeping, LinkedTable, Ready, open_valued, prepare_with};
 use lt_test_kit::key::key_of;
 use lt_test_kit::run::seated;
 use lt_words::{Name, Pass};
-use std::alloc::Global;
+use std::alloc::{AllocError, Global};
 use std::marker::Brand;
-use std::sync::Wait;
+use std::sync::{Arc, Wait};
 use std::test::Fail;
 
 const LIMITS: Config = Config {
     shards: 1,
     passes: 1,
-    max_steps: 1,
+    max_steps: 100,
     max_requests: 10,
     max_waits: 1,
 };
@@ -58,8 +60,12 @@ fn first_byte(reading: &CellReading) -> Option<u8> {
     }
 }
 
-/// Whether the transaction of the row before this one left what was read.
-fn is_of_row_before(last: &Option<PastTenure>, row: u64) -> bool {
+/// Whether the transaction of the row before this one left what was read, and the log of values has it.
+fn is_of_row_before(reading: &CellReading, row: u64) -> bool {
+    reading.left == (row > 0) && is_tenure_of_row_before(&reading.last, row)
+}
+
+fn is_tenure_of_row_before(last: &Option<PastTenure>, row: u64) -> bool {
     let steps = row.saturating_mul(2);
     match last {
         None => row == 0,
@@ -69,7 +75,7 @@ fn is_of_row_before(last: &Option<PastTenure>, row: u64) -> bool {
 }
 
 /// Takes the lock for the transaction. A take that runs out of memory is made once more.
-fn take<N: Name, R: Wait>(
+fn take<N: Name + ValueName, R: Wait>(
     rt: &R,
     table: &CellTable<N, LinkedTable>,
     pass: &mut Pass,
@@ -89,7 +95,7 @@ fn take<N: Name, R: Wait>(
 }
 
 /// What the write leaves at the key. None if an allocation fails.
-fn put<N: Name>(alloc: Global, write: Write, lock: &mut HeldLock<N>) -> Option<()>
+fn put<N: Name + ValueName>(alloc: Global, write: Write, lock: &mut HeldLock<N>) -> Option<()>
     ensures txn { lock.new.txn ≡ lock.old.txn }
 {
     match write {
@@ -105,7 +111,7 @@ fn put<N: Name>(alloc: Global, write: Write, lock: &mut HeldLock<N>) -> Option<(
 }
 
 /// Plays the row with this index. Whether its transaction found what it must. None if an allocation fails.
-fn play<N: Name, R: Wait>(
+fn play<N: Name + ValueName, R: Wait>(
     rt: &R,
     table: &CellTable<N, LinkedTable>,
     pass: &mut Pass,
@@ -118,7 +124,6 @@ fn play<N: Name, R: Wait>(
 {
     let (finds, write, commits) = *row;
     let alloc = table.alloc();
-    let done = Vec::with_capacity(alloc, 1).ok()?;
     let name = table.name(pass)?;
     let mut txn = ActiveTxn::new(alloc, name, TS);
     txn.reserve().ok()?;
@@ -126,9 +131,9 @@ fn play<N: Name, R: Wait>(
     let reading = reading.ok()?;
     put(alloc, write, &mut lock)?;
     txn.note(lock);
-    let right = first_byte(&reading) == finds && is_of_row_before(&reading.last, index);
+    let right = first_byte(&reading) == finds && is_of_row_before(&reading, index);
     if commits {
-        table.commit(rt, pass, txn, done)?;
+        table.commit(rt, pass, txn)?;
     } else if !table.abort(rt, pass, txn) {
         return None;
     }
@@ -136,16 +141,27 @@ fn play<N: Name, R: Wait>(
 }
 
 /// Plays all rows. Returns how many transactions found what they must.
-fn play_all<N: Name, R: Wait>(rt: &R, alloc: Global, ready: Ready) -> Option<u64>
-    requires of { ready.of ≡ N.of }
-    requires keeping { N.of.keeping ≡ Unrecorded }
+fn play_all<N: Name + ValueName, R: Wait>(
+    rt: &R,
+    alloc: Global,
+    ready: Ready,
+    book: Arc<ValueBook>,
+) -> Option<u64>
+    requires named { ready.of ≡ N.of }
+    requires shards { ready.of.shards ≡ 1 }
+    requires values { arc_value book ≡ N.values }
 {
-    let (table, passes) = open_valued::<N, Cells, _>(
+    let (table, passes) = open_valued::<N, Cells<N>, _>(
         alloc,
         ready,
         0,
-        |_| Ok(Cells::new(alloc, 0)),
-    ).ok()?;
+        |_: usize| -> Result<Cells<N>, AllocError>
+            requires book { arc_value book ≡ N.values }
+            requires many { N.of.shards ≡ 1 }
+            ensures { IfOk result (λ v. CellsKnow [] v.map) }
+        { Ok(Cells::new(alloc, 0, Arc::try_clone(&book)?, 1)) },
+    )
+    .ok()?;
     let table = CellTable::new(alloc, table);
     let mut seats = seated::<N>(alloc, passes)?;
     let key = key_of(alloc, b'k')?;
@@ -155,7 +171,7 @@ fn play_all<N: Name, R: Wait>(rt: &R, alloc: Global, ready: Ready) -> Option<u64
     right
 }
 
-fn count_right<N: Name, R: Wait>(
+fn count_right<N: Name + ValueName, R: Wait>(
     rt: &R,
     table: &CellTable<N, LinkedTable>,
     pass: &mut Pass,
@@ -175,14 +191,17 @@ fn count_right<N: Name, R: Wait>(
     Some(right)
 }
 
-fn run<R: Wait>(rt: &R, alloc: Global) -> Option<u64> {
-    let ready = prepare_with(alloc, LIMITS, Keeping::Unrecorded).ok()?;
-    play_all::<Brand, R>(rt, alloc, ready)
+fn run<R: Wait>(rt: &R, alloc: Global, keeping: Keeping) -> Option<u64> {
+    let book = Arc::new(alloc, ValueBook::open(alloc).ok()?).ok()?;
+    let ready = prepare_with(alloc, LIMITS, keeping).ok()?;
+    play_all::<Brand, R>(rt, alloc, ready, book)
 }
 
 #[test]
 fn each_transaction_finds_what_the_one_before_it_left(rt: HostRuntime) -> Result<(), Fail> {
-    let right = run(&rt, rt.alloc()).ok_or("the run")?;
-    assert_eq!(rt; right, ROWS.len() as u64);
+    for keeping in [Keeping::Whole, Keeping::Streamed, Keeping::Unrecorded] {
+        let right = run(&rt, rt.alloc(), keeping).ok_or("the run")?;
+        assert_eq!(rt; right, ROWS.len() as u64);
+    }
     Ok(())
 }

@@ -1,3 +1,4 @@
 pub mod Cycles
-pub mod Shown
+pub mod Held
+pub mod Passes
 pub mod Walks

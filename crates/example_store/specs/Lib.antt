@@ -1,3 +1,4 @@
 pub mod Graph
-pub mod Installed
-pub mod Values
+pub mod Sessions
+pub mod Closing
+pub mod Locks

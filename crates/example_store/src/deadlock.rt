@@ -1,10 +1,11 @@
 //! How does a waiting request learn that it is in a deadlock, and who gives way?
 //!
 //! The table has no deadlock detection. It only tells for each key who holds its lock and who waits. A request that
-//! has waited for [`PATIENCE`] looks for a deadlock: it inspects all keys, builds the edges "who waits for whom" and
-//! asks [`victim_of`] for a cycle. The transaction with the greatest number in the cycle, which is the youngest, has to
-//! give way. Whoever found the cycle writes the number of the victim's request into the word `doomed` of the store, and
-//! interrupts the victim's pass. A request that found no cycle sleeps until it is let through or interrupted.
+//! has waited for [`PATIENCE`] looks for a deadlock: it inspects the keys that have a record, builds the edges "who waits
+//! for whom" and asks [`victim_of`] for a cycle. An edge names a transaction by its timestamp. The transaction with the
+//! greatest timestamp in the cycle, which is the youngest, has to give way. Whoever found the cycle writes the number of
+//! the victim's request into the word `doomed` of the store, and interrupts the victim's pass. A request that found no
+//! cycle sleeps until it is let through or interrupted.
 //!
 //! That request need not look again. A session takes locks only while it does not wait, so each transaction of a cycle
 //! took the lock for which another one waits before it began to wait itself. The cycle is complete when the last of its
@@ -15,15 +16,17 @@
 //!
 //! Every deadlock is resolved, although there is only one word for victims. Whoever found a cycle waits and looks
 //! again until it finds none. So if another number was written before a victim read its own, the victim is told again.
-ghost use Rattle.std.specs.Prelude.{◌≡◌};
+ghost use Rattle.std.specs.Prelude.{◌≡◌, ◌<◌};
+ghost use Rattle.lt_walk.specs.Reported.{IsSamePass};
 
 use crate::error::StoreError;
 use crate::graph::{WaitEdge, victim_of};
 use crate::store::Store;
-use lt_ids::TxnId;
+use example_values::ValueName;
+use lt_ids::Timestamp;
 use lt_rules::QueuedRequest;
 use lt_table::{Guard, KeyState, Poll};
-use lt_words::Name;
+use lt_words::{Name, Pass};
 use std::alloc::AllocError;
 use std::sync::Wait;
 use std::sync::atomic::Ordering;
@@ -39,24 +42,28 @@ struct Waits {
     edges: Vec<WaitEdge>,
 }
 
-/// The transaction for which the requests queued at a key wait: the holder of its lock, or the one for which the
-/// lock is reserved.
-fn blocker_of(state: &KeyState) -> Option<TxnId> {
+/// The timestamp of the transaction for which the requests queued at a key wait: the holder of its lock, or the one for
+/// which the lock is reserved.
+fn blocker_of(state: &KeyState) -> Option<Timestamp> {
     match (&state.holder, &state.reservation) {
-        (Some(holder), _) => Some(holder.txn),
-        (None, Some(request)) => request.txn,
+        (Some(holder), _) => Some(holder.ts),
+        (None, Some(request)) => Some(request.ts),
         (None, None) => None,
     }
 }
 
-/// Adds a request that waits for this transaction. Nobody waits for himself.
-fn add_wait(waits: &mut Waits, request: &QueuedRequest, blocker: TxnId) -> Result<(), AllocError> {
+/// Adds a request that waits for the transaction with this timestamp. Nobody waits for himself.
+fn add_wait(
+    waits: &mut Waits,
+    request: &QueuedRequest,
+    blocker: Timestamp,
+) -> Result<(), AllocError> {
     match request.txn {
-        Some(waiter) if waiter != blocker => {
+        Some(_) if request.ts.wall != blocker.wall => {
             waits.requests.push(*request)?;
             waits.edges.push(WaitEdge {
-                waiter: waiter.number(),
-                holder: blocker.number(),
+                waiter: request.ts.wall,
+                holder: blocker.wall,
             })?;
             Ok(())
         }
@@ -64,7 +71,7 @@ fn add_wait(waits: &mut Waits, request: &QueuedRequest, blocker: TxnId) -> Resul
     }
 }
 
-/// Adds the requests that wait at one key.
+/// Adds the requests that wait at one key. All of the store's requests are writers.
 fn add_waits(waits: &mut Waits, state: &KeyState) -> Result<(), AllocError> {
     let Some(blocker) = blocker_of(state) else {
         return Ok(());
@@ -74,30 +81,24 @@ fn add_waits(waits: &mut Waits, state: &KeyState) -> Result<(), AllocError> {
             add_wait(waits, &writer.request, blocker)?;
         }
     }
-    for reader in &state.readers {
-        add_wait(waits, reader, blocker)?;
-    }
     Ok(())
 }
 
-/// The first of these requests that is of the transaction with this number.
-fn request_of(requests: &[QueuedRequest], txn: u64) -> Option<QueuedRequest> {
-    for request in requests {
-        if let Some(id) = request.txn {
-            if id.number() == txn {
-                return Some(*request);
-            }
-        }
-    }
-    None
+/// The first of these requests whose transaction has this timestamp.
+fn request_of(requests: &[QueuedRequest], ts: u64) -> Option<QueuedRequest> {
+    requests
+        .iter()
+        .copied()
+        .find(|request| request.ts.wall == ts)
 }
 
-impl<N: Name> Store<N> {
+impl<N: Name + ValueName> Store<N> {
     /// Waits until the request is let through. Returns at once if it does not wait. Refused if its transaction has to
     /// give way.
+    #[tactic(auto, using(crate::proofs::Passes::same_self, crate::proofs::Passes::same_on, crate::proofs::Passes::same_of_more, crate::proofs::Passes::same_of_stays))]
     pub(crate) fn wait<R: Wait + Clock>(&self, rt: &R, guard: &mut Guard) -> Result<(), StoreError>
-        requires { guard.old.pass.of ≡ N.of }
-        ensures { guard.new.pass.of ≡ N.of }
+        requires of { guard.old.pass.of ≡ N.of }
+        ensures same { IsSamePass guard.old.pass guard.new.pass }
     {
         let mut is_clear = false;
         for _ in rt.forever() {
@@ -107,68 +108,98 @@ impl<N: Name> Store<N> {
             if self.doomed.load(Ordering::SeqCst) == guard.number() {
                 return Err(StoreError::Deadlock);
             }
-            is_clear = is_clear || self.push(rt, guard)?;
+            if !is_clear {
+                is_clear = guard.with_pass(
+                    |pass: &mut Pass| -> Result<bool, AllocError>
+                        requires { pass.old.of ≡ N.of }
+                        ensures { IsSamePass pass.old pass.new }
+                    { self.push(rt, pass) },
+                )?;
+            }
         }
         unreachable!()
     }
 
     /// Sleeps until the request is let through or interrupted, but for at most [`PATIENCE`] unless a look for a
     /// deadlock has found none.
+    #[tactic(auto, using(crate::proofs::Passes::same_self, crate::proofs::Passes::same_on, crate::proofs::Passes::same_of_more, crate::proofs::Passes::same_of_stays))]
     fn wait_once<R: Wait + Clock>(
         &self,
         rt: &R,
         guard: &mut Guard,
         is_clear: bool,
     ) -> Result<Poll, StoreError>
-        requires { guard.old.pass.of ≡ N.of }
-        ensures { guard.new.pass.of ≡ N.of }
+        requires of { guard.old.pass.of ≡ N.of }
+        ensures same { IsSamePass guard.old.pass guard.new.pass }
     {
         if is_clear {
-            return Ok(self.table.wait_interruptibly(rt, guard));
+            return Ok(self.cells.table.wait_interruptibly(rt, guard));
         }
         let deadline = turn_end(rt)?;
-        Ok(self.table.wait_until(rt, guard, deadline))
+        Ok(self.cells.table.wait_until(rt, guard, deadline))
     }
 
     /// Looks for a deadlock. If there is one, also on a second look, its victim is told to give way, which may be this
     /// request itself. Returns whether the first look found none.
-    fn push<R: Wait>(&self, rt: &R, guard: &mut Guard) -> Result<bool, StoreError>
-        requires { guard.old.pass.of ≡ N.of }
-        ensures { guard.new.pass.of ≡ N.of }
+    #[tactic(auto, using(crate::proofs::Passes::same_self, crate::proofs::Passes::same_on))]
+    fn push<R: Wait>(&self, rt: &R, pass: &mut Pass) -> Result<bool, AllocError>
+        requires of { pass.old.of ≡ N.of }
+        ensures same { IsSamePass pass.old pass.new }
     {
-        let Some(victim) = self.deadlocked(rt, guard)? else {
+        let Some(victim) = self.deadlocked(rt, pass)? else {
             return Ok(true);
         };
-        if self.deadlocked(rt, guard)? == Some(victim) {
+        if self.deadlocked(rt, pass)? == Some(victim) {
             self.doomed.store(victim.number(), Ordering::SeqCst);
-            self.table.interrupt(victim.pass);
+            self.cells.table.interrupt(victim.pass);
         }
         Ok(false)
     }
 
-    /// Looks at all keys, one after the other, and chooses whose request has to give way. `None` if there is no
-    /// deadlock.
+    /// Looks at the keys that have a record, one after the other, and chooses whose request has to give way. `None` if there
+    /// is no deadlock.
+    #[tactic(auto, using(crate::proofs::Passes::same_self, crate::proofs::Passes::same_on, crate::proofs::Passes::same_of_more, crate::proofs::Passes::same_of_stays))]
     fn deadlocked<R: Wait>(
         &self,
         rt: &R,
-        guard: &mut Guard,
-    ) -> Result<Option<QueuedRequest>, StoreError>
-        requires { guard.old.pass.of ≡ N.of }
-        ensures { guard.new.pass.of ≡ N.of }
+        pass: &mut Pass,
+    ) -> Result<Option<QueuedRequest>, AllocError>
+        requires of { pass.old.of ≡ N.of }
+        ensures same { IsSamePass pass.old pass.new }
     {
         let mut waits = Waits {
             requests: Vec::new(self.alloc),
             edges: Vec::new(self.alloc),
         };
-        for slot in &self.slots {
-            let state = self.table.inspect_in(rt, guard, &slot.key)?;
-            add_waits(&mut waits, &state)?;
+        for shard in 0..self.shards {
+            self.add_shard(rt, pass, shard, &mut waits)?;
         }
         let Waits { requests, edges } = waits;
         match victim_of(self.alloc, edges)? {
-            Some(txn) => Ok(request_of(&requests, txn)),
+            Some(ts) => Ok(request_of(&requests, ts)),
             None => Ok(None),
         }
+    }
+
+    /// Adds the requests that wait at the keys of this shard.
+    #[tactic(auto, using(crate::proofs::Passes::same_self, crate::proofs::Passes::same_on, crate::proofs::Passes::same_of_more, crate::proofs::Passes::same_of_stays))]
+    fn add_shard<R: Wait>(
+        &self,
+        rt: &R,
+        pass: &mut Pass,
+        shard: usize,
+        waits: &mut Waits,
+    ) -> Result<(), AllocError>
+        requires of { pass.old.of ≡ N.of }
+        requires shard { shard < N.of.shards }
+        ensures same { IsSamePass pass.old pass.new }
+    {
+        let keys = self.cells.table.locked_keys(rt, pass, shard)?;
+        for key in &keys {
+            let state = self.cells.table.inspect(rt, pass, key)?;
+            add_waits(waits, &state)?;
+        }
+        Ok(())
     }
 }
 

@@ -1,49 +1,60 @@
-//! How does a store stand on the lock table? This one is small and in memory: a fixed number of keys with numbers as
-//! values, and transactions of many threads that the lock table puts in order. The program `example_bank` opens it
-//! and runs two workloads on it.
+//! How does a store stand on the lock table? This one is small and in memory: keys and values are byte strings, and the
+//! transactions of many threads wait for each other's locks. The values are beside the shards of the table, behind the
+//! shards' own locks (`example_cells`). The program `example_bank` opens it and runs two workloads on it.
 //!
 //! Read in this order:
 //!
-//! 1. `src/store.rt`: the calls, the latches, the isolation.
-//! 2. `src/request.rt`: the way of one request through the table.
+//! 1. `src/store.rt`: how a store is opened, how a transaction begins, and the isolation.
+//! 2. `src/access.rt`: reads and writes. `src/request.rt`: the way of one request through the table.
 //! 3. `src/deadlock.rt` and `src/graph.rt`: who waits for whom, and who gives way.
-//! 4. `src/cell.rt`: what is behind a latch. `src/session.rt`: how a pass goes to a thread, and how it learns.
+//! 4. `src/ending.rt`: commits and aborts. `src/closing.rt`: what the close says of all transactions.
+//! 5. `src/session.rt`: how a pass goes to a thread.
 //!
 //! # The life of a store
 //!
-//! - `lt_table::open` gives a table and its passes. [`Store::new`] takes the table, and [`sessions_of`] makes a
-//!   [`StoreSession`] of each pass.
-//! - Threads share the store. Each has a session of its own and calls [`Store::begin`], [`Store::get`],
-//!   [`Store::get_for_update`], [`Store::put`], and [`Store::commit`] or [`Store::abort`].
+//! - [`Store::open`] opens the table of a prepared book and gives its passes. [`sessions_of`] makes a [`StoreSession`] of each.
+//! - Threads share the store. Each has a session of its own and calls [`Store::begin`], [`Store::get_for_update`],
+//!   [`Store::put`], [`Store::delete`], [`Store::get`], and [`Store::commit`] or [`Store::abort`].
 //! - After [`StoreError::Deadlock`] a caller aborts and calls [`Store::begin_again`].
-//! - At the end [`passes_back`] gives the passes and [`Store::into_table`] the table, to be closed.
+//! - At the end [`Store::close`] closes the table with the passes of all sessions, and gives the sessions' logs.
+//!
+//! Each session logs what it commits, so the logs grow as long as the store is open: by some 150 bytes for a transaction of
+//! two keys.
 //!
 //! # What is proved
 //!
 //! - Every function is safe, and every call of the table meets the table's premises: it gets a pass of this table.
+//! - **A commit that says Ok** held all of the transaction's locks at one moment of the table's history, each without a break
+//!   from the step that took it to the step that freed it. As each lock came free, what the transaction had put was the key's
+//!   value. The session's log has it then, and nothing more (`ok` of [`Store::commit`]).
+//! - **All transactions that were committed went one after the other**, at every key that two of them share, over the one
+//!   history that the close gives (`in_order` of [`Store::close`]). It compares the numbers of the passes at run time, because
+//!   no contract follows a pass through threads.
+//! - **A read under a lock** that the call takes is of the values after exactly the steps of the key's shard up to the acquire
+//!   (`took` of [`Store::get_for_update`]). If a transaction has put what the key then held, it is what that transaction had put:
+//!   both are in the log of values, which says one value of a step (the head of `example_cells`).
+//! - **An abort that says Ok** leaves each value as it is (`leaves` of [`Store::abort`]).
 //! - [`victim_of`] chooses the greatest number of some cycle, and chooses nobody only if there is no cycle.
-//! - A provisional value becomes the committed one only after the table answered `Freed` to a finish of the key by
-//!   the value's transaction (`freed` in `src/cell.rt`). By the rules of a key, only the lock's holder gets that
-//!   answer.
-//! - Whoever reads a value has then seen the finish of the transaction that installed it (`shown` of [`Store::get`]
-//!   and [`Store::get_for_update`]): it is in the prefix of the table's one history that the session's pass has seen.
 //!
 //! # What is not proved
 //!
-//! No contract says that every lock is freed, that every deadlock is found and resolved, that a reader gets the
-//! latest of the installed values, or that the count of waits is right.
+//! - **Reads without a lock** ([`Store::get`]) are read committed, and no transaction is ordered by them.
+//! - **Waits.** No contract says that a call returns, that every deadlock is found and resolved, or that the count of waits is
+//!   right.
 #![tactic(auto)]
 
-mod cell;
+mod access;
+mod closing;
 mod deadlock;
+mod ending;
 mod error;
 mod graph;
 mod request;
 mod session;
 mod store;
 
-pub use cell::{Install, Intent, Reading, ValueCell};
-pub use error::StoreError;
+pub use closing::ClosedStore;
+pub use error::{CloseFault, StoreError};
 pub use graph::{WaitEdge, victim_of};
-pub use session::{OpenTxn, PassSlot, StoreSession, TxnName, passes_back, sessions_of};
-pub use store::{KeySlot, Store};
+pub use session::{PassSlot, StoreSession, sessions_of};
+pub use store::Store;

@@ -1,17 +1,16 @@
-//! What does a caller of the store hold? A [`StoreSession`]: a pass of the table, and the transaction that it has
-//! begun.
+//! What does a caller of the store hold? A [`StoreSession`]: a pass of the table, the transaction that it has begun, and
+//! the log of those that it has committed.
 //!
 //! A pass is not `Drop`, and the library's threads take only values that are. So the session keeps its pass in a
 //! [`PassSlot`], whose own `Drop` gives the pass up by name. A request takes the pass out and puts it back when it
 //! leaves.
-ghost use Rattle.std.specs.Prelude.{◌≡◌, Some, IfSome, IfOk, OnOk, IsSomeAnd};
+ghost use Rattle.std.specs.Prelude.{◌≡◌, ◌<◌, Some, None, IfSome, length};
 ghost use Rattle.std.specs.Option.{ForSome};
 ghost use Rattle.std.specs.List.{All};
-ghost use mathlib.Core.List.{IsPrefix};
+ghost use Rattle.example_store.specs.Sessions.{IsSeenIn};
 
-use crate::cell::{Install, Reading};
-use crate::error::StoreError;
-use lt_ids::{Timestamp, TxnId};
+use example_cells::{ActiveTxn, CommitLog};
+use example_values::ValueName;
 use lt_words::{Name, Pass, abandon_all};
 use std::alloc::{AllocError, Global};
 use std::marker::PhantomData;
@@ -19,14 +18,14 @@ use std::mem;
 
 /// A slot for a pass of the table that `N` names. It may be dropped: the pass in it is then given up, and the table
 /// can never be closed.
-pub struct PassSlot<N: Name> {
+pub struct PassSlot<N: Name + ValueName> {
     /// The pass. `None` while a request has it, and after it was given up.
     pub pass: Option<Pass>,
     name: PhantomData<N>,
     pub ghost of: { ForSome pass (λ p. p.of ≡ N.of) },
 }
 
-impl<N: Name> Drop for PassSlot<N> {
+impl<N: Name + ValueName> Drop for PassSlot<N> {
     fn drop(self) {
         let PassSlot { pass, name: _ } = self;
         give_up(pass);
@@ -39,10 +38,11 @@ fn give_up(pass: Option<Pass>) {
     }
 }
 
-impl<N: Name> PassSlot<N> {
+impl<N: Name + ValueName> PassSlot<N> {
     /// A slot with this pass.
     pub fn new(pass: Pass) -> PassSlot<N>
         requires { pass.of ≡ N.of }
+        ensures { result.pass ≡ Some pass }
     {
         PassSlot {
             pass: Some(pass),
@@ -52,7 +52,9 @@ impl<N: Name> PassSlot<N> {
 
     /// Takes the pass out, if there is one.
     pub fn take(&mut self) -> Option<Pass>
-        ensures { IfSome result (λ pass. pass.of ≡ N.of) }
+        ensures of { IfSome result (λ pass. pass.of ≡ N.of) }
+        ensures took { result ≡ self.old.pass }
+        ensures none { self.new.pass ≡ None }
     {
         self.pass.take()
     }
@@ -64,63 +66,45 @@ impl<N: Name> PassSlot<N> {
     {
         give_up(mem::replace(&mut self.pass, Some(pass)));
     }
-
-    /// Extends what the slot's pass has seen by what the installing transaction had seen. `NoPass` if there is no pass.
-    pub fn learn(&mut self, reading: &Reading) -> Result<(), StoreError>
-        requires { ForSome reading.now.installed (λ i. i.seen.of ≡ N.of) }
-        ensures { OnOk result (IsSomeAnd self.new.pass
-            (λ p. IfSome reading.now.installed (λ i. IsPrefix i.seen.seen p.seen))) }
-    {
-        match &mut self.pass {
-            Some(pass) => {
-                learn_install(pass, &reading.installed);
-                Ok(())
-            }
-            None => Err(StoreError::NoPass),
-        }
-    }
-}
-
-/// Extends what the pass has seen by what the installing transaction had seen.
-fn learn_install(pass: &mut Pass, installed: &Option<Install>)
-    requires { ForSome installed.now (λ i. i.seen.of ≡ pass.old.of) }
-    ensures of { pass.new.of ≡ pass.old.of }
-    ensures learned { IfSome installed.now (λ i. IsPrefix i.seen.seen pass.new.seen) }
-{
-    if let Some(install) = installed {
-        pass.learn(&install.seen);
-    }
-}
-
-/// The name of a transaction. It keeps its name if it begins again after a deadlock.
-#[derive(Clone, Copy, Debug, PartialEq, Eq)]
-pub struct TxnName {
-    /// Its number in the table.
-    pub id: TxnId,
-    /// The timestamp at which it reads and writes.
-    pub ts: Timestamp,
-}
-
-/// A transaction that has begun.
-#[derive(Drop)]
-pub struct OpenTxn {
-    /// Its name.
-    pub name: TxnName,
-    /// The indices of the keys whose locks it holds.
-    pub locked: Vec<usize>,
 }
 
 /// A caller of the store. It has at most one transaction at a time.
 #[derive(Drop)]
-pub struct StoreSession<N: Name> {
+pub struct StoreSession<N: Name + ValueName> {
     /// The pass that makes the session's calls.
     pub slot: PassSlot<N>,
     /// The transaction, from its begin to its commit or abort.
-    pub txn: Option<OpenTxn>,
+    pub txn: Option<ActiveTxn<N>>,
+    /// The transactions that the session has committed, in order.
+    pub log: CommitLog<N>,
+    // The log is that of the pass, which has seen all that the log has.
+    pub ghost number: { ForSome slot.pass (λ p. p.number ≡ log.pass) },
+    pub ghost seen: { ForSome slot.pass (λ p. IsSeenIn log.seen p.seen) },
+    // The pass drew the transaction's name after the log's latest transaction was done, and the log has room for one more.
+    pub ghost own: { ForSome txn (λ t. t.name.pass ≡ log.pass) },
+    pub ghost after: { ForSome txn (λ t. IsSeenIn log.seen t.name.began.seen) },
+    pub ghost room: { ForSome txn (λ t. length log.commits < log.capacity) },
+}
+
+impl<N: Name + ValueName> StoreSession<N> {
+    ghost use Rattle.std.specs.Prelude.{◌≡◌, []};
+
+    /// A session with this pass, which has committed nothing.
+    pub fn new(alloc: Global, pass: Pass) -> StoreSession<N>
+        requires { pass.of ≡ N.of }
+        ensures none { result.log.commits ≡ [] }
+    {
+        let log = CommitLog::new(alloc, pass.number(), pass.seen());
+        StoreSession {
+            slot: PassSlot::new(pass),
+            txn: None,
+            log,
+        }
+    }
 }
 
 /// A session for each pass, in order. If an allocation fails, the passes are given up.
-pub fn sessions_of<N: Name>(
+pub fn sessions_of<N: Name + ValueName>(
     alloc: Global,
     passes: Vec<Pass>,
 ) -> Result<Vec<StoreSession<N>>, AllocError>
@@ -132,81 +116,8 @@ pub fn sessions_of<N: Name>(
     };
     let mut rest = passes.into_iter();
     while let Some(pass) = rest.next() {
-        sessions.push_reserved(StoreSession {
-            slot: PassSlot::new(pass),
-            txn: None,
-        });
+        sessions.push_reserved(StoreSession::new(alloc, pass));
     }
     rest.destroy_empty();
     Ok(sessions)
-}
-
-/// Appends the session's pass. Nothing if the session has none. If an allocation fails, the pass is given up.
-fn put_pass_of<N: Name>(
-    mut session: StoreSession<N>,
-    passes: &mut Vec<Pass>,
-) -> Result<(), AllocError>
-    requires { All (λ p. p.of ≡ N.of) passes.old.items }
-    ensures { All (λ p. p.of ≡ N.of) passes.new.items }
-{
-    let Some(pass) = session.slot.take() else {
-        return Ok(());
-    };
-    match passes.push(pass) {
-        Ok(()) => Ok(()),
-        Err(refused) => {
-            refused.value.abandon();
-            Err(AllocError)
-        }
-    }
-}
-
-/// The passes of the sessions, for the close of the table. If an allocation fails, they are given up.
-pub fn passes_back<N: Name>(
-    alloc: Global,
-    sessions: Vec<StoreSession<N>>,
-) -> Result<Vec<Pass>, AllocError>
-    ensures { IfOk result (λ passes. All (λ p. p.of ≡ N.of) passes.items) }
-{
-    let mut passes = Vec::new(alloc);
-    for session in sessions {
-        if put_pass_of(session, &mut passes).is_err() {
-            abandon_all(passes);
-            return Err(AllocError);
-        }
-    }
-    Ok(passes)
-}
-
-impl<N: Name> StoreSession<N> {
-    /// The name of the session's transaction. `NoTxn` if it has none.
-    pub fn name(&self) -> Result<TxnName, StoreError> {
-        match &self.txn {
-            Some(txn) => Ok(txn.name),
-            None => Err(StoreError::NoTxn),
-        }
-    }
-
-    /// Whether the transaction holds the lock of the key with this index.
-    pub(crate) fn has_locked(&self, index: usize) -> bool {
-        match &self.txn {
-            Some(txn) => txn.locked.contains(&index),
-            None => false,
-        }
-    }
-
-    /// Notes that the transaction holds the lock of the key with this index.
-    pub(crate) fn note_lock(&mut self, index: usize) -> Result<(), AllocError> {
-        if let Some(txn) = &mut self.txn {
-            txn.locked.push(index)?;
-        }
-        Ok(())
-    }
-
-    /// Takes the latest note of a lock back.
-    pub(crate) fn drop_note(&mut self) {
-        if let Some(txn) = &mut self.txn {
-            txn.locked.pop();
-        }
-    }
 }

@@ -19,7 +19,7 @@ use Rattle.lt_text.specs.Maybe.{◌>>=◌}
 use Rattle.lt_text.specs.Fields.{number_within}
 use Rattle.lt_text.specs.Calls.{call_words, field_at, call_at}
 use Rattle.lt_text.specs.Replies.{reply_words, is_reply_of, reply_at}
-use Rattle.lt_checker.specs.Lines.{Parts, IsLine, IsReadStep, step_words, lets_words, line_words, if_no_fault, key_if_legal, key_at, equals_of, step_at, lets_in_words, parts_at, parts_with}
+use Rattle.lt_checker.specs.Lines.{Parts, IsLine, IsReadStep, step_words, lets_words, line_words, if_no_fault, key_if_legal, key_at, equals_of, step_in, step_at, lets_in_words, parts_at, parts_with}
 use Rattle.lt_text.proofs.Plain.{above, ArePlain}
 use Rattle.lt_text.proofs.FieldLaws.{bind_some, IsField, IsWithin, number_field, txn_field, field_takes, field_again}
 use Rattle.lt_text.proofs.CallLaws.{call_takes, call_again, call_plain}
@@ -105,7 +105,7 @@ step_joined words after_index after_pass after_call after_equals rest s index pa
     index ∙ (ap (λ (ws : List (List ℕ)). decimal s.index ∷ ws) pass ∙ ap (λ (ws : List (List ℕ)). decimal s.index ∷ decimal s.pass ∷ ws) tail)
 
 pub step_takes : (words : List (List ℕ)) (s : LineStep) (rest : List (List ℕ)) → step_at words ≡ Some (s, rest) → (words ≡ step_words s ++ rest) × IsReadStep s
-unfolding step_at
+unfolding step_in
 step_takes words s rest e =
     let a = bind_some (field_at (number_within 1 (2 ^ 64)) words) (λ index. field_at (number_within 1 1025) index.1 >>= λ pass. call_at pass.1 >>= λ call. field_at equals_of call.1 >>= λ equals. reply_at equals.1 >>= λ reply.
     cond (is_reply_of call.0 reply.0) (Some (record { index = index.0; pass = pass.0; call = call.0; reply = reply.0 }, reply.1)) None) (s, rest) e in
@@ -132,7 +132,7 @@ regroup : (s : LineStep) (rest : List (List ℕ)) → (call_words s.call ++ code
 regroup s rest = append_assoc (call_words s.call) (codes "=" ∷ reply_words s.reply) rest
 
 step_again : (s : LineStep) (rest : List (List ℕ)) → IsReadStep s → step_at (step_words s ++ rest) ≡ Some (s, rest)
-unfolding step_at
+unfolding step_in
 step_again s rest h =
     rw (field_again txn_field s.index (decimal s.pass ∷ ((call_words s.call ++ codes "=" ∷ reply_words s.reply) ++ rest)) h.index, field_again pass_field s.pass ((call_words s.call ++ codes "=" ∷ reply_words s.reply) ++ rest) (h.pass.0, omega (arith, h.pass.1)), regroup s rest, call_again s.call (codes "=" ∷ (reply_words s.reply ++ rest)) h.call refl, field_again equals_field tt (reply_words s.reply ++ rest) tt, reply_again s.reply rest h.reply, h.fits) refl
 

@@ -1,5 +1,5 @@
 -- What a line says, how it is written as words, and how it is read from words.
-use Rattle.std.specs.Prelude.{ℕ, ◌≡◌, ◌^◌, ◌≤◌, ◌<◌, suc, if◌then◌else◌, List, [], ◌∷◌, ◌++◌, map, true, Option, Some, None, Result, Ok, Err, decimal, codes}
+use Rattle.std.specs.Prelude.{ℕ, ◌≡◌, ◌^◌, ◌≤◌, ◌<◌, suc, if◌then◌else◌, List, [], ◌∷◌, ◌++◌, map, Bool, true, false, Option, Some, None, Result, Ok, Err, decimal, codes}
 use Rattle.std.specs.Str.{bytes_eq}
 use Rattle.std.specs.List.{join_with_byte, AllByRecursion}
 use Rattle.lt_ids.specs.Key.{IsKey, key_fault}
@@ -84,14 +84,24 @@ key_at words = field_at key_if_legal words
 unfoldable pub equals_of : List ℕ → Option (Unit {0})
 equals_of word = if bytes_eq word (codes "=") then Some tt else None
 
-unfoldable pub step_at : List (List ℕ) → Option (LineStep × List (List ℕ))
-step_at words = do
-  index ← field_at (number_within 1 (2 ^ 64)) words
+-- The index of a step and the words after it. A step that is not numbered has none, and 1 stands in its place.
+abbrev pub index_at : Bool → List (List ℕ) → Option (ℕ × List (List ℕ))
+index_at true words = field_at (number_within 1 (2 ^ 64)) words
+index_at false words = Some (1, words)
+
+-- The step that the words spell, numbered or not, and the words after it.
+unfoldable pub step_in : Bool → List (List ℕ) → Option (LineStep × List (List ℕ))
+step_in is_numbered words = do
+  index ← index_at is_numbered words
   pass ← field_at (number_within 1 (suc MAX_PASS)) index.1
   call ← call_at pass.1
   equals ← field_at equals_of call.1
   reply ← reply_at equals.1
   if is_reply_of call.0 reply.0 then Some (record { index = index.0; pass = pass.0; call = call.0; reply = reply.0 }, reply.1) else None
+
+-- The step of a line of histories, which is numbered.
+abbrev pub step_at : List (List ℕ) → Option (LineStep × List (List ℕ))
+step_at words = step_in true words
 
 abbrev pub tickets_of : List (List ℕ) → Option (List Wait)
 tickets_of [] = Some []

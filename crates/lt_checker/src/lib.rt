@@ -31,5 +31,5 @@ mod version;
 pub use checker::{CheckError, Report, check, upgrade};
 pub use cursor::Expected;
 pub use error::{Fault, HistoryLineError};
-pub use line::{Line, LineStep, read_line};
+pub use line::{Line, LineStep, read_lets, read_line, read_step};
 pub use pieces::Checker;

@@ -6,7 +6,7 @@
 ghost use Rattle.std.specs.Prelude.{◌≡◌, ◌^◌, suc, ◌++◌, ◌∷◌, [], IfOk, IfErr};
 ghost use Rattle.lt_text.specs.Fields.{number_within};
 ghost use Rattle.lt_text.specs.Calls.{Gives};
-ghost use Rattle.lt_checker.specs.Lines.{IsReadAs, key_if_legal, key_at, step_at, tickets_of, lets_in_words, parts_of, parts_at, IsLine, line_text, IsShapeless};
+ghost use Rattle.lt_checker.specs.Lines.{IsReadAs, key_if_legal, key_at, index_at, step_in, tickets_of, lets_in_words, parts_of, parts_at, IsLine, line_text, IsShapeless};
 
 use crate::error::{Fault, HistoryLineError};
 use lt_ids::{IdError, Key, MAX_PASS, Ticket};
@@ -74,13 +74,25 @@ fn pass(word: &[u8]) -> Option<u32>
     Some(n as u32)
 }
 
-/// Parses the parts between the key and the lets. It is inlined: reading them is most of what a line costs.
+/// Parses the index, if there has to be one. Otherwise it is 1, and no word is read.
 #[inline(always)]
-#[tactic(auto, unfolding(crate::specs::Lines::step_at, crate::specs::Lines::equals_of))]
-pub(crate) fn read_step(words: &mut Words) -> Option<LineStep>
-    ensures { Gives result words.new (step_at words.old) }
+fn read_index(words: &mut Words, is_numbered: bool) -> Option<u64>
+    ensures { Gives result words.new (index_at is_numbered words.old) }
 {
-    let index = index(words.next()?)?;
+    if !is_numbered {
+        return Some(1);
+    }
+    index(words.next()?)
+}
+
+/// Parses the parts between the key and the lets. The step of a trace is not numbered: it has no index, and everything
+/// else of a step. The call is inlined, because reading them is most of what a line costs.
+#[inline(always)]
+#[tactic(auto, unfolding(crate::specs::Lines::step_in, crate::specs::Lines::equals_of))]
+pub fn read_step(words: &mut Words, is_numbered: bool) -> Option<LineStep>
+    ensures { Gives result words.new (step_in is_numbered words.old) }
+{
+    let index = read_index(words, is_numbered)?;
     let pass = pass(words.next()?)?;
     let call = call(words)?;
     let equals = words.next()?;
@@ -116,7 +128,7 @@ fn tickets(alloc: Global, words: &mut Words) -> Result<Vec<Ticket>, HistoryLineE
 /// Parses the tickets after `let`, of which there must be at least one. The list is empty if no word remains.
 #[inline(always)]
 #[tactic(auto, unfolding(crate::specs::Lines::lets_in_words))]
-pub(crate) fn lets(alloc: Global, words: &mut Words) -> Result<Vec<Ticket>, HistoryLineError>
+pub fn read_lets(alloc: Global, words: &mut Words) -> Result<Vec<Ticket>, HistoryLineError>
     ensures { IsReadAs (λ v. v.items) result (lets_in_words words.old) }
 {
     let Some(word) = words.next() else {
@@ -137,10 +149,10 @@ fn read_parts(alloc: Global, words: &mut Words) -> Result<Line, HistoryLineError
     ensures { IsReadAs parts_of result (parts_at words.old) }
 {
     let key = key(alloc, words)?;
-    let Some(step) = read_step(words) else {
+    let Some(step) = read_step(words, true) else {
         return Err(HistoryLineError::Fault(Fault::Shape));
     };
-    let tickets = lets(alloc, words)?;
+    let tickets = read_lets(alloc, words)?;
     Ok(Line { key, step, tickets })
 }
 

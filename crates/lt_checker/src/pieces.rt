@@ -26,7 +26,7 @@ ghost use Rattle.lt_checker.specs.Pieces.{HasTaken, IsTextOfLine, TakesOneLine, 
 use crate::checker::{CheckError, Report};
 use crate::cursor::{Cursor, Expected, expect, follow, start};
 use crate::error::{Fault, HistoryLineError};
-use crate::line::{Line, LineStep, lets, read_line, read_step};
+use crate::line::{Line, LineStep, read_lets, read_line, read_step};
 use crate::version::{is_of_version, line_of};
 use lt_ids::{Key, Ticket};
 use lt_rules::{KeyState, QueueLengths};
@@ -182,10 +182,10 @@ impl Checker {
         let Some(key) = words.next() else {
             return Err(HistoryLineError::Fault(Fault::Shape));
         };
-        let Some(step) = read_step(&mut words) else {
+        let Some(step) = read_step(&mut words, true) else {
             return Err(HistoryLineError::Fault(Fault::Shape));
         };
-        let tickets = lets(alloc, &mut words)?;
+        let tickets = read_lets(alloc, &mut words)?;
         self.take_parts(alloc, key, &step, &tickets)
     }
 

@@ -58,15 +58,20 @@ impl Ends for Owners {
     ghost stays = { HasOwned-kept };
 }
 
-/// The ends of a number's list, which is empty if the map has no list for the number.
+/// The ends of a number's list, which is empty if the map has no list for the number. While nobody waits, the map is not
+/// searched.
 pub(crate) fn owner_ends(owners: &Owners, number: u64) -> Joint
     ensures { result ≡ unwrap_or (ends_of owners.now number) no_joint }
 {
+    let nowhere = Joint {
+        prev: None,
+        next: None,
+    };
+    if owners.is_empty() {
+        return nowhere;
+    }
     match owners.get(&number) {
-        None => Joint {
-            prev: None,
-            next: None,
-        },
+        None => nowhere,
         Some(ends) => *ends,
     }
 }

@@ -1,5 +1,5 @@
 -- The least of the keys that pass a test, found by one walk through keys that are in no order.
-use Rattle.std.proofs.Common.{◌≡◌, ℕ, Bool, true, false, cond, ◌||◌, List, [], ◌∷◌, map, take, length, filter, Option, Some, None, is_some, refl, sym, ap, ◌∙◌, subst, T, zero, suc, All, arith}
+use Rattle.std.proofs.Common.{◌≡◌, ◌<◌, ◌≤◌, ℕ, Bool, true, false, cond, ◌||◌, List, [], ◌∷◌, map, take, length, filter, Option, Some, None, is_some, refl, sym, ap, ◌∙◌, subst, T, zero, suc, All, arith}
 use Rattle.std.proofs.lemmas.List.{take_all}
 use Rattle.std.proofs.lemmas.List.Elements.{All-tail}
 use Rattle.std.specs.declared.cmp.Ordering.{Ordering}
@@ -114,16 +114,16 @@ least_of_cut p up n ls (k ∷ ks) = ap (λ l. least_of p n l ks) (one_more p up 
 
 -- ---- keys that were put in turn are those of a map
 
-map_put : (k : List ℕ) (es : List (List ℕ × Record)) → map (λ (e : List ℕ × Record). e.0) (put order k empty es) ≡ insert_key order (map (λ e. e.0) es) k
-map_put k [] = refl
-map_put k (e ∷ es) = elim (order k e.0) as (λ o. map (λ (x : List ℕ × Record). x.0) (by_order o ((k, empty) ∷ e ∷ es) ((e.0, empty) ∷ es) (e ∷ put order k empty es)) ≡ match_ordering o (k ∷ e.0 ∷ map (λ x. x.0) es) (e.0 ∷ map (λ x. x.0) es) (e.0 ∷ insert_key order (map (λ x. x.0) es) k)) [
+map_put : (k : List ℕ) (r : Record) (es : List (List ℕ × Record)) → map (λ (e : List ℕ × Record). e.0) (put order k r es) ≡ insert_key order (map (λ e. e.0) es) k
+map_put k r [] = refl
+map_put k r (e ∷ es) = elim (order k e.0) as (λ o. map (λ (x : List ℕ × Record). x.0) (by_order o ((k, r) ∷ e ∷ es) ((e.0, r) ∷ es) (e ∷ put order k r es)) ≡ match_ordering o (k ∷ e.0 ∷ map (λ x. x.0) es) (e.0 ∷ map (λ x. x.0) es) (e.0 ∷ insert_key order (map (λ x. x.0) es) k)) [
   | Less ↦ refl
   | Equal ↦ refl
-  | Greater ↦ ap (λ l. e.0 ∷ l) (map_put k es)
+  | Greater ↦ ap (λ l. e.0 ∷ l) (map_put k r es)
 ]
 
-keys_insert : (m : Records) (k : List ℕ) → keys (insert m k empty) ≡ insert_key order (keys m) k
-keys_insert m k = ap (map (λ e. e.0)) (entries-insert nat_list_cmp_total m k empty) ∙ map_put k (entries m)
+keys_insert : (m : Records) (k : List ℕ) (r : Record) → keys (insert m k r) ≡ insert_key order (keys m) k
+keys_insert m k r = ap (map (λ e. e.0)) (entries-insert nat_list_cmp_total m k r) ∙ map_put k r (entries m)
 
 abbrev inserted : Records → List (List ℕ) → Records
 inserted m [] = m
@@ -131,7 +131,7 @@ inserted m (k ∷ ks) = inserted (insert m k empty) ks
 
 all_put_keys : (m : Records) (ks : List (List ℕ)) → all_put (keys m) ks ≡ keys (inserted m ks)
 all_put_keys m [] = refl
-all_put_keys m (k ∷ ks) = ap (λ l. all_put l ks) (sym (keys_insert m k)) ∙ all_put_keys (insert m k empty) ks
+all_put_keys m (k ∷ ks) = ap (λ l. all_put l ks) (sym (keys_insert m k empty)) ∙ all_put_keys (insert m k empty) ks
 
 is_some_cond : (b : Bool) (o : Option Record) → is_some (cond b (Some empty) o) ≡ (b || is_some o)
 is_some_cond true o = refl
@@ -202,6 +202,41 @@ least_keys m rows after n =
     ap (λ l. least_of p n l ks) (sym (take_none n))
     ∙ least_of_cut p (above after) n [] ks
     ∙ ap (λ l. take n (filter p l)) (rising_keys_of_rows m rows (all_put [] ks) (all_put_rises ks) (all_put_among ks))
+
+-- ---- one more key of a map
+
+-- the first keys of a map with one more key: those of the map, and this one among them if it comes after the given one
+keys_after_insert : (m : Records) (k : List ℕ) (r : Record) (after : Option (List ℕ)) (n : ℕ) → cond (comes_after after k) (take n (insert_key order (keys_after m after n) k)) (keys_after m after n) ≡ keys_after (insert m k r) after n
+keys_after_insert m k r after n = one_more (comes_after after) (above after) n (keys m) k ∙ ap (λ l. take n (filter (comes_after after) l)) (sym (keys_insert m k r))
+
+pub keys_with_it : (m : Records) (k : List ℕ) (r : Record) (after : Option (List ℕ)) (n : ℕ) → comes_after after k ≡ true → take n (insert_key order (keys_after m after n) k) ≡ keys_after (insert m k r) after n
+keys_with_it m k r after n e = sym (ap (λ b. cond b (take n (insert_key order (keys_after m after n) k)) (keys_after m after n)) e) ∙ keys_after_insert m k r after n
+
+pub keys_without_it : (m : Records) (k : List ℕ) (r : Record) (after : Option (List ℕ)) (n : ℕ) → comes_after after k ≡ false → keys_after m after n ≡ keys_after (insert m k r) after n
+keys_without_it m k r after n e = sym (ap (λ b. cond b (take n (insert_key order (keys_after m after n) k)) (keys_after m after n)) e) ∙ keys_after_insert m k r after n
+
+all_pass : (xs : List (List ℕ)) → filter (comes_after None) xs ≡ xs
+all_pass [] = refl
+all_pass (x ∷ xs) = ap (λ l. x ∷ l) (all_pass xs)
+
+-- a list that a cut left shorter than it may be was not cut
+uncut : (n : ℕ) (xs : List (List ℕ)) → length (take n xs) < n → take n xs ≡ xs
+uncut zero xs less = absurd (omega (arith, less))
+uncut (suc n) [] less = refl
+uncut (suc n) (x ∷ xs) less = ap (λ l. x ∷ l) (uncut n xs (omega (arith, less)))
+
+-- if the first keys after none are fewer than were asked for, they are all keys
+pub all_of_few : (m : Records) (n : ℕ) → length (keys_after m None n) < n → keys_after m None n ≡ keys m
+all_of_few m n less = uncut n (filter (comes_after None) (keys m)) less ∙ all_pass (keys m)
+
+-- no more keys are given than were asked for
+cut_length : (n : ℕ) (xs : List (List ℕ)) → length (take n xs) ≤ n
+cut_length zero xs = omega arith
+cut_length (suc n) [] = omega arith
+cut_length (suc n) (x ∷ xs) = let l = cut_length n xs in omega (arith, l)
+
+pub at_most_keys : (m : Records) (after : Option (List ℕ)) (n : ℕ) → length (keys_after m after n) ≤ n
+at_most_keys m after n = cut_length n (filter (comes_after after) (keys m))
 
 -- ---- one key among the least
 

@@ -96,7 +96,7 @@ is_one m k act reply lets r step after filled = same_records m (one k r) (λ q. 
 ])
 
 -- a lock that nobody waits for has a lawful record
-held_lawful : (h : Holder) → IsLawful (held h)
+pub held_lawful : (h : Holder) → IsLawful (held h)
 held_lawful h = step_keeps_lawful empty 0 (Acquire h.txn h.ts) empty_is_lawful
 
 sound_one : (k : List ℕ) (h : Holder) → AreSound (one k (held h))

@@ -31,7 +31,11 @@ fn has_no_place(least: &BTreeSet<Key>, key: &Key, at_most: usize) -> bool
 }
 
 /// Puts a copy of the key in its place, if it is one of the `at_most` least. Then the greatest may have to go.
-fn put_least(least: &mut BTreeSet<Key>, key: &Key, at_most: usize) -> Result<(), AllocError>
+pub(crate) fn put_least(
+    least: &mut BTreeSet<Key>,
+    key: &Key,
+    at_most: usize,
+) -> Result<(), AllocError>
     requires { length least.old.keys ≤ at_most }
     ensures { OnOk result (least.new.keys ≡ take at_most (insert_key (slice_cmp nat_cmp) least.old.keys key.now)) }
 {
@@ -46,7 +50,7 @@ fn put_least(least: &mut BTreeSet<Key>, key: &Key, at_most: usize) -> Result<(),
 }
 
 /// The first keys that have a row and come after the key `after`: at most `at_most`.
-fn least_keys(
+pub(crate) fn least_keys(
     links: &Links,
     rows: &Rows,
     alloc: Global,
@@ -65,7 +69,7 @@ fn least_keys(
 }
 
 /// The keys as a list.
-fn listed(alloc: Global, keys: BTreeSet<Key>) -> Result<Vec<Key>, AllocError>
+pub(crate) fn listed(alloc: Global, keys: BTreeSet<Key>) -> Result<Vec<Key>, AllocError>
     ensures { IfOk result (λ all. all.items ≡ keys.keys) }
 {
     let mut all = Vec::with_capacity(alloc, keys.len())?;

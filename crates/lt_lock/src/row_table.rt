@@ -16,15 +16,15 @@ ghost use Rattle.lt_row.specs.Row.{HasQueues};
 ghost use Rattle.lt_lock.specs.Linked.{records_of, AreLinked, IsTable, IsEmptied, KeepsRows, UpdatesRows, MakesAtRow, emptied_id};
 ghost use Rattle.lt_ids.specs.declared.limits.TheConstants.{MAX_PASS};
 
-use crate::keys::keys_after;
+use crate::keys::{keys_after, least_keys};
 use lt_ids::{Key, Through, Timestamp, TxnId};
 use lt_links::{KeyHashing, Links, RecordId};
 use lt_row::{Row, acquire, is_empty, lengths, look, state, step};
 use lt_rules::free_key::{AtFreeKey, at_free_key};
 use lt_rules::{Call, Holder, KeyState, QueueLengths, Reply};
 use std::alloc::{AllocError, Global};
-use std::collections::HashMap;
 use std::collections::hash_map::Entry;
+use std::collections::{BTreeSet, HashMap};
 use std::marker::Model;
 
 /// A lock table that keeps the queued requests of all keys in one [`Links`](lt_links::Links). In a contract, it is
@@ -107,6 +107,7 @@ fn step_row(
         (vec_capacity lets.old)) }
     ensures room { HasRoom (records_of links.old rows.old) (vec_capacity lets.old) →
         HasRoom (records_of links.new rows.new) (vec_capacity lets.new) }
+    ensures kept { vec_capacity lets.old ≤ vec_capacity lets.new }
 {
     let Some(row) = rows.get_mut(key) else {
         return Ok(None);
@@ -349,6 +350,7 @@ impl RowTable {
         ensures no_memory { UsesNoMemoryAt (λ t. t) self.old key.now (λ r. step r pass call.now) → IsOk result }
         ensures full { OnErr result (MayLack (record_at self.old key.now) call.now (vec_capacity lets.old)) }
         ensures room { HasRoom self.old (vec_capacity lets.old) → HasRoom self.new (vec_capacity lets.new) }
+        ensures kept { vec_capacity lets.old ≤ vec_capacity lets.new }
     {
         match at_free_key(call) {
             AtFreeKey::Takes(holder) => acquire_key(
@@ -397,6 +399,18 @@ impl RowTable {
         ensures { IfOk result (λ all. all.items ≡ map.keys self.now) }
     {
         all_keys(&self.links, &self.rows, alloc)
+    }
+
+    /// The first keys that have a record and come after the key `after`, as a set: at most `at_most`.
+    pub fn least_keys(
+        &self,
+        alloc: Global,
+        after: Option<&Key>,
+        at_most: usize,
+    ) -> Result<BTreeSet<Key>, AllocError>
+        ensures { IfOk result (λ least. least.keys ≡ keys_after self.now (option_copied after.entry) at_most) }
+    {
+        least_keys(&self.links, &self.rows, alloc, after, at_most)
     }
 
     /// The first keys that have a record and come after the key `after`: at most `at_most`, in byte order.

@@ -1,6 +1,6 @@
 //! How does the linked table keep its locks? In one of two ways. While it has a single lock and nobody waits, it
-//! keeps a lone lock. Once a second key is locked or somebody has to wait, the lock gets a row, and the table keeps
-//! rows until the last of them is dropped. Read `lone.rt` and `row_table.rt` next, which have the two.
+//! keeps a lone lock. Once a second key is locked or somebody has to wait, the table keeps a hot key and rows, until the
+//! last of them is dropped. Read `lone.rt` and `hot_table.rt` next, which have the two.
 ghost use Rattle.std.specs.Prelude.{◌≡◌, ◌∷◌, ◌≤◌, ◌↔◌, ℕ, [], true, length, IfOk, OnOk, OnErr, IsOk, None};
 ghost use Rattle.std.specs.FinMap as finmap;
 ghost use Rattle.std.specs.Option.{option_copied};
@@ -10,9 +10,9 @@ ghost use Rattle.lt_rules.specs.Table.{record_at, keys_after};
 ghost use Rattle.lt_rules.specs.Memory.{MayLack};
 ghost use Rattle.lt_lock.specs.Lone.{held, with_lone, IsWithLone, StepsAlone};
 
+use crate::hot_table::HotTable;
 use crate::keys::one_key_after;
 use crate::lone::{LoneLock, step_alone, taken};
-use crate::row_table::RowTable;
 use lt_ids::{Key, Through};
 use lt_rules::free_key::{AtFreeKey, at_free_key};
 use lt_rules::{Call, Holder, KeyState, KeyTable, QueueLengths, Reply};
@@ -24,7 +24,7 @@ use std::marker::Model;
 #[derive(Drop)]
 pub struct LinkedTable {
     lone: Option<LoneLock>,
-    rows: RowTable,
+    rows: HotTable,
 }
 
 impl Model for LinkedTable {
@@ -53,14 +53,14 @@ impl LinkedTable {
     {
         LinkedTable {
             lone: None,
-            rows: RowTable::new(alloc, start),
+            rows: HotTable::new(alloc, start),
         }
     }
 }
 
-/// Gives the lone lock a row, if there is one.
+/// Gives the lone lock a row, if there is one. If the call is at its key, somebody waits there: it becomes the hot key.
 #[inline(always)]
-fn add_row(lone: &mut Option<LoneLock>, rows: &mut RowTable) -> Result<(), AllocError>
+fn add_row(lone: &mut Option<LoneLock>, rows: &mut HotTable, key: &Key) -> Result<(), AllocError>
     requires with_lone { IsWithLone lone.old rows.old }
     ensures none { OnOk result (lone.new ≡ None) }
     ensures with_lone { IsWithLone lone.new rows.new }
@@ -70,14 +70,14 @@ fn add_row(lone: &mut Option<LoneLock>, rows: &mut RowTable) -> Result<(), Alloc
     let Some(alone) = lone else {
         return Ok(());
     };
-    rows.add_held(&alone.key, &alone.holder)?;
+    rows.add_held(&alone.key, &alone.holder, alone.key == *key)?;
     *lone = None;
     Ok(())
 }
 
 /// Whether the table has neither a lone lock nor a row.
 #[inline(always)]
-fn has_no_lock(lone: &Option<LoneLock>, rows: &RowTable) -> bool
+fn has_no_lock(lone: &Option<LoneLock>, rows: &HotTable) -> bool
     ensures { result ≡ true ↔ (lone.now ≡ None) × (rows.now ≡ finmap.empty) }
 {
     lone.is_none() && rows.has_no_row()
@@ -112,7 +112,7 @@ fn held_state(alloc: Global, holder: &Holder) -> KeyState
 
 /// What the request with this number finds at the key. Nobody waits for a lone lock.
 #[inline(always)]
-fn look_with(lone: &Option<LoneLock>, rows: &RowTable, key: &Key, number: u64) -> Reply
+fn look_with(lone: &Option<LoneLock>, rows: &HotTable, key: &Key, number: u64) -> Reply
     requires { IsWithLone lone.now rows.now }
     ensures { result ≡ look (record_at (with_lone lone.now rows.now) key.now) number }
 {
@@ -123,7 +123,7 @@ fn look_with(lone: &Option<LoneLock>, rows: &RowTable, key: &Key, number: u64) -
 }
 
 /// How many requests are queued at the key. Nobody waits for a lone lock.
-fn lengths_with(lone: &Option<LoneLock>, rows: &RowTable, key: &Key) -> QueueLengths
+fn lengths_with(lone: &Option<LoneLock>, rows: &HotTable, key: &Key) -> QueueLengths
     requires { IsWithLone lone.now rows.now }
     ensures writers { result.writers ≡ length (record_at (with_lone lone.now rows.now) key.now).writers }
     ensures readers { result.readers ≡ length (record_at (with_lone lone.now rows.now) key.now).readers }
@@ -140,7 +140,7 @@ fn lengths_with(lone: &Option<LoneLock>, rows: &RowTable, key: &Key) -> QueueLen
 /// A copy of the key's record.
 fn state_with(
     lone: &Option<LoneLock>,
-    rows: &RowTable,
+    rows: &HotTable,
     alloc: Global,
     key: &Key,
 ) -> Result<KeyState, AllocError>
@@ -166,7 +166,7 @@ fn one_key(alloc: Global, key: &Key) -> Result<Vec<Key>, AllocError>
 /// The keys that have a record, in byte order.
 fn keys_with(
     lone: &Option<LoneLock>,
-    rows: &RowTable,
+    rows: &HotTable,
     alloc: Global,
 ) -> Result<Vec<Key>, AllocError>
     ensures { IfOk result (λ all. all.items ≡ finmap.keys (with_lone lone.now rows.now)) }
@@ -180,7 +180,7 @@ fn keys_with(
 /// The first keys that have a record and come after the key `after`: at most `at_most`, in byte order.
 fn keys_after_with(
     lone: &Option<LoneLock>,
-    rows: &RowTable,
+    rows: &HotTable,
     alloc: Global,
     after: Option<&Key>,
     at_most: usize,
@@ -210,7 +210,7 @@ impl KeyTable for LinkedTable {
         if has_no_lock(&self.lone, &self.rows) {
             return step_first(&mut self.lone, key, call);
         }
-        add_row(&mut self.lone, &mut self.rows)?;
+        add_row(&mut self.lone, &mut self.rows, key)?;
         self.rows.step(key, pass, call, lets)
     }
 

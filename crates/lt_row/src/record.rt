@@ -1,8 +1,9 @@
 //! How does a caller keep the record of one key, without a table? [`LinkedRecord`] is a row with links of its own,
 //! and makes a call that is given as a value. Read `one_call.rt` next, which makes a call on a row.
-ghost use Rattle.std.specs.Prelude.{◌≡◌, ◌≤◌, [], false, length, IfOk, OnErr, IsOk, IsTrue};
-ghost use Rattle.lt_rules.specs.Rules.{empty, IsOutcome, TakesNoMemory};
-ghost use Rattle.lt_rules.specs.Step.{step};
+ghost use Rattle.std.specs.Prelude.{◌≡◌, ◌≤◌, [], false, length, vec_capacity, IfOk, OnErr, IsOk, IsTrue};
+ghost use Rattle.lt_rules.specs.Rules.{empty, is_empty, take_lock, IsOutcome, TakesNoMemory};
+ghost use Rattle.lt_rules.specs.Step.{step, look};
+ghost use Rattle.lt_rules.specs.Memory.{MayLack, how_many};
 ghost use Rattle.lt_row.specs.Row.{record_of};
 ghost use Rattle.lt_row.specs.Front.{front_of};
 ghost use Rattle.lt_row.specs.RowStepped.{IsRow, has_nobody};
@@ -10,10 +11,10 @@ ghost use Rattle.lt_ids.specs.declared.limits.TheConstants.{MAX_PASS};
 
 use crate::copy::{front, state};
 use crate::one_call::step;
-use crate::row::{Row, has_nobody, lengths};
+use crate::row::{Row, has_nobody, is_empty, lengths, look};
 use lt_ids::Through;
 use lt_links::Links;
-use lt_rules::{Call, KeyState, QueueLengths, Reply};
+use lt_rules::{Call, Holder, KeyState, QueueLengths, Reply};
 use std::alloc::{AllocError, Global};
 use std::marker::Model;
 
@@ -61,9 +62,31 @@ impl LinkedRecord {
     pub fn new(alloc: Global) -> Result<Self, AllocError>
         ensures { IfOk result (λ r. r ≡ empty) }
     {
-        let mut links = Links::new(alloc, 0);
+        LinkedRecord::hashed_from(alloc, 0)
+    }
+
+    /// As [`LinkedRecord::new`], but its requests and transactions are hashed from this start.
+    pub fn hashed_from(alloc: Global, start: u64) -> Result<Self, AllocError>
+        ensures { IfOk result (λ r. r ≡ empty) }
+    {
+        let mut links = Links::new(alloc, start);
         let row = add_row(&mut links)?;
         Ok(LinkedRecord { links, row })
+    }
+
+    /// Whether the key has no holder, no reservation and no queued requests.
+    pub fn is_empty(&self) -> bool
+        ensures { result ≡ is_empty self.now }
+    {
+        is_empty(&self.links, &self.row)
+    }
+
+    /// Gives a key that nobody has locked and nobody waits for this holder. Allocates nothing.
+    pub fn hold(&mut self, holder: &Holder)
+        requires { self.old ≡ empty }
+        ensures { self.new ≡ (take_lock empty holder.now).after }
+    {
+        self.row.holder = Some(*holder);
     }
 
     /// Makes the record empty, if nobody is queued at the key or has its reservation. Says whether that is so. The
@@ -83,6 +106,8 @@ impl LinkedRecord {
 
     /// Makes the call at the key for the pass with this number, which is 1 to 1024. Puts the lets into `lets`, in
     /// order. The only error is that memory ran out. After an `Err`, nothing has changed.
+    ///
+    /// Only a visit can fail while `lets` has room for a let of each request at the key. A call keeps it so.
     pub fn make(
         &mut self,
         pass: u32,
@@ -95,8 +120,18 @@ impl LinkedRecord {
         ensures ok { IfOk result (λ reply. IsOutcome (step self.old pass call.now) self.new reply lets.new.items) }
         ensures err { OnErr result ((self.new ≡ self.old) × (lets.new.items ≡ [])) }
         ensures no_memory { TakesNoMemory self.old (step self.old pass call.now) → IsOk result }
+        ensures full { OnErr result (MayLack self.old call.now (vec_capacity lets.old)) }
+        ensures room { how_many self.old ≤ vec_capacity lets.old → how_many self.new ≤ vec_capacity lets.new }
+        ensures kept { vec_capacity lets.old ≤ vec_capacity lets.new }
     {
         step(&mut self.links, &mut self.row, pass, call, lets)
+    }
+
+    /// What the request with this number finds at the key.
+    pub fn look(&self, number: u64) -> Reply
+        ensures { result ≡ look self.now number }
+    {
+        look(&self.links, &self.row, number)
     }
 
     /// How many requests are queued at the key. Copies nothing, unlike [`state`](LinkedRecord::state).

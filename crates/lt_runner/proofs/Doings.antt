@@ -18,7 +18,6 @@ use Rattle.lt_walk.specs.Machine.{WalkState, Step}
 use Rattle.lt_walk.specs.Reported.{GuardState, Reported}
 use Rattle.lt_runner.specs.declared.session.Session.{Session}
 use Rattle.lt_runner.specs.declared.session.Session.TheVariants.{Free, Open}
-use Rattle.lt_runner.specs.declared.session.LineOutcome.{LineOutcome}
 use Rattle.lt_runner.specs.declared.outcome.OutOfMemory.{OutOfMemory}
 use Rattle.lt_runner.specs.declared.answer.LineAnswer.{LineAnswer}
 use Rattle.lt_runner.specs.declared.answer.LineAnswer.TheVariants as answers
@@ -26,7 +25,7 @@ use Rattle.lt_runner.specs.declared.answer.Refusal.TheVariants as refusals
 use Rattle.lt_runner.specs.Outcomes.{OutcomeTells, Hears}
 use Rattle.lt_runner.specs.Sessions.{session_request, session_pass}
 use Rattle.lt_runner.specs.Machine.{entered, numbers_of, index_of, IsCallAnswered, IsLooked, IsLookAt}
-use Rattle.lt_runner.specs.Execution.{Does, Fact, IsCallOutcome, Lets, Reads, no_lets, no_word}
+use Rattle.lt_runner.specs.Execution.{Does, Fact, IsCallAnswer, Lets, Reads, no_lets, no_word}
 use Rattle.lt_runner.proofs.Telling.{tells_none, tells_step}
 
 -- The session is unchanged.
@@ -54,9 +53,9 @@ strange key g none = does_same (IsLooked key) no_word no_lets (Open g) answers.S
 -- ---- one step
 
 -- A call of the pass, its result, and the answer of the line.
-pub made : (key : List ℕ) (call : Call) (old new : Session) (answered : Result Answer StepError) (told : Result LineOutcome OutOfMemory) → session_request new ≡ session_request old
-    → IfOk answered (λ a. Reported (session_pass old) (session_pass new) (record { key = key; call = call; answer = a })) → OnErr answered (session_pass new ≡ session_pass old) → IsCallOutcome answered new told
-    → IfOk told (λ t. Does (IsCallAnswered key call) no_word no_lets old t.answer t.session)
+pub made : (key : List ℕ) (call : Call) (old new : Session) (answered : Result Answer StepError) (told : Result LineAnswer OutOfMemory) → session_request new ≡ session_request old
+    → IfOk answered (λ a. Reported (session_pass old) (session_pass new) (record { key = key; call = call; answer = a })) → OnErr answered (session_pass new ≡ session_pass old) → IsCallAnswer answered told
+    → IfOk told (λ t. Does (IsCallAnswered key call) no_word no_lets old t new)
 made key call old new (Ok a) (Err e) same ok err told = tt
 made key call old new (Ok a) (Ok t) same ok err told =
     let x : Step = record { key = key; call = call; answer = a } in
@@ -67,32 +66,32 @@ made key call old new (Ok a) (Ok t) same ok err told =
       tells = tells_step (session_pass old) (session_pass new) x ok;
       heard = tt;
     } in
-    rw (told.0, told.1) done
+    rw told done
 made key call old new (Err steps.HistoryFull) (Err e) same ok err told = tt
 made key call old new (Err steps.HistoryFull) (Ok t) same ok err told =
     let none : OutcomeTells (session_pass old) (session_pass new) [] [] [] = subst (λ (p : PassState). OutcomeTells (session_pass old) p [] [] []) (sym err) (tells_none (session_pass old)) in
     let done : Does (IsCallAnswered key call) no_word no_lets old (answers.Refused refusals.HistoryFull) new = record { word = 0; steps = []; done = (refl, same); tells = none; heard = tt } in
-    rw (told.0, told.1) done
+    rw told done
 made key call old new (Err steps.Memory) (Err e) same ok err told = tt
 made key call old new (Err steps.Memory) (Ok t) same ok err told = absurd told
 
 -- A look is a call of the pass at a key that its request names.
-pub looked : (key : List ℕ) (old new : GuardState) (index : ℕ) (told : Result LineOutcome OutOfMemory) → Some index ≡ index_of old.walk.asked.keys key
-    → IfOk told (λ t. Does (IsCallAnswered key (calls.Look old.walk.asked.number)) no_word no_lets (Open old) t.answer t.session)
-    → IfOk told (λ t. Does (IsLooked key) no_word no_lets (Open old) t.answer t.session)
+pub looked : (key : List ℕ) (old new : GuardState) (index : ℕ) (told : Result LineAnswer OutOfMemory) → Some index ≡ index_of old.walk.asked.keys key
+    → IfOk told (λ t. Does (IsCallAnswered key (calls.Look old.walk.asked.number)) no_word no_lets (Open old) t (Open new))
+    → IfOk told (λ t. Does (IsLooked key) no_word no_lets (Open old) t (Open new))
 looked key old new index (Err e) at told = tt
 looked key old new index (Ok t) at told = record {
   word = told.word;
   steps = told.steps;
-  done = (subst (λ (o : Option ℕ). IsLookAt o old.walk.asked.number key t.answer told.steps) at told.done.0, told.done.1);
+  done = (subst (λ (o : Option ℕ). IsLookAt o old.walk.asked.number key t told.steps) at told.done.0, told.done.1);
   tells = told.tells;
   heard = tt;
 }
 
 -- A call of the request's pass.
-pub made_in : (key : List ℕ) (call : Call) (old new : GuardState) (answered : Result Answer StepError) (told : Result LineOutcome OutOfMemory) → new.walk ≡ old.walk
-    → IfOk answered (λ a. Reported old.pass new.pass (record { key = key; call = call; answer = a })) → OnErr answered (new ≡ old) → IsCallOutcome answered (Open new) told
-    → IfOk told (λ t. Does (IsCallAnswered key call) no_word no_lets (Open old) t.answer t.session)
+pub made_in : (key : List ℕ) (call : Call) (old new : GuardState) (answered : Result Answer StepError) (told : Result LineAnswer OutOfMemory) → new.walk ≡ old.walk
+    → IfOk answered (λ a. Reported old.pass new.pass (record { key = key; call = call; answer = a })) → OnErr answered (new ≡ old) → IsCallAnswer answered told
+    → IfOk told (λ t. Does (IsCallAnswered key call) no_word no_lets (Open old) t (Open new))
 made_in key call old new answered told same ok err is = made key call (Open old) (Open new) answered told (ap (λ (w : WalkState). Some w) same) ok (on_err_weaker answered (λ e. ap (λ (g : GuardState). g.pass) e) err) is
 
 -- A look at an index is a look at the key there.

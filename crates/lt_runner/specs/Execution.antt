@@ -11,7 +11,6 @@ use Rattle.lt_walk.specs.declared.scan_results.Poll.{Poll}
 use Rattle.lt_walk.specs.Machine.{polled, WalkState, Step}
 use Rattle.lt_walk.specs.Reported.{GuardState}
 use Rattle.lt_runner.specs.declared.session.Session.{Session}
-use Rattle.lt_runner.specs.declared.session.LineOutcome.{LineOutcome}
 use Rattle.lt_runner.specs.declared.outcome.OutOfMemory.{OutOfMemory}
 use Rattle.lt_runner.specs.declared.answer.LineAnswer.{LineAnswer}
 use Rattle.lt_runner.specs.declared.answer.LineAnswer.TheVariants as answers
@@ -50,23 +49,23 @@ pub record Does (fact : Fact) (reads : Reads) (lets : Lets) (old : Session) (ans
   pub tells : OutcomeTells (session_pass old) (session_pass new) steps (numbers_of answer) (lets (session_request old) word)
   pub heard : MatchBool (reads (session_request old)) (Hears (session_pass old) (session_pass new) steps word) (Unit {0})
 
--- The fact holds of the outcome's answer and steps, and what they tell is in what the pass has then seen.
-abbrev pub LineDoes : Fact → Reads → Lets → Session → LineOutcome → Type 0
-LineDoes fact reads lets old told = Does fact reads lets old told.answer told.session
+-- The same, with the answer last: what a clause says of the answer of a line that changes a session in its place.
+abbrev pub LineDoes : Fact → Reads → Lets → Session → Session → LineAnswer → Type 0
+LineDoes fact reads lets old new answer = Does fact reads lets old answer new
 
--- The outcome is that of a line with this action.
-abbrev pub IsLineOutcome : Rules → Action → Session → LineOutcome → Type 0
-IsLineOutcome rules action old told = LineDoes (IsLineDone rules action) (reads_of action) (lets_of action) old told
+-- The answer is that of a line with this action.
+abbrev pub IsLineAnswer : Rules → Action → Session → Session → LineAnswer → Type 0
+IsLineAnswer rules action old new answer = Does (IsLineDone rules action) (reads_of action) (lets_of action) old answer new
 
 -- The answer says that the numbers are out only if the pass has then seen that many draws.
-abbrev pub IsOutOnlyAfter : ℕ → LineOutcome → Type 0
-IsOutOnlyAfter max_requests told = IsOutOnlyAt max_requests (draws_of (session_pass told.session).seen) told.answer
+abbrev pub IsOutOnlyAfter : ℕ → Session → LineAnswer → Type 0
+IsOutOnlyAfter max_requests new answer = IsOutOnlyAt max_requests (draws_of (session_pass new).seen) answer
 
--- The outcome of a call that makes one step. Out of memory has no answer.
-abbrev pub IsCallOutcome : Result Answer StepError → Session → Result LineOutcome OutOfMemory → Type 0
-IsCallOutcome (Ok a) session told = IfOk told (λ t. (t.answer ≡ answers.Replied a.reply) × (t.session ≡ session))
-IsCallOutcome (Err steps.HistoryFull) session told = IfOk told (λ t. (t.answer ≡ answers.Refused refusals.HistoryFull) × (t.session ≡ session))
-IsCallOutcome (Err steps.Memory) session told = IfOk told (λ t. ⊥)
+-- The answer of a line whose call makes one step. Out of memory has no answer.
+abbrev pub IsCallAnswer : Result Answer StepError → Result LineAnswer OutOfMemory → Type 0
+IsCallAnswer (Ok a) told = IfOk told (λ t. t ≡ answers.Replied a.reply)
+IsCallAnswer (Err steps.HistoryFull) told = IfOk told (λ t. t ≡ answers.Refused refusals.HistoryFull)
+IsCallAnswer (Err steps.Memory) told = IfOk told (λ t. ⊥)
 
 -- One or more polls, the last of which found this.
 pub record Polls (old : GuardState) (found : Poll) (new : GuardState) : Type 0 where

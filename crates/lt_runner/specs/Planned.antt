@@ -15,16 +15,16 @@ use Rattle.lt_runner.specs.declared.session.Session.{Session}
 use Rattle.lt_runner.specs.Machine.{Rules, rules_of}
 use Rattle.lt_runner.specs.Gates.{GateAnswers}
 use Rattle.lt_runner.specs.Worked.{ExecutesLine, TakesOn, WorkGoesOn}
-use Rattle.lt_runner.specs.Turns.{AreTried, AreWorked, HaveRun, HaveRunInOrder, IsWorkedOf, TakesTurn}
+use Rattle.lt_runner.specs.Turns.{AreTried, AreWorked, HaveRun, HaveRunInOrder, IsWorkedOf, TakesTurn, TurnsTo}
 use Rattle.lt_runner.specs.Ran.{IsRan}
 
 -- The limits of a run of the plan on a table of this configuration.
 abbrev pub plan_rules : {G : Type 0} → Config → Plan G → Rules
 plan_rules config plan = rules_of config plan.turns
 
--- The line was executed and answered, and the result is the session after it, and whether it used up the turns.
-abbrev pub LineTaken : Config → Option ℕ → Command → Session → List AnswerLine → List AnswerLine → Session × Bool → Type 0
-LineTaken config turns line old answers more r = ExecutesLine (rules_of config turns) line old answers r.0 more r.1
+-- The line was executed and answered between these sessions and answers, and the result is whether it used up the turns.
+abbrev pub LineTaken : Config → Option ℕ → Command → Session → List AnswerLine → Session → List AnswerLine → Bool → Type 0
+LineTaken config turns line old answers new more out = ExecutesLine (rules_of config turns) line old answers new more out
 
 -- ---- one pass
 
@@ -50,7 +50,12 @@ PlanIsTried may_answer config plan ps works = AreTried (plan_rules config plan) 
 abbrev pub PlanIsWorked : {G : Type 0} → (G → GateAnswers) → Config → Plan G → List PassState → Vec Work → Type 0
 PlanIsWorked may_answer config plan ps works = AreWorked (plan_rules config plan) (may_answer plan.gate.now) plan.commands.now ps works.items
 
--- The pass of the line learned everything that was seen before, and executed the line.
+-- The pass learned everything that was seen before, and executed the line.
+abbrev pub PlanTurnsTo : {G : Type 0} → (G → GateAnswers) → Config → Plan G → Command → FrontState → Work → Work → FrontState → Type 0
+PlanTurnsTo may_answer config plan line seen old new seen_then =
+    TurnsTo (plan_rules config plan) (may_answer plan.gate.now) line seen old new seen_then
+
+-- So did the pass of the line, and the other passes did nothing.
 abbrev pub PlanTakesTurn : {G : Type 0} → (G → GateAnswers) → Config → Plan G → Command → FrontState → List (Option Work) → List (Option Work) → FrontState → Type 0
 PlanTakesTurn may_answer config plan line seen old new seen_then =
     TakesTurn (plan_rules config plan) (may_answer plan.gate.now) line seen old new seen_then

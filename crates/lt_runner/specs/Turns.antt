@@ -174,6 +174,16 @@ pub record Learns (seen : FrontState) (old new : Session) : Type 0 where
   pub that : IsPrefix seen.seen (session_pass new).seen
   pub shown : IsPrefix seen.shown (session_pass new).shown
 
+-- The pass learned everything that was seen before and executed the line. What it has seen afterwards is what the next
+-- pass learns.
+pub record TurnsTo (rules : Rules) (gate : GateAnswers) (c : Command) (seen : FrontState) (before after : Work) (seen_then : FrontState) : Type 0 where
+  pub session : Session
+  pub learns : Learns seen before.session session
+  pub goes_on : WorkGoesOn rules gate before.finish (record before { session = session }) c after
+  pub of : seen_then.of ≡ (session_pass after.session).of
+  pub seen_is : seen_then.seen ≡ (session_pass after.session).seen
+  pub shown_is : seen_then.shown ≡ (session_pass after.session).shown
+
 -- The pass of the command learned everything that was seen before and executed its line. The other passes did
 -- nothing. What this pass has seen afterwards is what the next pass learns.
 pub record TakesTurn (rules : Rules) (gate : GateAnswers) (c : Command) (seen : FrontState) (old new : List (Option Work)) (seen_then : FrontState) : Type 0 where

@@ -1,20 +1,22 @@
 //! What does a single line of a script do?
 //!
 //! `act` executes a line by a call of the table. There is one function for each kind of line; each turns the
-//! result of its call into the answer of the line. Read next: `specs/Machine.antt`, which defines each answer and
-//! its steps, and `specs/Execution.antt`.
+//! result of its call into the answer of the line. The session is changed in its place, because it is large and most
+//! lines change little of it. It is moved only where a request begins or ends, into a guard or out of it (`entered` and
+//! `left`). Read next: `specs/Machine.antt`, which defines each answer and its steps, and `specs/Execution.antt`.
 ghost use Rattle.std.specs.Prelude.{◌≡◌, ◌<◌, ℕ, IfOk, is_some, length, Ok};
 ghost use Rattle.lt_rules.specs.declared.call.Call.TheVariants.{Acquire, Update, Finish};
 ghost use Rattle.lt_walk.specs.declared.scan_results.Scan.TheVariants.{Waiting, TooLong};
 ghost use Rattle.lt_runner.specs.Sessions.{session_pass};
 ghost use Rattle.lt_runner.specs.Machine.{IsOpenAnswered, IsScanned, IsScanAnswer, IsAwaited, IsLooked, IsCallAnswered, IsLeaveAnswered, rules_of, let_read, let_gone_on, poll_answer};
-ghost use Rattle.lt_runner.specs.Execution.{Does, IsCallOutcome, IsLineOutcome, IsOutOnlyAfter, LineDoes, Polls, no_lets, no_word};
+ghost use Rattle.lt_runner.specs.Execution.{Does, IsCallAnswer, IsLineAnswer, IsOutOnlyAfter, LineDoes, Polls, no_lets, no_word};
 
 use crate::answer::{LineAnswer, Refusal};
 use crate::find::index_of;
 use crate::outcome::OutOfMemory;
 use crate::plan::Host;
-use crate::session::{LineOutcome, Session};
+use crate::session::Session;
+use core::mem;
 use lt_ids::{Access, Key, Timestamp, TxnId};
 use lt_rules::KeyTable;
 use lt_script::Action;
@@ -26,38 +28,37 @@ use lt_words::{Name, Pass};
 use std::sync::Wait;
 use std::thread;
 
-fn no_request(pass: Pass) -> LineOutcome
-    ensures answer { result.answer ≡ LineAnswer.NoRequest }
-    ensures session { result.session ≡ Session.Free pass }
-{
-    LineOutcome {
-        session: Session::Free(pass),
-        answer: LineAnswer::NoRequest,
-    }
+/// What a line that opens a request asks for, and of which table.
+#[derive(Drop)]
+struct Opening<'a, N: Name, T: KeyTable, R: Wait> {
+    host: &'a Host<'a, N, T, R>,
+    txn: Option<TxnId>,
+    ts: Timestamp,
+    accesses: &'a [(Key, Access)],
+    longest: u32,
 }
 
 fn enter<N: Name, T: KeyTable, R: Wait>(
-    host: &Host<'_, N, T, R>,
     pass: Pass,
-    txn: Option<TxnId>,
-    ts: Timestamp,
-    accesses: &[(Key, Access)],
-    longest: u32,
-) -> Result<LineOutcome, OutOfMemory>
+    opening: &Opening<'_, N, T, R>,
+) -> (Session, Result<LineAnswer, OutOfMemory>)
     requires { pass.of ≡ N.of }
-    ensures does { IfOk result (LineDoes (IsOpenAnswered txn ts accesses.now longest) no_word no_lets (Session.Free pass)) }
-    ensures numbers_out { IfOk result (IsOutOnlyAfter host.now.table.now.max_requests) }
+    ensures does { IfOk result.1 (LineDoes (IsOpenAnswered opening.now.txn opening.now.ts opening.now.accesses.now opening.now.longest)
+        no_word no_lets (Session.Free pass) result.0) }
+    ensures numbers_out { IfOk result.1 (IsOutOnlyAfter opening.now.host.now.table.now.max_requests result.0) }
 {
-    match host
-        .table
-        .enter(host.alloc, pass, txn, ts, accesses, longest)
-    {
+    let host = opening.host;
+    match host.table.enter(
+        host.alloc,
+        pass,
+        opening.txn,
+        opening.ts,
+        opening.accesses,
+        opening.longest,
+    ) {
         Ok(guard) => {
             let number = guard.number();
-            Ok(LineOutcome {
-                session: Session::Open(guard),
-                answer: LineAnswer::Request(number),
-            })
+            (Session::Open(guard), Ok(LineAnswer::Request(number)))
         }
         Err(refused) => {
             let EnterRefused { pass, error } = refused;
@@ -65,38 +66,39 @@ fn enter<N: Name, T: KeyTable, R: Wait>(
                 EnterError::NoKeys => Refusal::NoKeys,
                 EnterError::TooManyKeys => Refusal::TooManyKeys,
                 EnterError::NumbersOut => Refusal::NumbersOut,
-                EnterError::Memory => {
-                    pass.abandon();
-                    return Err(OutOfMemory);
-                }
+                EnterError::Memory => return (Session::Free(pass), Err(OutOfMemory)),
             };
-            Ok(LineOutcome {
-                session: Session::Free(pass),
-                answer: LineAnswer::Refused(refusal),
-            })
+            (Session::Free(pass), Ok(LineAnswer::Refused(refusal)))
         }
     }
 }
 
-fn open<N: Name, T: KeyTable, R: Wait>(
-    host: &Host<'_, N, T, R>,
+/// The session after the line, and its answer.
+fn entered<N: Name, T: KeyTable, R: Wait>(
     session: Session,
-    txn: Option<TxnId>,
-    ts: Timestamp,
-    accesses: &[(Key, Access)],
-    longest: u32,
-) -> Result<LineOutcome, OutOfMemory>
+    opening: &Opening<'_, N, T, R>,
+) -> (Session, Result<LineAnswer, OutOfMemory>)
     requires { (session_pass session).of ≡ N.of }
-    ensures does { IfOk result (LineDoes (IsOpenAnswered txn ts accesses.now longest) no_word no_lets session) }
-    ensures numbers_out { IfOk result (IsOutOnlyAfter host.now.table.now.max_requests) }
+    ensures does { IfOk result.1 (LineDoes (IsOpenAnswered opening.now.txn opening.now.ts opening.now.accesses.now opening.now.longest)
+        no_word no_lets session result.0) }
+    ensures numbers_out { IfOk result.1 (IsOutOnlyAfter opening.now.host.now.table.now.max_requests result.0) }
 {
     match session {
-        Session::Free(pass) => enter(host, pass, txn, ts, accesses, longest),
-        Session::Open(guard) => Ok(LineOutcome {
-            session: Session::Open(guard),
-            answer: LineAnswer::Busy,
-        }),
+        Session::Free(pass) => enter(pass, opening),
+        Session::Open(guard) => (Session::Open(guard), Ok(LineAnswer::Busy)),
     }
+}
+
+fn open<N: Name, T: KeyTable, R: Wait>(
+    session: &mut Session,
+    opening: &Opening<'_, N, T, R>,
+) -> Result<LineAnswer, OutOfMemory>
+    requires { (session_pass session.old).of ≡ N.of }
+    ensures does { IfOk result (LineDoes (IsOpenAnswered opening.now.txn opening.now.ts opening.now.accesses.now opening.now.longest)
+        no_word no_lets session.old session.new) }
+    ensures numbers_out { IfOk result (IsOutOnlyAfter opening.now.host.now.table.now.max_requests session.new) }
+{
+    mem::replace_with(session, opening, entered::<N, T, R>)
 }
 
 fn scan_answer(
@@ -129,35 +131,26 @@ fn scan_answer(
 fn scan_of<N: Name, T: KeyTable, R: Wait>(
     rt: &R,
     table: &Table<N, T>,
-    mut guard: Guard,
-) -> Result<LineOutcome, OutOfMemory>
-    requires { guard.pass.of ≡ N.of }
-    ensures { IfOk result (LineDoes (IsScanned table.now.max_waits) is_some let_gone_on (Session.Open guard)) }
+    guard: &mut Guard,
+) -> Result<LineAnswer, OutOfMemory>
+    requires { guard.old.pass.of ≡ N.of }
+    ensures { IfOk result (LineDoes (IsScanned table.now.max_waits) is_some let_gone_on
+        (Session.Open guard.old) (Session.Open guard.new)) }
 {
-    let ended = table.scan(rt, &mut guard);
-    let answered = scan_answer(guard.keys(), ended);
-    match answered {
-        Ok(answer) => Ok(LineOutcome {
-            session: Session::Open(guard),
-            answer,
-        }),
-        Err(error) => {
-            guard.abandon();
-            Err(error)
-        }
-    }
+    let ended = table.scan(rt, guard);
+    scan_answer(guard.keys(), ended)
 }
 
 fn scan<N: Name, T: KeyTable, R: Wait>(
     rt: &R,
     table: &Table<N, T>,
-    session: Session,
-) -> Result<LineOutcome, OutOfMemory>
-    requires { (session_pass session).of ≡ N.of }
-    ensures { IfOk result (LineDoes (IsScanned table.now.max_waits) is_some let_gone_on session) }
+    session: &mut Session,
+) -> Result<LineAnswer, OutOfMemory>
+    requires { (session_pass session.old).of ≡ N.of }
+    ensures { IfOk result (LineDoes (IsScanned table.now.max_waits) is_some let_gone_on session.old session.new) }
 {
     match session {
-        Session::Free(pass) => Ok(no_request(pass)),
+        Session::Free(_) => Ok(LineAnswer::NoRequest),
         Session::Open(guard) => scan_of(rt, table, guard),
     }
 }
@@ -192,75 +185,60 @@ fn poll_answer(turns: Option<u64>, found: Poll) -> LineAnswer
 
 fn await_of<N: Name, T: KeyTable>(
     table: &Table<N, T>,
-    mut guard: Guard,
+    guard: &mut Guard,
     turns: Option<u64>,
-) -> LineOutcome
-    requires { guard.pass.of ≡ N.of }
-    ensures { Does (IsAwaited turns) is_some let_read (Session.Open guard) result.answer result.session }
+) -> LineAnswer
+    requires { guard.old.pass.of ≡ N.of }
+    ensures { Does (IsAwaited turns) is_some let_read (Session.Open guard.old) result (Session.Open guard.new) }
 {
-    let found = poll_on(table, &mut guard, turns.unwrap_or(1));
-    LineOutcome {
-        session: Session::Open(guard),
-        answer: poll_answer(turns, found),
-    }
+    let found = poll_on(table, guard, turns.unwrap_or(1));
+    poll_answer(turns, found)
 }
 
 fn await_let<N: Name, T: KeyTable>(
     table: &Table<N, T>,
-    session: Session,
+    session: &mut Session,
     turns: Option<u64>,
-) -> LineOutcome
-    requires { (session_pass session).of ≡ N.of }
-    ensures { Does (IsAwaited turns) is_some let_read session result.answer result.session }
+) -> LineAnswer
+    requires { (session_pass session.old).of ≡ N.of }
+    ensures { Does (IsAwaited turns) is_some let_read session.old result session.new }
 {
     match session {
-        Session::Free(pass) => no_request(pass),
+        Session::Free(_) => LineAnswer::NoRequest,
         Session::Open(guard) => await_of(table, guard, turns),
     }
 }
 
-/// The outcome of a line whose call makes one step.
-fn told_of(
-    session: Session,
-    answered: Result<Answer, StepError>,
-) -> Result<LineOutcome, OutOfMemory>
-    ensures { IsCallOutcome answered session result }
+/// The answer of a line whose call makes one step.
+fn told_of(answered: Result<Answer, StepError>) -> Result<LineAnswer, OutOfMemory>
+    ensures { IsCallAnswer answered result }
 {
     match answered {
-        Ok(answer) => Ok(LineOutcome {
-            session,
-            answer: LineAnswer::Replied(answer.reply),
-        }),
-        Err(StepError::HistoryFull) => Ok(LineOutcome {
-            session,
-            answer: LineAnswer::Refused(Refusal::HistoryFull),
-        }),
-        Err(StepError::Memory) => {
-            session.abandon();
-            Err(OutOfMemory)
-        }
+        Ok(answer) => Ok(LineAnswer::Replied(answer.reply)),
+        Err(StepError::HistoryFull) => Ok(LineAnswer::Refused(Refusal::HistoryFull)),
+        Err(StepError::Memory) => Err(OutOfMemory),
     }
 }
 
 fn acquire<N: Name, T: KeyTable, R: Wait>(
     rt: &R,
     table: &Table<N, T>,
-    session: Session,
+    session: &mut Session,
     key: &Key,
     txn: TxnId,
     ts: Timestamp,
-) -> Result<LineOutcome, OutOfMemory>
-    requires { (session_pass session).of ≡ N.of }
-    ensures { IfOk result (LineDoes (IsCallAnswered key.now (Acquire txn ts)) no_word no_lets session) }
+) -> Result<LineAnswer, OutOfMemory>
+    requires { (session_pass session.old).of ≡ N.of }
+    ensures { IfOk result (LineDoes (IsCallAnswered key.now (Acquire txn ts)) no_word no_lets session.old session.new) }
 {
     match session {
-        Session::Free(mut pass) => {
-            let answered = table.acquire(rt, &mut pass, key, txn, ts);
-            told_of(Session::Free(pass), answered)
+        Session::Free(pass) => {
+            let answered = table.acquire(rt, pass, key, txn, ts);
+            told_of(answered)
         }
-        Session::Open(mut guard) => {
-            let answered = table.acquire_in(rt, &mut guard, key, txn, ts);
-            told_of(Session::Open(guard), answered)
+        Session::Open(guard) => {
+            let answered = table.acquire_in(rt, guard, key, txn, ts);
+            told_of(answered)
         }
     }
 }
@@ -268,22 +246,22 @@ fn acquire<N: Name, T: KeyTable, R: Wait>(
 fn update<N: Name, T: KeyTable, R: Wait>(
     rt: &R,
     table: &Table<N, T>,
-    session: Session,
+    session: &mut Session,
     key: &Key,
     txn: TxnId,
     ts: Timestamp,
-) -> Result<LineOutcome, OutOfMemory>
-    requires { (session_pass session).of ≡ N.of }
-    ensures { IfOk result (LineDoes (IsCallAnswered key.now (Update txn ts)) no_word no_lets session) }
+) -> Result<LineAnswer, OutOfMemory>
+    requires { (session_pass session.old).of ≡ N.of }
+    ensures { IfOk result (LineDoes (IsCallAnswered key.now (Update txn ts)) no_word no_lets session.old session.new) }
 {
     match session {
-        Session::Free(mut pass) => {
-            let answered = table.update(rt, &mut pass, key, txn, ts);
-            told_of(Session::Free(pass), answered)
+        Session::Free(pass) => {
+            let answered = table.update(rt, pass, key, txn, ts);
+            told_of(answered)
         }
-        Session::Open(mut guard) => {
-            let answered = table.update_in(rt, &mut guard, key, txn, ts);
-            told_of(Session::Open(guard), answered)
+        Session::Open(guard) => {
+            let answered = table.update_in(rt, guard, key, txn, ts);
+            told_of(answered)
         }
     }
 }
@@ -291,21 +269,21 @@ fn update<N: Name, T: KeyTable, R: Wait>(
 fn finish<N: Name, T: KeyTable, R: Wait>(
     rt: &R,
     table: &Table<N, T>,
-    session: Session,
+    session: &mut Session,
     key: &Key,
     txn: TxnId,
-) -> Result<LineOutcome, OutOfMemory>
-    requires { (session_pass session).of ≡ N.of }
-    ensures { IfOk result (LineDoes (IsCallAnswered key.now (Finish txn)) no_word no_lets session) }
+) -> Result<LineAnswer, OutOfMemory>
+    requires { (session_pass session.old).of ≡ N.of }
+    ensures { IfOk result (LineDoes (IsCallAnswered key.now (Finish txn)) no_word no_lets session.old session.new) }
 {
     match session {
-        Session::Free(mut pass) => {
-            let answered = table.finish(rt, &mut pass, key, txn);
-            told_of(Session::Free(pass), answered)
+        Session::Free(pass) => {
+            let answered = table.finish(rt, pass, key, txn);
+            told_of(answered)
         }
-        Session::Open(mut guard) => {
-            let answered = table.finish_in(rt, &mut guard, key, txn);
-            told_of(Session::Open(guard), answered)
+        Session::Open(guard) => {
+            let answered = table.finish_in(rt, guard, key, txn);
+            told_of(answered)
         }
     }
 }
@@ -313,93 +291,94 @@ fn finish<N: Name, T: KeyTable, R: Wait>(
 fn look_of<N: Name, T: KeyTable, R: Wait>(
     rt: &R,
     table: &Table<N, T>,
-    mut guard: Guard,
+    guard: &mut Guard,
     key: &Key,
-) -> Result<LineOutcome, OutOfMemory>
-    requires { guard.pass.of ≡ N.of }
-    ensures { IfOk result (LineDoes (IsLooked key.now) no_word no_lets (Session.Open guard)) }
+) -> Result<LineAnswer, OutOfMemory>
+    requires { guard.old.pass.of ≡ N.of }
+    ensures { IfOk result (LineDoes (IsLooked key.now) no_word no_lets
+        (Session.Open guard.old) (Session.Open guard.new)) }
 {
     let Some(index) = index_of(guard.keys(), key) else {
-        return Ok(LineOutcome {
-            session: Session::Open(guard),
-            answer: LineAnswer::Stranger,
-        });
+        return Ok(LineAnswer::Stranger);
     };
-    let answered = table.look(rt, &mut guard, index);
-    told_of(Session::Open(guard), answered)
+    let answered = table.look(rt, guard, index);
+    told_of(answered)
 }
 
 fn look<N: Name, T: KeyTable, R: Wait>(
     rt: &R,
     table: &Table<N, T>,
-    session: Session,
+    session: &mut Session,
     key: &Key,
-) -> Result<LineOutcome, OutOfMemory>
-    requires { (session_pass session).of ≡ N.of }
-    ensures { IfOk result (LineDoes (IsLooked key.now) no_word no_lets session) }
+) -> Result<LineAnswer, OutOfMemory>
+    requires { (session_pass session.old).of ≡ N.of }
+    ensures { IfOk result (LineDoes (IsLooked key.now) no_word no_lets session.old session.new) }
 {
     match session {
-        Session::Free(pass) => Ok(no_request(pass)),
+        Session::Free(_) => Ok(LineAnswer::NoRequest),
         Session::Open(guard) => look_of(rt, table, guard, key),
     }
 }
 
 fn leave_of<N: Name, T: KeyTable, R: Wait>(
-    rt: &R,
-    table: &Table<N, T>,
     guard: Guard,
-) -> Result<LineOutcome, OutOfMemory>
+    host: &Host<'_, N, T, R>,
+) -> (Session, Result<LineAnswer, OutOfMemory>)
     requires { guard.pass.of ≡ N.of }
-    ensures { IfOk result (LineDoes IsLeaveAnswered no_word no_lets (Session.Open guard)) }
+    ensures { IfOk result.1 (LineDoes IsLeaveAnswered no_word no_lets (Session.Open guard) result.0) }
 {
-    match table.leave(rt, guard) {
+    match host.table.leave(host.rt, guard) {
         Ok(left) => {
             let Left { pass, answers: _ } = left;
-            Ok(LineOutcome {
-                session: Session::Free(pass),
-                answer: LineAnswer::Done,
-            })
+            (Session::Free(pass), Ok(LineAnswer::Done))
         }
         Err(stopped) => {
             let LeaveStopped { guard, error } = stopped;
             match error {
-                StepError::HistoryFull => Ok(LineOutcome {
-                    session: Session::Open(guard),
-                    answer: LineAnswer::Refused(Refusal::HistoryFull),
-                }),
-                StepError::Memory => {
-                    guard.abandon();
-                    Err(OutOfMemory)
-                }
+                StepError::HistoryFull => (
+                    Session::Open(guard),
+                    Ok(LineAnswer::Refused(Refusal::HistoryFull)),
+                ),
+                StepError::Memory => (Session::Open(guard), Err(OutOfMemory)),
             }
         }
     }
 }
 
-fn leave<N: Name, T: KeyTable, R: Wait>(
-    rt: &R,
-    table: &Table<N, T>,
+/// The session after the line, and its answer.
+fn left<N: Name, T: KeyTable, R: Wait>(
     session: Session,
-) -> Result<LineOutcome, OutOfMemory>
+    host: &Host<'_, N, T, R>,
+) -> (Session, Result<LineAnswer, OutOfMemory>)
     requires { (session_pass session).of ≡ N.of }
-    ensures { IfOk result (LineDoes IsLeaveAnswered no_word no_lets session) }
+    ensures { IfOk result.1 (LineDoes IsLeaveAnswered no_word no_lets session result.0) }
 {
     match session {
-        Session::Free(pass) => Ok(no_request(pass)),
-        Session::Open(guard) => leave_of(rt, table, guard),
+        Session::Free(pass) => (Session::Free(pass), Ok(LineAnswer::NoRequest)),
+        Session::Open(guard) => leave_of(guard, host),
     }
+}
+
+fn leave<N: Name, T: KeyTable, R: Wait>(
+    session: &mut Session,
+    host: &Host<'_, N, T, R>,
+) -> Result<LineAnswer, OutOfMemory>
+    requires { (session_pass session.old).of ≡ N.of }
+    ensures { IfOk result (LineDoes IsLeaveAnswered no_word no_lets session.old session.new) }
+{
+    mem::replace_with(session, host, left::<N, T, R>)
 }
 
 /// Executes the line's action.
 pub(crate) fn act<N: Name, T: KeyTable, R: Wait>(
     host: &Host<'_, N, T, R>,
     turns: Option<u64>,
-    session: Session,
+    session: &mut Session,
     action: &Action,
-) -> Result<LineOutcome, OutOfMemory>
-    requires { (session_pass session).of ≡ N.of }
-    ensures does { IfOk result (IsLineOutcome (rules_of host.now.table.now turns) action.now session) }
-    ensures numbers_out { IfOk result (IsOutOnlyAfter host.now.table.now.max_requests) }
+) -> Result<LineAnswer, OutOfMemory>
+    requires { (session_pass session.old).of ≡ N.of }
+    ensures does { IfOk result (IsLineAnswer (rules_of host.now.table.now turns) action.now session.old session.new) }
+    ensures numbers_out { IfOk result (IsOutOnlyAfter host.now.table.now.max_requests session.new) }
 {
     match action {
         Action::Open {
@@ -407,13 +386,22 @@ pub(crate) fn act<N: Name, T: KeyTable, R: Wait>(
             ts,
             accesses,
             longest,
-        } => open(host, session, *txn, *ts, accesses.as_slice(), *longest),
+        } => {
+            let opening = Opening {
+                host,
+                txn: *txn,
+                ts: *ts,
+                accesses: accesses.as_slice(),
+                longest: *longest,
+            };
+            open(session, &opening)
+        }
         Action::Scan => scan(host.rt, host.table, session),
         Action::Await => Ok(await_let(host.table, session, turns)),
         Action::Look { key } => look(host.rt, host.table, session, key),
         Action::Acquire { txn, ts, key } => acquire(host.rt, host.table, session, key, *txn, *ts),
         Action::Update { txn, ts, key } => update(host.rt, host.table, session, key, *txn, *ts),
         Action::Finish { txn, key } => finish(host.rt, host.table, session, key, *txn),
-        Action::Leave => leave(host.rt, host.table, session),
+        Action::Leave => leave(session, host),
     }
 }

@@ -5,7 +5,8 @@
 //! and `specs/Turns.antt`.
 ghost use Rattle.std.specs.Prelude.{◌≡◌, ◌≤◌, ◌-◌, IfOk, length, map, List, Ok};
 ghost use Rattle.std.specs.List.{All, AllByRecursion};
-ghost use Rattle.lt_runner.specs.Planned.{PassIsWorked, PlanHasRunInOrder, PlanIsTried, PlanIsWorked, PlanTakesTurn};
+ghost use Rattle.lt_runner.specs.Planned.{PassIsWorked, PlanHasRunInOrder, PlanIsTried, PlanIsWorked, PlanTakesTurn, PlanTurnsTo};
+ghost use Rattle.lt_runner.specs.Sessions.{session_pass};
 ghost use Rattle.lt_runner.specs.Turns.{AreNumbered, HaveBegun, IsAmong, IsReady, slot_at, somes};
 
 use crate::gate::Gate;
@@ -17,8 +18,8 @@ use lt_script::Command;
 use lt_words::{Front, Name, Pass, abandon_all};
 use std::alloc::Global;
 use std::sync::Wait;
+use std::thread;
 use std::thread::Threads;
-use std::{mem, thread};
 
 /// Wraps each pass so that it may be dropped.
 pub(crate) fn seats_of(alloc: Global, passes: Vec<Pass>) -> Result<Vec<StartingPass>, OutOfMemory>
@@ -91,6 +92,25 @@ pub(crate) fn run_on_threads<
     collect(host.alloc, done)
 }
 
+/// The pass learns what was seen before, and then executes the line.
+fn turn_of<N: Name, T: KeyTable, G: Gate, R: Wait>(
+    host: &Host<'_, N, T, R>,
+    plan: &Plan<'_, G>,
+    seen: &mut Front,
+    work: &mut Work,
+    command: &Command,
+) -> Result<(), OutOfMemory>
+    requires of { (session_pass work.old.session).of ≡ N.of }
+    requires seen { seen.old.of ≡ N.of }
+    ensures { IfOk result (λ _. PlanTurnsTo G.may_answer host.now.table.now plan.now command.now
+        seen.old work.old work.new seen.new) }
+{
+    work.session.learn(seen);
+    next_line(host, plan, work, command)?;
+    *seen = work.session.seen();
+    Ok(())
+}
+
 /// The pass of the command learns what was seen before, and then executes its line.
 fn take_turn<N: Name, T: KeyTable, G: Gate, R: Wait>(
     host: &Host<'_, N, T, R>,
@@ -108,14 +128,10 @@ fn take_turn<N: Name, T: KeyTable, G: Gate, R: Wait>(
 {
     let number = command.pass.number();
     let index = (number - 1) as usize;
-    let Some(mut before) = mem::replace(&mut slots[index], None) else {
-        unreachable!()
-    };
-    before.session.learn(seen);
-    let after = next_line(host, plan, before, command)?;
-    *seen = after.session.seen();
-    slots[index] = Some(after);
-    Ok(())
+    match &mut slots[index] {
+        Some(work) => turn_of(host, plan, seen, work, command),
+        None => unreachable!(),
+    }
 }
 
 fn begin_all(

@@ -3,7 +3,6 @@ ghost use Rattle.std.specs.Prelude.{◌≡◌};
 ghost use Rattle.lt_runner.specs.Sessions.{session_pass};
 ghost use Rattle.lt_runner.specs.Turns.{Learns};
 
-use crate::answer::LineAnswer;
 use lt_table_core::Guard;
 use lt_words::{Front, Pass};
 
@@ -44,10 +43,4 @@ impl Session {
             Session::Open(guard) => guard.abandon(),
         }
     }
-}
-
-/// The answer of a line, and the session after it.
-pub(crate) struct LineOutcome {
-    pub session: Session,
-    pub answer: LineAnswer,
 }

@@ -12,7 +12,7 @@ use crate::answer::{AnswerLine, LineAnswer};
 use crate::gate::Gate;
 use crate::outcome::{Finish, OutOfMemory, Work};
 use crate::plan::{Host, Plan};
-use crate::session::{LineOutcome, Session};
+use crate::session::Session;
 use lt_rules::KeyTable;
 use lt_script::Command;
 use lt_words::{Name, Pass};
@@ -35,25 +35,23 @@ fn finish_of(out: bool) -> Finish
 fn take_line<N: Name, T: KeyTable, R: Wait>(
     host: &Host<'_, N, T, R>,
     turns: Option<u64>,
-    session: Session,
+    session: &mut Session,
     command: &Command,
     answers: &mut Vec<AnswerLine>,
-) -> Result<(Session, bool), OutOfMemory>
-    requires { (session_pass session).of ≡ N.of }
-    ensures { IfOk result (LineTaken host.now.table.now turns command.now session answers.old.items answers.new.items) }
+) -> Result<bool, OutOfMemory>
+    requires { (session_pass session.old).of ≡ N.of }
+    ensures { IfOk result (LineTaken host.now.table.now turns command.now
+        session.old answers.old.items session.new answers.new.items) }
 {
-    let LineOutcome { session, answer } = act(host, turns, session, &command.action)?;
+    let answer = act(host, turns, session, &command.action)?;
     let out = is_turns(&answer);
     let answer = AnswerLine {
         line: command.line,
         answer,
     };
     match answers.push(answer) {
-        Ok(()) => Ok((session, out)),
-        Err(_) => {
-            session.abandon();
-            Err(OutOfMemory)
-        }
+        Ok(()) => Ok(out),
+        Err(_) => Err(OutOfMemory),
     }
 }
 
@@ -61,46 +59,43 @@ fn take_line<N: Name, T: KeyTable, R: Wait>(
 fn live_line<N: Name, T: KeyTable, G: Gate, R: Wait>(
     host: &Host<'_, N, T, R>,
     plan: &Plan<'_, G>,
-    session: Session,
-    mut answers: Vec<AnswerLine>,
+    work: &mut Work,
     command: &Command,
-) -> Result<Work, OutOfMemory>
-    requires { (session_pass session).of ≡ N.of }
-    ensures { IfOk result (PlanTakesOn G.may_answer host.now.table.now plan.now session answers.items command.now) }
+) -> Result<(), OutOfMemory>
+    requires { (session_pass work.old.session).of ≡ N.of }
+    ensures { IfOk result (λ _. PlanTakesOn G.may_answer host.now.table.now plan.now
+        work.old.session work.old.answers.items command.now work.new) }
 {
     let number = command.pass.number();
     if !plan.gate.before(number, command.line) {
-        return Ok(Work {
-            session,
-            answers,
-            finish: Finish::TurnsOut,
-        });
+        work.finish = Finish::TurnsOut;
+        return Ok(());
     }
-    let (after, out) = take_line(host, plan.turns, session, command, &mut answers)?;
+    let out = take_line(
+        host,
+        plan.turns,
+        &mut work.session,
+        command,
+        &mut work.answers,
+    )?;
     plan.gate.after(number, command.line);
-    Ok(Work {
-        session: after,
-        answers,
-        finish: finish_of(out),
-    })
+    work.finish = finish_of(out);
+    Ok(())
 }
 
 /// Executes the next line of a pass, unless the pass has ended.
 pub(crate) fn next_line<N: Name, T: KeyTable, G: Gate, R: Wait>(
     host: &Host<'_, N, T, R>,
     plan: &Plan<'_, G>,
-    work: Work,
+    work: &mut Work,
     command: &Command,
-) -> Result<Work, OutOfMemory>
-    requires { (session_pass work.session).of ≡ N.of }
-    ensures { IfOk result (PlanGoesOn G.may_answer host.now.table.now plan.now work command.now) }
+) -> Result<(), OutOfMemory>
+    requires { (session_pass work.old.session).of ≡ N.of }
+    ensures { IfOk result (λ _. PlanGoesOn G.may_answer host.now.table.now plan.now work.old command.now work.new) }
 {
     match work.finish {
-        Finish::TurnsOut => Ok(work),
-        Finish::Done => {
-            let (session, answers, _) = work.into_parts();
-            live_line(host, plan, session, answers, command)
-        }
+        Finish::TurnsOut => Ok(()),
+        Finish::Done => live_line(host, plan, work, command),
     }
 }
 
@@ -155,7 +150,7 @@ pub fn work<N: Name, T: KeyTable, G: Gate, R: Wait>(
     let mut work = begun;
     for command in commands {
         if command.pass.number() == number {
-            work = next_line(host, plan, work, command)?;
+            next_line(host, plan, &mut work, command)?;
         }
     }
     Ok(work)

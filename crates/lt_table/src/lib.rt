@@ -221,10 +221,10 @@ pub use linked::{linked_tables, open, open_valued, open_valued_waking, open_waki
 pub use lt_ids::{MAX_KEY_BYTES, MAX_PASS, MAX_REQUEST, MAX_SHARDS, MAX_STEPS, MAX_WAIT};
 pub use lt_lock::LinkedTable;
 pub use lt_table_core::{
-    Answer, CloseError, CloseRefused, Config, EnterError, EnterRefused, Gone, Guard, Histories,
-    Keeping, KeyState, LeaveStopped, Left, Mode, Poll, PrepareError, Progress, Reader, Ready, Rest,
-    Rests, Scan, ScanError, ShardValue, StepError, Table, Waker, abandon_guards, empty_tables,
-    laws, open_valued_waking_with, open_valued_with, open_waking_with, open_with, prepare,
-    prepare_with,
+    Answer, CloseError, CloseRefused, Config, EnterError, EnterRefused, FinishRefused, Gone, Guard,
+    Histories, Keeping, KeyState, LeaveStopped, Left, Mode, Poll, PrepareError, Progress, Reader,
+    Ready, Rest, Rests, Scan, ScanError, ShardValue, StepError, Table, Waker, abandon_guards,
+    empty_tables, laws, open_valued_waking_with, open_valued_with, open_waking_with, open_with,
+    prepare, prepare_with,
 };
 pub use start::random_start;

@@ -43,3 +43,4 @@ pub use opening::{
 };
 pub use shard_value::ShardValue;
 pub use table::Table;
+pub use valuing::FinishRefused;

@@ -19,6 +19,15 @@ use lt_shard::{Answer, StepError};
 use lt_words::{Keeping, Name, Pass, Waker};
 use std::sync::Wait;
 
+/// Why a finish was refused, and what it would have lent the value to.
+#[derive(Drop)]
+pub struct FinishRefused<F> {
+    /// The closure, which was not called.
+    pub f: F,
+    /// Why the finish was refused.
+    pub error: StepError,
+}
+
 impl<N: Name, T: KeyTable, W: Waker, V: ShardValue> Table<N, T, W, V> {
     /// Lends the value beside the key's shard, under the shard's lock. It fits the shard's part of what the pass has then
     /// seen: these are all steps that were made of the shard. Waits for the shard's lock, and makes no step.
@@ -159,7 +168,7 @@ impl<N: Name, T: KeyTable, W: Waker, V: ShardValue> Table<N, T, W, V> {
     /// critical section: so what the transaction puts there is what its finish installs. The value has been told of the
     /// finish, and fits the shard's steps up to it, and no other step.
     ///
-    /// After a refusal nothing was lent.
+    /// After a refusal nothing was lent, and `f` comes back, so that the caller can try again.
     pub fn finish_then<R: Wait, A, F: FnOnce(&mut V) -> A>(
         &self,
         rt: &R,
@@ -167,7 +176,7 @@ impl<N: Name, T: KeyTable, W: Waker, V: ShardValue> Table<N, T, W, V> {
         key: &Key,
         txn: TxnId,
         f: F,
-    ) -> Result<(Answer, Option<A>), StepError>
+    ) -> Result<(Answer, Option<A>), FinishRefused<F>>
         requires pass { pass.old.of ≡ N.of }
         requires callable { F.IsAlwaysCallable f }
         requires keeps { (es : List Entry) (v : V) (a : A) (w : V) → V.fits es v → FnOnceReturnsAtMut F.FnOnce f v a w → V.fits es w }
@@ -177,7 +186,8 @@ impl<N: Name, T: KeyTable, W: Waker, V: ShardValue> Table<N, T, W, V> {
             × V.fits (take (r.0.at + 1) (seen_at N.of.shards key.now pass.new)) v
             × V.fits (take (r.0.at + 1) (seen_at N.of.shards key.now pass.new)) w)) }
         ensures err { OnErr result (pass.new ≡ pass.old) }
-        ensures never_full { N.of.keeping ≡ Keeping.Unrecorded → result ≢ Err StepError.HistoryFull }
+        ensures back { IfErr result (λ e. e.f ≡ f) }
+        ensures never_full { IfErr result (λ e. N.of.keeping ≡ Keeping.Unrecorded → e.error ≢ StepError.HistoryFull) }
         ensures always { N.of.keeping ≡ Keeping.Unrecorded → IsOk result }
     {
         let call = Call::Finish { txn };
@@ -187,7 +197,10 @@ impl<N: Name, T: KeyTable, W: Waker, V: ShardValue> Table<N, T, W, V> {
             let mut locked = lock.lock(rt);
             let inside = &mut *locked;
             if inside.shard.index() == index {
-                let answer = inside.step(rt, &self.book, pass, key, &call)?;
+                let answer = match inside.step(rt, &self.book, pass, key, &call) {
+                    Ok(answer) => answer,
+                    Err(error) => return Err(FinishRefused { f, error }),
+                };
                 let put = if matches!(&answer.reply, Reply::Freed) {
                     Some(inside.change(f))
                 } else {

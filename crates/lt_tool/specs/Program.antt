@@ -1,8 +1,7 @@
 -- How the program ends, and what it says if it fails.
 use Rattle.std.specs.Prelude.{ℕ, List, [], ◌++◌, decimal, codes, Result, Ok, Err}
 use Rattle.lt_checker.specs.declared.checker.CheckError.TheVariants as checks
-use Rattle.lt_checker.specs.declared.error.Fault.{Fault}
-use Rattle.lt_checker.specs.declared.error.Fault.TheVariants as histories
+use Rattle.lt_checker.specs.Fault.{fault_name}
 use Rattle.lt_script.specs.declared.error.ScriptFault.{ScriptFault}
 use Rattle.lt_script.specs.declared.error.ScriptFault.TheVariants.{BadPass, BadCall, BadWords, BadTxn, BadTime, BadMax, BadKey, BadAccess}
 use Rattle.lt_runner.specs.declared.outcome.Finish.{Finish}
@@ -41,30 +40,27 @@ status_of (Ok Done) = 0
 status_of (Ok TurnsOut) = 3
 status_of (Err e) = failure_status e
 
-abbrev pub fault_end : ScriptFault → List ℕ
-fault_end BadPass = codes ": BadPass\n"
-fault_end BadCall = codes ": BadCall\n"
-fault_end BadWords = codes ": BadWords\n"
-fault_end BadTxn = codes ": BadTxn\n"
-fault_end BadTime = codes ": BadTime\n"
-fault_end BadMax = codes ": BadMax\n"
-fault_end BadKey = codes ": BadKey\n"
-fault_end BadAccess = codes ": BadAccess\n"
+-- The name of a script's fault.
+abbrev pub script_fault_name : ScriptFault → List ℕ
+script_fault_name BadPass = codes "BadPass"
+script_fault_name BadCall = codes "BadCall"
+script_fault_name BadWords = codes "BadWords"
+script_fault_name BadTxn = codes "BadTxn"
+script_fault_name BadTime = codes "BadTime"
+script_fault_name BadMax = codes "BadMax"
+script_fault_name BadKey = codes "BadKey"
+script_fault_name BadAccess = codes "BadAccess"
 
-abbrev pub history_end : Fault → List ℕ
-history_end histories.Header = codes ": Header\n"
-history_end histories.Shape = codes ": Shape\n"
-history_end histories.KeyOrder = codes ": KeyOrder\n"
-history_end histories.Index = codes ": Index\n"
-history_end histories.WrongReply = codes ": WrongReply\n"
-history_end histories.WrongLets = codes ": WrongLets\n"
+-- The end of the line that reports the fault of this name.
+abbrev pub fault_end : List ℕ → List ℕ
+fault_end name = codes ": " ++ name ++ codes "\n"
 
--- The line that reports a fault, with this end.
+-- The line that reports the fault of this name.
 abbrev pub line_message : ℕ → List ℕ → List ℕ
-line_message line end = codes "lockrun: line " ++ decimal line ++ end
+line_message line name = codes "lockrun: line " ++ decimal line ++ fault_end name
 
 abbrev pub error_message : RunError → List ℕ
-error_message (Script line fault) = line_message line (fault_end fault)
+error_message (Script line fault) = line_message line (script_fault_name fault)
 error_message TooLong = codes "lockrun: text too long\n"
 error_message Memory = codes "lockrun: memory\n"
 error_message Counts = codes "lockrun: counts\n"
@@ -72,7 +68,7 @@ error_message Read = codes "lockrun: read\n"
 error_message Write = codes "lockrun: write\n"
 
 abbrev pub check_message : CheckTextError → List ℕ
-check_message (texts.Check (checks.Refused line fault)) = line_message line (history_end fault)
+check_message (texts.Check (checks.Refused line fault)) = line_message line (fault_name fault)
 check_message (texts.Check checks.Memory) = codes "lockrun: memory\n"
 check_message texts.TooLong = codes "lockrun: text too long\n"
 check_message texts.Read = codes "lockrun: read\n"

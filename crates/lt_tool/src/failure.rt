@@ -4,11 +4,11 @@
 //! line on standard error. Read next: `specs/Program.antt`, which defines both.
 ghost use Rattle.std.specs.Prelude.{◌≡◌, OnOk, decimal};
 ghost use Rattle.std.specs.Io.KnownBytes.{Appends};
-ghost use Rattle.lt_tool.specs.Program.{check_message, check_status, error_message, error_status, status_of, failure_message, message_of, fault_end, history_end, line_message};
+ghost use Rattle.lt_tool.specs.Program.{check_message, check_status, error_message, error_status, status_of, failure_message, message_of, script_fault_name, fault_end, line_message};
 
 use crate::{CheckTextError, Finish, RunError};
 use itoa::Buffer;
-use lt_checker::{CheckError, Fault};
+use lt_checker::CheckError;
 use lt_script::ScriptFault;
 use lt_writer::{PrintError, write_out};
 use std::io::Write;
@@ -72,33 +72,19 @@ pub fn status(ending: &Result<Finish, Failure>) -> u8
     }
 }
 
-/// The end of the line that reports a script's fault.
-fn fault_end(fault: ScriptFault) -> &'static [u8]
-    ensures { result.now ≡ fault_end fault }
+/// The name of a script's fault.
+fn script_fault_name(fault: ScriptFault) -> &'static [u8]
+    ensures { result.now ≡ script_fault_name fault }
 {
     match fault {
-        ScriptFault::BadPass => b": BadPass\n",
-        ScriptFault::BadCall => b": BadCall\n",
-        ScriptFault::BadWords => b": BadWords\n",
-        ScriptFault::BadTxn => b": BadTxn\n",
-        ScriptFault::BadTime => b": BadTime\n",
-        ScriptFault::BadMax => b": BadMax\n",
-        ScriptFault::BadKey => b": BadKey\n",
-        ScriptFault::BadAccess => b": BadAccess\n",
-    }
-}
-
-/// The end of the line that reports a history's fault.
-fn history_end(fault: Fault) -> &'static [u8]
-    ensures { result.now ≡ history_end fault }
-{
-    match fault {
-        Fault::Header => b": Header\n",
-        Fault::Shape => b": Shape\n",
-        Fault::KeyOrder => b": KeyOrder\n",
-        Fault::Index => b": Index\n",
-        Fault::WrongReply => b": WrongReply\n",
-        Fault::WrongLets => b": WrongLets\n",
+        ScriptFault::BadPass => b"BadPass",
+        ScriptFault::BadCall => b"BadCall",
+        ScriptFault::BadWords => b"BadWords",
+        ScriptFault::BadTxn => b"BadTxn",
+        ScriptFault::BadTime => b"BadTime",
+        ScriptFault::BadMax => b"BadMax",
+        ScriptFault::BadKey => b"BadKey",
+        ScriptFault::BadAccess => b"BadAccess",
     }
 }
 
@@ -109,12 +95,22 @@ fn write_number<W: Write>(writer: &mut W, n: u64) -> Result<(), PrintError>
     write_out(writer, buffer.format(n).as_bytes())
 }
 
-fn complain_of_line<W: Write>(writer: &mut W, line: usize, end: &[u8]) -> Result<(), PrintError>
-    ensures { OnOk result (Appends (W.contents writer.old) (W.contents writer.new) (line_message line end.now)) }
+/// Writes the end of the line that reports the fault of this name.
+fn write_fault<W: Write>(writer: &mut W, name: &[u8]) -> Result<(), PrintError>
+    ensures { OnOk result (Appends (W.contents writer.old) (W.contents writer.new) (fault_end name.now)) }
+{
+    write_out(writer, b": ")?;
+    write_out(writer, name)?;
+    write_out(writer, b"\n")?;
+    Ok(())
+}
+
+fn complain_of_line<W: Write>(writer: &mut W, line: usize, name: &[u8]) -> Result<(), PrintError>
+    ensures { OnOk result (Appends (W.contents writer.old) (W.contents writer.new) (line_message line name.now)) }
 {
     write_out(writer, b"lockrun: line ")?;
     write_number(writer, line as u64)?;
-    write_out(writer, end)?;
+    write_fault(writer, name)?;
     Ok(())
 }
 
@@ -122,7 +118,11 @@ fn complain_of_script<W: Write>(writer: &mut W, error: RunError) -> Result<(), P
     ensures { OnOk result (Appends (W.contents writer.old) (W.contents writer.new) (error_message error)) }
 {
     match error {
-        RunError::Script { line, fault } => complain_of_line(writer, line, fault_end(fault)),
+        RunError::Script { line, fault } => complain_of_line(
+            writer,
+            line,
+            script_fault_name(fault),
+        ),
         RunError::TooLong => write_out(writer, b"lockrun: text too long\n"),
         RunError::Memory => write_out(writer, b"lockrun: memory\n"),
         RunError::Counts => write_out(writer, b"lockrun: counts\n"),
@@ -136,7 +136,7 @@ fn complain_of_check<W: Write>(writer: &mut W, error: CheckTextError) -> Result<
 {
     match error {
         CheckTextError::Check(CheckError::Refused { line, fault }) => {
-            complain_of_line(writer, line, history_end(fault))
+            complain_of_line(writer, line, fault.name().as_bytes())
         }
         CheckTextError::Check(CheckError::Memory) => write_out(writer, b"lockrun: memory\n"),
         CheckTextError::TooLong => write_out(writer, b"lockrun: text too long\n"),

@@ -1,23 +1,16 @@
 //! What is a line of a trace? [`TraceLine::read`] reads one in the word form, given without its line end: the
 //! line of a step of histories without its index. Read next: `specs/Step.antt`, which defines what is read, and
 //! `object.rt` for the form of JSON.
-ghost use Rattle.std.specs.Prelude.{◌≡◌, ◌==◌, ◌^◌, ◌++◌, ◌∷◌, [], OnOk, IfOk, is_some, true};
+ghost use Rattle.std.specs.Prelude.{◌≡◌, ◌==◌, ◌++◌, ◌∷◌, [], OnOk, IfOk, is_some, true};
 ghost use Rattle.std.specs.Ordering.{nat_cmp};
 ghost use Rattle.std.specs.Cmp.Lexicographic.{slice_cmp};
 ghost use Rattle.std.specs.Option.{option_map};
-ghost use Rattle.lt_text.specs.Fields.{number_within};
-ghost use Rattle.lt_text.specs.Calls.{Gives};
-ghost use Rattle.lt_checker.specs.Lines.{tickets_of, lets_in_words};
-ghost use Rattle.lt_checker.specs.Lines.{key_if_legal};
-ghost use Rattle.lt_trace.specs.Step.{unnumbered_step_at, is_step_text, line_of_parts, trace_line_of};
+ghost use Rattle.lt_checker.specs.Lines.{key_if_legal, lets_in_words};
+ghost use Rattle.lt_trace.specs.Step.{is_step_text, line_of_parts, trace_line_of};
 
+use lt_checker::{HistoryLineError, read_lets, read_step};
 use lt_ids::{IdError, Key};
-use lt_rules::Reply;
-use lt_text::call::call;
-use lt_text::field::ticket;
-use lt_text::number::number;
 use lt_text::put::{put_number_word, put_word};
-use lt_text::reply::{is_reply_of, reply};
 use lt_text::words::{Words, cut};
 use std::alloc::{AllocError, Global};
 
@@ -29,68 +22,27 @@ pub(crate) struct TraceLine {
     ghost is_step: { is_step_text step.items ≡ true },
 }
 
-/// Whether the word is the number of a pass, from 1 to 1024.
-fn pass(word: &[u8]) -> Option<u64>
-    ensures { result ≡ number_within 1 1025 word.now }
-{
-    let n = number(word)?;
-    if n == 0 || n > 1024 {
-        return None;
-    }
-    Some(n)
-}
-
-/// Reads the pass, the call, the sign `=` and the reply.
-#[tactic(auto, unfolding(crate::specs::Step::unnumbered_step_at, lt_checker::specs::Lines::equals_of))]
-fn read_step(words: &mut Words) -> Option<Reply>
-    ensures { Gives result words.new (unnumbered_step_at words.old) }
-{
-    pass(words.next()?)?;
-    let call = call(words)?;
-    let equals = words.next()?;
-    if equals != b"=".as_slice() {
-        return None;
-    }
-    let reply = reply(words)?;
-    if !is_reply_of(call, reply) {
-        return None;
-    }
-    Some(reply)
-}
-
-/// Whether all remaining words are tickets.
-fn are_tickets(words: &mut Words) -> bool
-    ensures { result ≡ is_some (tickets_of words.old) }
-{
-    while let Some(word) = words.next() {
-        if ticket(word).is_none() {
-            return false;
-        }
-    }
-    true
-}
-
 /// Whether the remaining words are `let` and one ticket or more, or none.
-#[tactic(auto, unfolding(lt_checker::specs::Lines::lets_in_words))]
-fn are_lets(words: &mut Words) -> bool
-    ensures { result ≡ is_some (lets_in_words words.old) }
+fn are_lets(alloc: Global, words: &mut Words) -> Result<bool, AllocError>
+    ensures { IfOk result (λ are. are ≡ is_some (lets_in_words words.old)) }
 {
-    let Some(word) = words.next() else {
-        return true;
-    };
-    if word != b"let".as_slice() || words.peek().is_none() {
-        return false;
+    match read_lets(alloc, words) {
+        Ok(_) => Ok(true),
+        Err(HistoryLineError::Memory) => Err(AllocError),
+        Err(HistoryLineError::Fault(_)) => Ok(false),
     }
-    are_tickets(words)
 }
 
-/// Whether these bytes, which stand after a key and a space, spell a step.
+/// Whether these bytes, which stand after a key and a space, spell a step without an index.
 #[tactic(auto, unfolding(crate::specs::Step::are_step_words))]
-fn is_step(bytes: &[u8]) -> bool
-    ensures { result ≡ is_step_text bytes.now }
+fn is_step(alloc: Global, bytes: &[u8]) -> Result<bool, AllocError>
+    ensures { IfOk result (λ is. is ≡ is_step_text bytes.now) }
 {
     let mut words = Words::new(bytes);
-    read_step(&mut words).is_some() && are_lets(&mut words)
+    if read_step(&mut words, false).is_none() {
+        return Ok(false);
+    }
+    are_lets(alloc, &mut words)
 }
 
 /// The key with these bytes, or `None` if they are not those of a key.
@@ -115,7 +67,7 @@ impl TraceLine {
     ) -> Result<Option<TraceLine>, AllocError>
         ensures { IfOk result (λ o. option_map parts_of_line o ≡ line_of_parts word.now step.now) }
     {
-        if !is_step(step) {
+        if !is_step(alloc, step)? {
             return Ok(None);
         }
         let Some(key) = key(alloc, word)? else {

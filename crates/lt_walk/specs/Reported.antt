@@ -72,6 +72,12 @@ pub record GuardState : Type 0 where
 abbrev pub current_wait : WalkState → Wait
 current_wait s = record { number = s.asked.number; wait = s.progress.waits }
 
+-- It is the same pass of the same table, and what it has seen only grew.
+pub record IsSamePass (old new : PassState) : Type 0 where
+  pub of : new.of ≡ old.of
+  pub number : new.number ≡ old.number
+  pub seen : IsPrefix old.seen new.seen
+
 -- The look of the request at the key with this index in its list was made, was answered so, and is reported.
 abbrev pub ReportsLook : GuardState → GuardState → ℕ → Answer → Type 0
 ReportsLook old new index answer =

@@ -4,11 +4,12 @@
 //! Read next `src/scan_and_poll.rt` and `src/leaving.rt`, the calls that a guard makes, and `GuardState` in
 //! `specs/Reported.antt`, what contracts see of it.
 ghost use Rattle.std.specs.Prelude.{◌≡◌, Some, None, IfSome, IfNone, slice_get, slice_set};
+ghost use Rattle.std.specs.Fn.{FnOnceTakesAtMut, FnOnceReturnsAtMut};
 ghost use mathlib.Core.List.{IsPrefix};
 ghost use Rattle.lt_ids.specs.Ids.{IsNumber};
 ghost use Rattle.lt_words.specs.History.{IsLegalHistory};
-ghost use Rattle.lt_words.specs.Row.{SeesMore, NoneLeft};
-ghost use Rattle.lt_walk.specs.Reported.{SeesLet};
+ghost use Rattle.lt_words.specs.Row.{SeesMore, NoneLeft, PassState};
+ghost use Rattle.lt_walk.specs.Reported.{SeesLet, IsSamePass};
 
 use crate::walk::Walk;
 use crate::walk_progress::Mode;
@@ -104,6 +105,18 @@ impl Guard {
         ensures walk { self.new.walk ≡ self.old.walk }
     {
         self.pass.learn(front);
+    }
+
+    /// Lends the guard's pass to `call`, which may make steps through it and has to leave the same pass there. The request
+    /// stays as it is.
+    #[inline(always)]
+    pub fn with_pass<A, F: FnOnce(&mut Pass) -> A>(&mut self, call: F) -> A
+        requires callable { FnOnceTakesAtMut F.FnOnce call self.old.pass }
+        requires same { (a : A) (p : PassState) → FnOnceReturnsAtMut F.FnOnce call self.old.pass a p → IsSamePass self.old.pass p }
+        ensures called { FnOnceReturnsAtMut F.FnOnce call self.old.pass result self.new.pass }
+        ensures walk { self.new.walk ≡ self.old.walk }
+    {
+        call(&mut self.pass)
     }
 
     /// Takes out a let that a step of the guard's pass has made, and of which its caller was not told ([`Pass::next_untold`]).

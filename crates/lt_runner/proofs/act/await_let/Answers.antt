@@ -1,8 +1,9 @@
 use Rattle.std.proofs.Common.{refl}
 use Rattle.std.specs.Prelude.{is_some}
+use Rattle.lt_runner.specs.declared.answer.LineAnswer.TheVariants.{NoRequest}
 use Rattle.lt_runner.specs.Machine.{IsAwaited, let_read}
 use Rattle.lt_runner.proofs.Doings.{does_none}
 use Rattle.lt_runner.proofs.act.await_let.Goals as goal
 
 pub returns-in-Free : goal.returns-in-Free
-returns-in-Free g c = does_none (IsAwaited c.args.turns) is_some let_read c.args.session c.no_request.result.session c.no_request.result.answer c.in-Free.pass c.in-Free.is c.no_request.ensures.session c.no_request.ensures.answer (refl, refl, refl) refl refl
+returns-in-Free g c = does_none (IsAwaited c.args.turns) is_some let_read c.args.session.now c.args.session.now NoRequest c.in-Free.field-0 c.in-Free.is c.in-Free.is refl (refl, refl, refl) refl refl

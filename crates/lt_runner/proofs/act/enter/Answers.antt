@@ -8,7 +8,7 @@ use Rattle.lt_runner.proofs.act.enter.Goals as goal
 
 pub returns-in-Ok-clause-does : goal.returns-in-Ok-clause-does
 returns-in-Ok-clause-does g c =
-    let e : IsEntered c.args.pass c.args.accesses.now c.args.txn c.args.ts c.args.longest c.args.host.now.table.now.max_requests c.in-Ok.guard = c.in-Ok.ensures.entered in
+    let e : IsEntered c.args.pass c.args.opening.now.accesses.now c.args.opening.now.txn c.args.opening.now.ts c.args.opening.now.longest c.args.opening.now.host.now.table.now.max_requests c.in-Ok.guard = c.in-Ok.ensures.entered in
     record {
       word = 0;
       steps = [];
@@ -19,10 +19,10 @@ returns-in-Ok-clause-does g c =
           few = e.few;
           keys = c.in-Ok.guard.walk.asked.keys;
           list = e.keys;
-          state = ap (λ (w : WalkState). Some w) (is_entered c.in-Ok.guard.walk c.number-number.result c.args.txn c.args.ts c.args.longest c.number-number.ensures.number e.txn_is e.ts_is e.longest_is e.progress e.answers);
+          state = ap (λ (w : WalkState). Some w) (is_entered c.in-Ok.guard.walk c.number-number.result c.args.opening.now.txn c.args.opening.now.ts c.args.opening.now.longest c.number-number.ensures.number e.txn_is e.ts_is e.longest_is e.progress e.answers);
         },
       );
-      tells = subst (λ (n : ℕ). OutcomeTells c.args.pass c.in-Ok.guard.pass [] (n ∷ []) []) (sym c.number-number.ensures.number) (tells_entered c.args.pass c.args.accesses.now c.args.txn c.args.ts c.args.longest c.args.host.now.table.now.max_requests c.in-Ok.guard e);
+      tells = subst (λ (n : ℕ). OutcomeTells c.args.pass c.in-Ok.guard.pass [] (n ∷ []) []) (sym c.number-number.ensures.number) (tells_entered c.args.pass c.args.opening.now.accesses.now c.args.opening.now.txn c.args.opening.now.ts c.args.opening.now.longest c.args.opening.now.host.now.table.now.max_requests c.in-Ok.guard e);
       heard = tt;
     }
 

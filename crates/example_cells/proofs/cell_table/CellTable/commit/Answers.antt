@@ -16,8 +16,8 @@ pub invariant_of-result : goal.invariant_of-result
 invariant_of-result g c =
     let point = c.seen-point.ensures.seen in
     let seen = c.seen.ensures.seen in
-    let freed : AllZip (λ (l : HeldLock g.row.N.Denot g.N.Name) (t : LockTenure). IsFreed g.N.Name.of.shards c.seen.result.seen c.seen-point.result.seen l.key l.txn l.taken l.put t) c.args.txn.locks.items c.in_ok-tenures.tenures.items =
-    subst (λ s. AllZip (λ (l : HeldLock g.row.N.Denot g.N.Name) (t : LockTenure). IsFreed g.N.Name.of.shards s c.seen-point.result.seen l.key l.txn l.taken l.put t) c.args.txn.locks.items c.in_ok-tenures.tenures.items) (sym seen) c.in_ok-tenures.ensures.freed in
+    let freed : AllZip (λ (l : HeldLock g.row.N.Denot g.N.Name g.N.ValueName) (t : LockTenure). IsFreed g.N.Name.of.shards c.seen.result.seen c.seen-point.result.seen l.key l.txn l.taken l.put t) c.args.txn.locks.items c.in_ok-tenures.tenures.items =
+    subst (λ s. AllZip (λ (l : HeldLock g.row.N.Denot g.N.Name g.N.ValueName) (t : LockTenure). IsFreed g.N.Name.of.shards s c.seen-point.result.seen l.key l.txn l.taken l.put t) c.args.txn.locks.items c.in_ok-tenures.tenures.items) (sym seen) c.in_ok-tenures.ensures.freed in
     record {
       began = subst (IsPrefix c.args.txn.name.began.seen) (sym point) (followed c.args.txn.name.began.seen c.learn.new.self.seen c.learn-2.new.self.seen c.learn.ensures.that c.learn-2.ensures.more.seen);
       above = c.args.txn.name.above;
@@ -26,9 +26,9 @@ invariant_of-result g c =
       named = subst (IsPrefix c.args.txn.name.seen.seen) (sym point) c.learn-2.ensures.that;
       two_phase = record {
         within = subst (IsPrefix c.seen-point.result.seen) (sym seen) (subst (λ p. IsPrefix p c.free_all.new.pass.seen) (sym point) c.in_ok-tenures.ensures.more);
-        held = held_at_once (λ (l : HeldLock g.row.N.Denot g.N.Name). l.key) (λ (l : HeldLock g.row.N.Denot g.N.Name). l.txn) (λ (l : HeldLock g.row.N.Denot g.N.Name). l.taken) (λ (l : HeldLock g.row.N.Denot g.N.Name). l.put) g.N.Name.of.shards c.seen.result.seen c.seen-point.result.seen c.args.txn.name.id c.args.txn.locks.items c.in_ok-tenures.tenures.items c.args.txn.own freed;
+        held = held_at_once (λ (l : HeldLock g.row.N.Denot g.N.Name g.N.ValueName). l.key) (λ (l : HeldLock g.row.N.Denot g.N.Name g.N.ValueName). l.txn) (λ (l : HeldLock g.row.N.Denot g.N.Name g.N.ValueName). l.taken) (λ (l : HeldLock g.row.N.Denot g.N.Name g.N.ValueName). l.put) g.N.Name.of.shards c.seen.result.seen c.seen-point.result.seen c.args.txn.name.id c.args.txn.locks.items c.in_ok-tenures.tenures.items c.args.txn.own freed;
       };
     }
 
 pub returns-clause-freed : goal.returns-clause-freed
-returns-clause-freed g c = subst (λ s. AllZip (λ (l : HeldLock g.row.N.Denot g.N.Name) (t : LockTenure). IsFreed g.N.Name.of.shards s c.seen-point.result.seen l.key l.txn l.taken l.put t) c.args.txn.locks.items c.in_ok-tenures.tenures.items) (sym c.seen.ensures.seen) c.in_ok-tenures.ensures.freed
+returns-clause-freed g c = subst (λ s. AllZip (λ (l : HeldLock g.row.N.Denot g.N.Name g.N.ValueName) (t : LockTenure). IsFreed g.N.Name.of.shards s c.seen-point.result.seen l.key l.txn l.taken l.put t) c.args.txn.locks.items c.in_ok-tenures.tenures.items) (sym c.seen.ensures.seen) c.in_ok-tenures.ensures.freed

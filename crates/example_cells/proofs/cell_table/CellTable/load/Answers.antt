@@ -5,4 +5,4 @@ use Rattle.example_cells.proofs.cell_table.CellTable.load.Goals as goal
 
 pub change_value-requires-clause-keeps : goal.change_value-requires-clause-keeps
 change_value-requires-clause-keeps g c = λ es v a w fits told.
-    subst (λ (x : Cells). CellsKnow es x.map) told.leaves (told.met es (subst (λ (x : Cells). CellsKnow es x.map) (sym told.shows) fits))
+    subst (λ (x : Cells g.row.N.Denot g.N.Name g.N.ValueName). CellsKnow es x.map) told.leaves (told.met es (subst (λ (x : Cells g.row.N.Denot g.N.Name g.N.ValueName). CellsKnow es x.map) (sym told.shows) fits))

@@ -1,5 +1,5 @@
-use Rattle.std.proofs.Common.{◌≡◌}
+use Rattle.lt_walk.specs.Reported.{IsSamePass}
 use Rattle.example_store.proofs.store.Store.deadlocked.Given as goal
 
-abbrev pub invariant-loop-slot : goal.invariant-loop-slot
-invariant-loop-slot g l = l.guard.pass.of ≡ l.fn.guard.pass.of
+abbrev pub invariant-loop-shard : goal.invariant-loop-shard
+invariant-loop-shard g l = IsSamePass l.initial.pass l.pass

@@ -1,5 +1,5 @@
-use Rattle.std.proofs.Common.{◌≡◌}
+use Rattle.lt_walk.specs.Reported.{IsSamePass}
 use Rattle.example_store.proofs.store.Store.wait.Given as goal
 
 abbrev pub invariant-loop : goal.invariant-loop
-invariant-loop g l = l.guard.pass.of ≡ l.fn.guard.pass.of
+invariant-loop g l = IsSamePass l.initial.guard.pass l.guard.pass

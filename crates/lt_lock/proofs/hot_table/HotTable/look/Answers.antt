@@ -1,0 +1,16 @@
+use Rattle.std.proofs.Common.{◌∙◌, ap, sym}
+use Rattle.lt_rules.specs.Step.{look}
+use Rattle.lt_rules.specs.Table.{record_at}
+use Rattle.lt_lock.specs.Hot.{hot_record}
+use Rattle.lt_lock.proofs.HotKeys.{cold_by, hot_by, record_cold, record_hot}
+use Rattle.lt_lock.proofs.hot_table.HotTable.look.Goals as goal
+
+pub returns-then-not-is_hot : goal.returns-then-not-is_hot
+returns-then-not-is_hot c =
+    let cold = cold_by c.is_hot.result c.self.inside.hot c.args.key.now c.is_hot.ensures c.if-not-is_hot.true in
+    c.look.ensures ∙ ap (λ r. look r c.args.number) (sym (record_cold c.self.inside.hot c.self.inside.kept c.self.inside.rows c.args.key.now cold) ∙ ap (λ m. record_at m c.args.key.now) c.self.view_is)
+
+pub returns-in-Some : goal.returns-in-Some
+returns-in-Some c =
+    let hot = hot_by c.is_hot.result c.self.inside.hot c.args.key.now c.is_hot.ensures c.if-not-is_hot.false in
+    c.look-in-Some.ensures ∙ ap (λ r. look r c.args.number) (sym (ap hot_record c.in-Some.is) ∙ sym (record_hot c.self.inside.hot c.self.inside.kept c.self.inside.rows c.args.key.now hot) ∙ ap (λ m. record_at m c.args.key.now) c.self.view_is)
