@@ -27,6 +27,11 @@ pub(crate) type CellMap = HashMap<Key, Cell, KeyHashing, Global>;
 fn tell(cells: &mut CellMap, key: &Key, call: &Call, reply: &Reply, at: u64)
     ensures { ToldEach cells.old cells.new key.now call.now reply.now at }
 {
+    // No other call takes or frees a lock.
+    match call {
+        Call::Acquire { txn: _, ts: _ } | Call::Finish { txn: _ } => {}
+        _ => return,
+    }
     let Some(cell) = cells.get_mut(key) else {
         return;
     };

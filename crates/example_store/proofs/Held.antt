@@ -1,5 +1,5 @@
 -- The lock of a key among those that a transaction holds.
-use Rattle.std.proofs.Common.{◌≡◌, ◌<◌, ◌+◌, ℕ, true, List, [], ◌∷◌, ◌++◌, Some, None, length, zero, suc, refl, sym, subst, ◌∙◌}
+use Rattle.std.proofs.Common.{◌≡◌, ◌+◌, ℕ, List, [], ◌∷◌, Some, sym, subst}
 use Rattle.std.specs.Prelude.{IsSomeAnd, slice_get, position, Result, Ok, Err, IfOk, IsOkAnd}
 use Rattle.std.specs.Str.{bytes_eq}
 use Rattle.lt_words.specs.declared.event.Event.{Event}
@@ -19,11 +19,6 @@ held_key f key [] i is = absurd cc
 held_key f key (x ∷ xs) i is =
     let found = position-Some (λ l. bytes_eq (f l) key) (x ∷ xs) i x is in
     subst (λ o. IsSomeAnd o (λ l. f l ≡ key)) (sym (slice_get-get_or (x ∷ xs) i x found.0)) ((bytes_eq-Decides (f _) key).0 found.1)
-
--- The lock that was noted last is at the index of how many there were before.
-pub last_key : {A : Type 0} (f : A → List ℕ) (key : List ℕ) (xs : List A) (x : A) → f x ≡ key → IsSomeAnd (slice_get (xs ++ x ∷ []) (length xs)) (λ l. f l ≡ key)
-last_key f key [] x is = is
-last_key f key (y ∷ xs) x is = last_key f key xs x is
 
 -- A lock was noted, and what was read of its key is the value.
 pub took_lock : {L A B E F : Type 0} (f : A → B) (S T : L → Type 0) (R : L → A → Type 0) (l : L) (reading : Result A E) (v : Result B F) → S l → T l → IfOk reading (R l) → IfOk v (λ x. IsOkAnd reading (λ r. f r ≡ x)) →

@@ -1,5 +1,5 @@
 -- What a session knows of its pass, and what is left when all of them are closed.
-use Rattle.std.specs.Prelude.{ℕ, ◌≡◌, List, length, take}
+use Rattle.std.specs.Prelude.{◌≡◌, List, length, take}
 use Rattle.lt_words.specs.declared.event.Event.{Event}
 
 -- The second history begins with the first one.

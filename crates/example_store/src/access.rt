@@ -8,7 +8,8 @@ ghost use Rattle.lt_words.specs.History.{part, shard_of};
 ghost use Rattle.lt_walk.specs.Reported.{IsSamePass};
 ghost use Rattle.example_cells.specs.Knowing.{CellMap, CellsKnow, ReadsCell, cell_at, value_bytes};
 ghost use Rattle.example_cells.specs.declared.cell.CellReading.{CellReading};
-ghost use Rattle.example_store.specs.Locks.{IsLockedRead};
+ghost use Rattle.std.specs.Option.{option_map, option_and_then};
+ghost use Rattle.example_store.specs.Locks.{IsLockedRead, LocksStay, OthersStay, own_put};
 
 use crate::error::StoreError;
 use crate::session::StoreSession;
@@ -62,11 +63,24 @@ impl<N: Name + ValueName> StoreSession<N> {
     }
 }
 
+/// What was put at the key, if one of these locks is of the key, and anything was.
+fn put_at<'a, N: Name + ValueName>(locks: &'a [HeldLock<N>], key: &Key) -> Option<&'a Put>
+    ensures { option_map (λ p. p.now) result ≡ own_put (λ l. l.key) (λ l. l.put) key.now locks.now }
+{
+    match index_of(locks, key) {
+        Some(index) => locks[index].put.as_ref(),
+        None => None,
+    }
+}
+
 /// What the transaction has put at the key, if it has put anything.
-fn own_put<'a, N: Name + ValueName>(txn: &'a Option<ActiveTxn<N>>, key: &Key) -> Option<&'a Put> {
-    let txn = txn.as_ref()?;
-    let index = index_of(txn.locks.as_slice(), key)?;
-    txn.locks[index].put.as_ref()
+fn own_put<'a, N: Name + ValueName>(txn: &'a Option<ActiveTxn<N>>, key: &Key) -> Option<&'a Put>
+    ensures { option_map (λ p. p.now) result ≡ option_and_then (λ t. own_put (λ l. l.key) (λ l. l.put) key.now t.locks.items) txn.now }
+{
+    match txn {
+        Some(txn) => put_at(txn.locks.as_slice(), key),
+        None => None,
+    }
 }
 
 /// Puts at the key of the lock with this index.
@@ -92,6 +106,9 @@ impl<N: Name + ValueName> Store<N> {
     ) -> Result<Option<Vec<u8>>, StoreError>
         ensures txn { session.new.txn ≡ session.old.txn }
         ensures log { session.new.log ≡ session.old.log }
+        // What the transaction has put itself, it reads.
+        ensures own { IfOk result (λ v. IfSome (option_and_then (λ t. own_put (λ l. l.key) (λ l. l.put) key.now t.locks.items) session.old.txn)
+            (λ p. value_bytes v ≡ value_bytes p)) }
     {
         if let Some(put) = own_put(&session.txn, key) {
             return Ok(put_again(self.alloc, put)?);
@@ -129,6 +146,9 @@ impl<N: Name + ValueName> Store<N> {
         key: &Key,
     ) -> Result<Option<Vec<u8>>, StoreError>
         ensures log { session.new.log ≡ session.old.log }
+        // What the transaction has put itself, it reads.
+        ensures own { IfOk result (λ v. IfSome (option_and_then (λ t. own_put (λ l. l.key) (λ l. l.put) key.now t.locks.items) session.old.txn)
+            (λ p. value_bytes v ≡ value_bytes p)) }
         // If the transaction did not hold the lock, this call took it, and read what all steps of the key's shard up to the
         // acquire have left. The log of values has it, if the reading says so.
         ensures took { IfOk result (λ v. IsSomeAnd session.old.txn (λ t. position (λ l. bytes_eq l.key key.now) t.locks.items ≡ None) →
@@ -155,8 +175,10 @@ impl<N: Name + ValueName> Store<N> {
         value: Vec<u8>,
     ) -> Result<(), StoreError>
         ensures log { session.new.log ≡ session.old.log }
-        ensures put { OnOk result (IsSomeAnd session.new.txn (λ u. (i : ℕ) × IsSomeAnd (slice_get u.locks.items i)
-            (λ l. (l.key ≡ key.now) × (l.put ≡ Some (Some value))))) }
+        // What was put at other keys stays.
+        ensures put { OnOk result (IsSomeAnd session.old.txn (λ t. IsSomeAnd session.new.txn (λ u. (u.name ≡ t.name)
+            × (i : ℕ) × OthersStay t.locks.items u.locks.items i
+            × IsSomeAnd (slice_get u.locks.items i) (λ l. (l.key ≡ key.now) × (l.put ≡ Some (Some value)))))) }
     {
         self.write(rt, session, key, Some(value))
     }
@@ -169,8 +191,10 @@ impl<N: Name + ValueName> Store<N> {
         key: &Key,
     ) -> Result<(), StoreError>
         ensures log { session.new.log ≡ session.old.log }
-        ensures put { OnOk result (IsSomeAnd session.new.txn (λ u. (i : ℕ) × IsSomeAnd (slice_get u.locks.items i)
-            (λ l. (l.key ≡ key.now) × (l.put ≡ Some None)))) }
+        // What was put at other keys stays.
+        ensures put { OnOk result (IsSomeAnd session.old.txn (λ t. IsSomeAnd session.new.txn (λ u. (u.name ≡ t.name)
+            × (i : ℕ) × OthersStay t.locks.items u.locks.items i
+            × IsSomeAnd (slice_get u.locks.items i) (λ l. (l.key ≡ key.now) × (l.put ≡ Some None))))) }
     {
         self.write(rt, session, key, None)
     }
@@ -185,8 +209,10 @@ impl<N: Name + ValueName> Store<N> {
         put: Put,
     ) -> Result<(), StoreError>
         ensures log { session.new.log ≡ session.old.log }
-        ensures put { OnOk result (IsSomeAnd session.new.txn (λ u. (i : ℕ) × IsSomeAnd (slice_get u.locks.items i)
-            (λ l. (l.key ≡ key.now) × (l.put ≡ Some put)))) }
+        // What was put at other keys stays.
+        ensures put { OnOk result (IsSomeAnd session.old.txn (λ t. IsSomeAnd session.new.txn (λ u. (u.name ≡ t.name)
+            × (i : ℕ) × OthersStay t.locks.items u.locks.items i
+            × IsSomeAnd (slice_get u.locks.items i) (λ l. (l.key ≡ key.now) × (l.put ≡ Some put))))) }
     {
         let Some(txn) = &mut session.txn else {
             return Err(StoreError::NoTxn);
@@ -210,8 +236,9 @@ impl<N: Name + ValueName> Store<N> {
         requires of { pass.of ≡ N.of }
         ensures same { IsSamePass pass result.0 }
         ensures name { txn.new.name ≡ txn.old.name }
-        ensures put { OnOk result.1 ((i : ℕ) × IsSomeAnd (slice_get txn.new.locks.items i)
-            (λ l. (l.key ≡ key.now) × (l.put ≡ Some put))) }
+        ensures put { OnOk result.1 ((txn.new.name ≡ txn.old.name)
+            × (i : ℕ) × OthersStay txn.old.locks.items txn.new.locks.items i
+            × IsSomeAnd (slice_get txn.new.locks.items i) (λ l. (l.key ≡ key.now) × (l.put ≡ Some put))) }
     {
         let (pass, held) = self.hold_for(rt, pass, txn, key);
         match held {
@@ -235,6 +262,7 @@ impl<N: Name + ValueName> Store<N> {
         ensures same { IsSamePass pass result.0 }
         ensures name { txn.new.name ≡ txn.old.name }
         ensures key { IfOk result.1 (λ i. IsSomeAnd (slice_get txn.new.locks.items i) (λ l. l.key ≡ key.now)) }
+        ensures stay { OnOk result.1 (LocksStay txn.old.locks.items txn.new.locks.items) }
     {
         if let Some(index) = index_of(txn.locks.as_slice(), key) {
             return (pass, Ok(index));

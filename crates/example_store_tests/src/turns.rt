@@ -228,16 +228,31 @@ fn run<R: Wait + Clock>(rt: &R, alloc: Global, keeping: Keeping) -> Option<Turns
     play::<Brand, R>(rt, alloc, ready, values)
 }
 
+/// Each row answers what it must, and each session has committed two transactions.
+fn wanted() -> TurnsRun {
+    TurnsRun {
+        right: ROWS.len(),
+        first: 2,
+        second: 2,
+    }
+}
+
 #[test]
 fn each_session_finds_what_was_committed_and_its_own_puts(rt: HostRuntime) -> Result<(), Fail> {
     for keeping in [Keeping::Unrecorded, Keeping::Streamed] {
         let found = run(&rt, rt.alloc(), keeping).ok_or("the run")?;
-        let wanted = TurnsRun {
-            right: ROWS.len(),
-            first: 2,
-            second: 2,
-        };
-        assert_eq!(rt; found, wanted);
+        assert_eq!(rt; found, wanted());
+    }
+    Ok(())
+}
+
+/// Fault injection runs this test once for each of its allocations, and refuses that one.
+#[test]
+fn an_allocation_that_fails_changes_no_answer(rt: HostRuntime) -> Result<(), Fail> {
+    for keeping in [Keeping::Unrecorded, Keeping::Streamed] {
+        if let Some(found) = run(&rt, rt.alloc(), keeping) {
+            assert_eq!(rt; found, wanted());
+        }
     }
     Ok(())
 }

@@ -7,7 +7,7 @@
 //!   [`learning`] have the tests. [`closing`] tries to close a table without its last pass.
 //! - **Failed allocations.** The tests of [`refusals`] and [`rules`] pass under any single allocation failure.
 //!   [`refusing`] plays the script of the former. [`giving_up`] gives locks up where memory has ended.
-//!   [`counting`] makes the calls that take no memory.
+//!   [`counting`] makes the calls that take no memory. [`valuing`] has finishes refused that would have lent a value.
 //!
 //! Worked schedules are scripts of the tool (`lt_tool_tests`).
 #![tactic(auto)]
@@ -34,5 +34,7 @@ mod refusing;
 mod rules;
 #[cfg(test)]
 mod text;
+#[cfg(test)]
+mod valuing;
 #[cfg(test)]
 mod worked;

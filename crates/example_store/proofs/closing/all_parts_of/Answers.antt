@@ -1,4 +1,4 @@
-use Rattle.std.proofs.Common.{◌≡◌, rules, [], ◌∷◌}
+use Rattle.std.proofs.Common.{◌≡◌, rules}
 use Rattle.std.proofs.lemmas.List.{map-append}
 use Rattle.example_store.specs.Closing.{IsLogOf}
 use Rattle.example_store.proofs.Passes.{all_more, zip_more}

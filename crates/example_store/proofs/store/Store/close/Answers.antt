@@ -1,4 +1,4 @@
-use Rattle.std.proofs.Common.{◌≡◌, rules, map, refl, subst}
+use Rattle.std.proofs.Common.{rules, map, refl, subst}
 use Rattle.lt_walk.specs.Closed.{passes_of}
 use Rattle.example_store.specs.Closing.{PassNumbersDiffer}
 use Rattle.example_store.proofs.Passes.{closed_in_order}

@@ -1,5 +1,5 @@
-use Rattle.std.proofs.Common.{◌≡◌, rules}
-use Rattle.example_store.proofs.Held.{held_key, last_key}
+use Rattle.std.proofs.Common.{rules}
+use Rattle.example_store.proofs.Held.{held_key}
 use Rattle.example_store.proofs.store.Store.hold_for.Goals as goal
 
 pub returns-in-Some-clause-key : goal.returns-in-Some-clause-key

@@ -1,4 +1,4 @@
-use Rattle.std.proofs.Common.{◌≡◌, ◌+◌, [], ◌∷◌, ◌++◌, rules}
+use Rattle.std.proofs.Common.{◌≡◌, [], ◌∷◌, ◌++◌, rules}
 use Rattle.example_cells.specs.declared.cell.CellReading.{CellReading}
 use Rattle.example_cells.specs.declared.held.HeldLock.{HeldLock}
 use Rattle.example_store.specs.Locks.{IsLockedRead}
