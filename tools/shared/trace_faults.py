@@ -38,9 +38,13 @@ Trial = collections.namedtuple('Trial', 'words text ending')
 Ran = collections.namedtuple('Ran', 'status out picture err left')
 
 
+# How many bytes a key has at most.
+MOST_KEY_BYTES = 64
+
+
 def all_keys():
-    """The keys of all stored texts, with their texts' names before them."""
-    return {f'{name}/{key}': steps for name, text in stored_texts().items() for key, steps in keys_of(text).items()}
+    """The keys of all stored texts, with their texts' names before them, cut where a key would be too long."""
+    return {f'{name}/{key}'[:MOST_KEY_BYTES]: steps for name, text in stored_texts().items() for key, steps in keys_of(text).items()}
 
 
 def trials():

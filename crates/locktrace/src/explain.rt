@@ -5,7 +5,7 @@ use crate::failure::TraceFailure;
 use crate::follow::{follow_steps, write_text};
 use crate::gather::Gatherer;
 use crate::input::{is_regular, open_reader};
-use lt_checker::{Expected, Line};
+use lt_checker::{CheckError, Expected, Line};
 use lt_ids::Ticket;
 use lt_rules::KeyState;
 use lt_text::put::{put_number_word, put_reply, put_ticket, put_word};
@@ -252,7 +252,7 @@ fn put_second_reading<F: Files>(
     };
     match found {
         Ok(true) => out.extend_from_slice(&text),
-        Err(AuditError::Memory) => Err(AllocError),
+        Err(AuditError::Check(CheckError::Memory)) => Err(AllocError),
         _ => out.extend_from_slice(HAS_CHANGED),
     }
 }

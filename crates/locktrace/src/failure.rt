@@ -112,9 +112,8 @@ pub fn of_check(error: CheckError) -> TraceFailure {
 /// The failure of an audit.
 pub fn of_audit(error: AuditError) -> TraceFailure {
     match error {
-        AuditError::Refused { line, fault } => of_check(CheckError::Refused { line, fault }),
-        AuditError::Memory => TraceFailure::Memory,
-        AuditError::Read => TraceFailure::Read(FileFault::Other),
+        AuditError::Check(refusal) => of_check(refusal),
+        AuditError::Read | AuditError::NoSuchLine => TraceFailure::Read(FileFault::Other),
         AuditError::TooLong => TraceFailure::TooLong,
     }
 }

@@ -5,9 +5,7 @@ use crate::follow::StepTaker;
 use lt_checker::{Checker, Line, Report};
 use lt_ids::Key;
 use lt_rules::QueueLengths;
-use lt_trace_statistics::{
-    HotKey, LongestQueue, LongestWait, Statistics, StepCounts, StepFacts, TextSummary,
-};
+use lt_trace_statistics::{HotKey, LongestQueue, LongestWait, Statistics, StepCounts, TextSummary};
 use std::alloc::{AllocError, Global};
 
 /// Gives the steps of a text to the statistics.
@@ -20,15 +18,8 @@ pub struct Gatherer {
 impl StepTaker for Gatherer {
     fn take(&mut self, checker: &Checker, line: Line) -> Result<Vec<u8>, TraceFailure> {
         let QueueLengths { writers, readers } = checker.lengths();
-        let Line { key, step, tickets } = line;
-        let facts = StepFacts {
-            index: step.index,
-            call: step.call,
-            reply: step.reply,
-            tickets,
-            queue: (writers as u64).saturating_add(readers as u64),
-        };
-        self.statistics.take(&key, &facts)?;
+        let queue = (writers as u64).saturating_add(readers as u64);
+        self.statistics.take(&line, queue)?;
         Ok(Vec::new(self.alloc))
     }
 }

@@ -15,7 +15,7 @@ use Rattle.lt_checker.specs.Pieces.{IsCountable, HasTaken, HasBegun, LacksHeader
 use Rattle.lt_checker.specs.Verdict.{Judges}
 use Rattle.lt_checker.specs.Version.{header_of}
 use Rattle.lt_checker.proofs.Verdicts.{is_said, legal_is_said, fault_is_said}
-use Rattle.lt_trace_check.specs.Audit.{EndsLine, StopsAtLineEnd, IsAfterLine, IsLineRead, IsBeginning, IsReading, RefusesPending, EndsWith, EndsAs, IsNoVerdict, EndsReading, EndsReadingAs, IsAudited, IsAuditedAs, stopped, IsSplit, IsExplained, IsFirstLine, SaysOfLine}
+use Rattle.lt_trace_check.specs.Audit.{EndsLine, StopsAtLineEnd, IsAfterLine, IsLineRead, IsBeginning, IsReading, RefusesPending, EndsWith, EndsAs, IsNoVerdict, EndsReading, EndsReadingAs, IsAudited, IsAuditedAs, IsSplit, IsExplained, IsFirstLine, SaysOfLine}
 use Rattle.lt_trace_check.specs.declared.explained.Explained.{Explained}
 use Rattle.lt_trace_check.specs.declared.error.AuditError.{AuditError}
 use Rattle.lt_trace_check.specs.declared.error.AuditError.TheVariants as errors
@@ -161,9 +161,10 @@ reads_line source mid now c old new n h r = record {
 
 pub refused_pending : (source now : Option (List ℕ)) (c : Checker) (pending : List ℕ) (e : AuditError) → IsReading source now c pending → RefusesPending c pending e → IsAuditedAs source e
 refused_pending source now c pending errors.Read h r = tt
-refused_pending source now c pending errors.Memory h r = tt
+refused_pending source now c pending errors.NoSuchLine h r = tt
 refused_pending source now c pending errors.TooLong h r = tt
-refused_pending source now c pending (errors.Refused line fault) h r = by_source source now h.taken
+refused_pending source now c pending (errors.Check checks.Memory) h r = tt
+refused_pending source now c pending (errors.Check (checks.Refused line fault)) h r = by_source source now h.taken
   where
     verdict : Result Report CheckError
     verdict = Err (checks.Refused line fault)
@@ -179,11 +180,11 @@ refused_pending source now c pending (errors.Refused line fault) h r = by_source
     by_source (Some xs) None k = absurd k
     by_source (Some xs) (Some ys) k = judged (Some xs) (h.before ++ (pending ++ ys)) verdict (sym (append_assoc h.before pending ys) ∙ sym k) (judges ys)
 
-pub refused_by_check : (c : Checker) (pending : List ℕ) (e : CheckError) → RefusesFrom c pending e → RefusesPending c pending (stopped e)
+pub refused_by_check : (c : Checker) (pending : List ℕ) (e : CheckError) → RefusesFrom c pending e → RefusesPending c pending (errors.Check e)
 refused_by_check c pending checks.Memory r = tt
 refused_by_check c pending (checks.Refused line fault) r = r
 
-pub ends_by_check : (c : Checker) (pending : List ℕ) (e : CheckError) → EndsWith c pending (Err e) → EndsAs c pending (stopped e)
+pub ends_by_check : (c : Checker) (pending : List ℕ) (e : CheckError) → EndsWith c pending (Err e) → EndsAs c pending (errors.Check e)
 ends_by_check c pending checks.Memory h = tt
 ends_by_check c pending (checks.Refused line fault) h = h
 
@@ -203,9 +204,10 @@ ended source mid now c old new n verdict h r z e =
 
 ended_as : (source mid now : Option (List ℕ)) (c : Checker) (old new : List ℕ) (n : ℕ) (e : AuditError) → IsReading source mid c old → IsLineRead mid now old new n → n ≡ 0 → EndsAs c new e → IsAuditedAs source e
 ended_as source mid now c old new n errors.Read h r z k = tt
-ended_as source mid now c old new n errors.Memory h r z k = tt
+ended_as source mid now c old new n errors.NoSuchLine h r z k = tt
 ended_as source mid now c old new n errors.TooLong h r z k = tt
-ended_as source mid now c old new n (errors.Refused line fault) h r z k = ended source mid now c old new n (Err (checks.Refused line fault)) h r z k
+ended_as source mid now c old new n (errors.Check checks.Memory) h r z k = tt
+ended_as source mid now c old new n (errors.Check (checks.Refused line fault)) h r z k = ended source mid now c old new n (Err (checks.Refused line fault)) h r z k
 
 pub accepted : (source mid now : Option (List ℕ)) (c : Checker) (old new shown : List ℕ) (n : ℕ) (r : Result Report AuditError) → IsReading source mid c old → IsLineRead mid now old new n → n ≡ 0 → shown ≡ new → IfOk r (λ report. EndsWith c shown (Ok report))
     → IfOk r (λ report. IsAudited source (Ok report))
@@ -226,9 +228,10 @@ keeps_known (Some xs) (Some ys) (Some zs) bytes k h = sym k ∙ h
 
 pub no_verdict : (source : Option (List ℕ)) (e : AuditError) → IsNoVerdict e → IsAuditedAs source e
 no_verdict source errors.Read h = tt
-no_verdict source errors.Memory h = tt
+no_verdict source errors.NoSuchLine h = tt
 no_verdict source errors.TooLong h = tt
-no_verdict source (errors.Refused line fault) h = absurd h
+no_verdict source (errors.Check checks.Memory) h = tt
+no_verdict source (errors.Check (checks.Refused line fault)) h = absurd h
 
 pub rest_accepted : (first mid now : Option (List ℕ)) (old c : Checker) (start pending new shown : List ℕ) (n : ℕ) (r : Result Report AuditError)
     → ((source : Option (List ℕ)) → IsReading source first old start → IsReading source mid c pending) → IsLineRead mid now pending new n → n ≡ 0 → shown ≡ new

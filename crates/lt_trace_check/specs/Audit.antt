@@ -49,14 +49,13 @@ pub record IsReading (source now : Option (List ℕ)) (c : Checker) (pending : L
 
 -- ---- the verdict
 
--- The error of a stream whose check was refused in this way.
-abbrev pub stopped : CheckError → AuditError
-stopped (checks.Refused line fault) = errors.Refused line fault
-stopped checks.Memory = errors.Memory
+-- Memory ran out.
+abbrev pub out_of_memory : AuditError
+out_of_memory = errors.Check checks.Memory
 
 -- A text that goes on with the pending bytes is refused in this way.
 abbrev pub RefusesPending : Checker → List ℕ → AuditError → Type 0
-RefusesPending c pending (errors.Refused line fault) = RefusesFrom c pending (checks.Refused line fault)
+RefusesPending c pending (errors.Check (checks.Refused line fault)) = RefusesFrom c pending (checks.Refused line fault)
 RefusesPending c pending _ = Unit {0}
 
 -- This is the verdict on each text that ends with the pending bytes.
@@ -67,7 +66,7 @@ pub record EndsWith (c : Checker) (pending : List ℕ) (verdict : Result Report 
 
 -- The same for a text that is refused with this error.
 abbrev pub EndsAs : Checker → List ℕ → AuditError → Type 0
-EndsAs c pending (errors.Refused line fault) = EndsWith c pending (Err (checks.Refused line fault))
+EndsAs c pending (errors.Check (checks.Refused line fault)) = EndsWith c pending (Err (checks.Refused line fault))
 EndsAs c pending _ = Unit {0}
 
 -- The verdict is right for the text, and no other verdict is.
@@ -85,14 +84,14 @@ pub record IsAudited (source : Option (List ℕ)) (verdict : Result Report Check
 
 -- A refused stream gives a text that is refused so. Any other error says nothing of the text.
 abbrev pub IsAuditedAs : Option (List ℕ) → AuditError → Type 0
-IsAuditedAs source (errors.Refused line fault) = IsAudited source (Err (checks.Refused line fault))
+IsAuditedAs source (errors.Check (checks.Refused line fault)) = IsAudited source (Err (checks.Refused line fault))
 IsAuditedAs source _ = Unit {0}
 
 -- ---- the rest of a text
 
 -- The error says nothing of the text.
 abbrev pub IsNoVerdict : AuditError → Type 0
-IsNoVerdict (errors.Refused line fault) = ⊥
+IsNoVerdict (errors.Check (checks.Refused line fault)) = ⊥
 IsNoVerdict _ = Unit {0}
 
 -- If the checker and the pending bytes are what came first, then this is the verdict on the text that the reader ends.

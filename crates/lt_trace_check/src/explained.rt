@@ -5,7 +5,7 @@
 //! `reason.rt`, `shape.rt` for the words of a line, and `rule.rt`, which names the row of docs/RULES.md that applies.
 ghost use Rattle.std.specs.Prelude.{◌≡◌, IfOk, IfErr, IfSome, IfNone};
 ghost use Rattle.lt_checker.specs.Pieces.{TakesLines};
-ghost use Rattle.lt_trace_check.specs.Audit.{IsReading, IsAuditedAs, IsExplained, IsFirstLine, IsSplit, RefusesPending, SaysOfLine, IsNoVerdict};
+ghost use Rattle.lt_trace_check.specs.Audit.{IsReading, IsAuditedAs, IsExplained, IsFirstLine, IsSplit, RefusesPending, SaysOfLine, IsNoVerdict, out_of_memory};
 
 use crate::error::AuditError;
 use crate::reason::{LineReason, asked, reason_for};
@@ -112,7 +112,7 @@ fn explain_line(
     before: Vec<Vec<u8>>,
 ) -> Result<Explained, AuditError>
     ensures ok { IfOk result (SaysOfLine checker line.now is_ended) }
-    ensures err { IfErr result (λ e. e ≡ AuditError.Memory) }
+    ensures err { IfErr result (λ e. e ≡ out_of_memory) }
 {
     let asked = asked(alloc, line)?;
     let version = checker.report().version;
@@ -129,9 +129,8 @@ fn explain_line(
 }
 
 /// Reads the text up to the line with this number, counted from 1, and says what is to be said of it. The lines before
-/// it are checked: if one of them has a fault, the call answers `Refused` as a check does. `Read` also means that there
-/// is no such line of a step: the number is below 2, or the text has fewer lines. What each reason says stands at
-/// [`LineReason`].
+/// it are checked: if one of them has a fault, the call answers it as a check does. `NoSuchLine` means that the number
+/// is below 2, or that the text has fewer lines. What each reason says stands at [`LineReason`].
 pub fn explain<R: BufRead>(
     alloc: Global,
     reader: &mut R,
@@ -141,7 +140,7 @@ pub fn explain<R: BufRead>(
     ensures err { IfErr result (IsAuditedAs (R.remaining reader.old)) }
 {
     if number < 2 {
-        return Err(AuditError::Read);
+        return Err(AuditError::NoSuchLine);
     }
     let (mut checker, mut pending) = match begin(alloc, reader) {
         Ok(begun) => begun,
@@ -150,18 +149,18 @@ pub fn explain<R: BufRead>(
     let mut recent = Vec::new(alloc);
     for _ in 2..number {
         if read_line(reader, &mut pending)? == 0 {
-            return Err(AuditError::Read);
+            return Err(AuditError::NoSuchLine);
         }
         if let Err(error) = check_line(alloc, &mut checker, &mut pending, &mut recent) {
             return Err(error);
         }
     }
     if read_line(reader, &mut pending)? == 0 {
-        return Err(AuditError::Read);
+        return Err(AuditError::NoSuchLine);
     }
     // The checker has counted the lines too.
     if checker.report().steps != number - 2 {
-        return Err(AuditError::Read);
+        return Err(AuditError::NoSuchLine);
     }
     let split = without_end(&pending);
     explain_line(alloc, checker, split.0, split.1, recent)

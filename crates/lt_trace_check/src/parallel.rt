@@ -16,7 +16,7 @@ use crate::error::AuditError;
 use crate::progress::CheckProgress;
 use crate::stream::{HEADER, check_rest, check_stream_with};
 use crate::text_at::{TextAt, TextReader};
-use lt_checker::{Checker, Report};
+use lt_checker::{CheckError, Checker, Report};
 use std::alloc::{AllocError, Global};
 use std::io::{BufReader, Read};
 use std::thread::{Threads, map_indices};
@@ -263,7 +263,7 @@ fn check_in_turn<T: TextAt, P: CheckProgress>(
 {
     match BufReader::with_capacity(alloc, CHUNK, TextReader { text, at: 0 }) {
         Ok(mut reader) => check_stream_with(alloc, &mut reader, progress),
-        Err(_) => Err(AuditError::Memory),
+        Err(_) => Err(AuditError::Check(CheckError::Memory)),
     }
 }
 

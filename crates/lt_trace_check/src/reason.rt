@@ -3,11 +3,11 @@
 ghost use Rattle.std.specs.Prelude.{◌≡◌, ◌<◌, ◌^◌, suc, IfOk, IfErr, IfSome, IfNone};
 ghost use Rattle.lt_checker.specs.Cursor.{spot};
 ghost use Rattle.lt_checker.specs.Text.{index_after};
-ghost use Rattle.lt_trace_check.specs.Audit.{IsNoLine};
+ghost use Rattle.lt_trace_check.specs.Audit.{IsNoLine, out_of_memory};
 ghost use Rattle.lt_trace_check.specs.Reasons.{IsReasonFor, IsKeyReason, reason_of, IsLineOf};
 
 use crate::error::AuditError;
-use lt_checker::{Checker, Expected, Fault, HistoryLineError, Line};
+use lt_checker::{CheckError, Checker, Expected, Fault, HistoryLineError, Line};
 use lt_ids::Key;
 use lt_rules::KeyState;
 use std::alloc::{AllocError, Global};
@@ -76,14 +76,14 @@ fn reason(
     bytes: &[u8],
 ) -> Result<LineReason, AuditError>
     ensures ok { IfOk result (IsKeyReason checker key.now bytes.now) }
-    ensures err { IfErr result (λ e. e ≡ AuditError.Memory) }
+    ensures err { IfErr result (λ e. e ≡ out_of_memory) }
 {
     let latest = latest_key(alloc, &checker)?;
     let due = due_index(&checker, key);
     let state = checker.state_before(alloc, key)?;
     match checker.expected(alloc, bytes) {
         Ok(expected) => Ok(LineReason::Rules(state, expected)),
-        Err(HistoryLineError::Memory) => Err(AuditError::Memory),
+        Err(HistoryLineError::Memory) => Err(AuditError::Check(CheckError::Memory)),
         Err(HistoryLineError::Fault(fault)) => Ok(reason_of(fault, latest, due)),
     }
 }
@@ -92,11 +92,11 @@ fn reason(
 pub(crate) fn asked(alloc: Global, bytes: &[u8]) -> Result<Option<Line>, AuditError>
     ensures ok { IfOk result (λ x. IfSome x (IsLineOf bytes.now)) }
     ensures none { IfOk result (λ x. IfNone x (IsNoLine bytes.now)) }
-    ensures err { IfErr result (λ e. e ≡ AuditError.Memory) }
+    ensures err { IfErr result (λ e. e ≡ out_of_memory) }
 {
     match lt_checker::read_line(alloc, bytes) {
         Ok(line) => Ok(Some(line)),
-        Err(HistoryLineError::Memory) => Err(AuditError::Memory),
+        Err(HistoryLineError::Memory) => Err(AuditError::Check(CheckError::Memory)),
         Err(HistoryLineError::Fault(_)) => Ok(None),
     }
 }
@@ -111,7 +111,7 @@ pub(crate) fn reason_for(
 ) -> Result<LineReason, AuditError>
     requires { IfNone asked.now (IsNoLine bytes.now) }
     ensures ok { IfOk result (IsReasonFor checker asked.now bytes.now) }
-    ensures err { IfErr result (λ e. e ≡ AuditError.Memory) }
+    ensures err { IfErr result (λ e. e ≡ out_of_memory) }
 {
     match asked {
         Some(line) => reason(alloc, checker, &line.key, bytes),

@@ -5,12 +5,12 @@
 //! `specs/Audit.antt`, `chunks.rt`, and `lt_checker/src/pieces.rt` for the checker.
 ghost use Rattle.std.specs.Prelude.{◌≡◌, ◌+◌, ◌≤◌, length, OnOk, IfOk, IfErr, Ok, Err};
 ghost use Rattle.lt_checker.specs.Pieces.{TakesLines, HasBegun, LacksHeader};
-ghost use Rattle.lt_trace_check.specs.Audit.{IsLineRead, StopsAtLineEnd, IsBeginning, IsReading, RefusesPending, EndsWith, EndsAs, EndsReading, EndsReadingAs, IsAudited, IsAuditedAs, IsNoVerdict, stopped};
+ghost use Rattle.lt_trace_check.specs.Audit.{IsLineRead, StopsAtLineEnd, IsBeginning, IsReading, RefusesPending, EndsWith, EndsAs, EndsReading, EndsReadingAs, IsAudited, IsAuditedAs, IsNoVerdict};
 
 use crate::chunks::{chunk_buffer, read_chunk, take_after};
-use crate::error::{AuditError, stopped};
+use crate::error::AuditError;
 use crate::progress::CheckProgress;
-use lt_checker::{Checker, Fault, Report};
+use lt_checker::{CheckError, Checker, Fault, Report};
 use std::alloc::Global;
 use std::io::{BufRead, ErrorKind, Read};
 
@@ -30,7 +30,7 @@ pub(crate) fn read_line<R: BufRead>(
 {
     match reader.read_until(b'\n', pending) {
         Ok(n) => Ok(n),
-        Err(e) if e.kind() == ErrorKind::OutOfMemory => Err(AuditError::Memory),
+        Err(e) if e.kind() == ErrorKind::OutOfMemory => Err(AuditError::Check(CheckError::Memory)),
         Err(_) => Err(AuditError::Read),
     }
 }
@@ -60,7 +60,7 @@ pub(crate) fn take_pending(
 {
     let rest = match checker.take_lines(alloc, pending) {
         Ok(rest) => rest,
-        Err(refusal) => return Err(stopped(refusal)),
+        Err(refusal) => return Err(AuditError::Check(refusal)),
     };
     let kept = Vec::from_slice(alloc, rest)?;
     *pending = kept;
@@ -74,7 +74,7 @@ fn end(alloc: Global, checker: Checker, pending: &[u8]) -> Result<Report, AuditE
 {
     match checker.end(alloc, pending) {
         Ok(report) => Ok(report),
-        Err(refusal) => Err(stopped(refusal)),
+        Err(refusal) => Err(AuditError::Check(refusal)),
     }
 }
 
@@ -89,10 +89,10 @@ pub(crate) fn begin<R: BufRead>(
 {
     let beginning = read_beginning(alloc, reader)?;
     let Some((checker, lines)) = Checker::begin(&beginning) else {
-        return Err(AuditError::Refused {
+        return Err(AuditError::Check(CheckError::Refused {
             line: 1,
             fault: Fault::Header,
-        });
+        }));
     };
     let pending = Vec::from_slice(alloc, lines)?;
     Ok((checker, pending))

@@ -1,6 +1,6 @@
 //! How is a shape written in SVG? Each function appends one element, or the start of one. Numbers are pixels.
 use lt_text::put::put_number;
-use std::alloc::AllocError;
+use std::alloc::{AllocError, Global};
 
 /// A rectangle.
 #[derive(Clone, Copy)]
@@ -49,6 +49,38 @@ pub(crate) fn put_rect(out: &mut Vec<u8>, class: &[u8], area: Area) -> Result<()
     put(out, b"\"/>\n")
 }
 
+/// Rectangles below one another that differ in their classes and tops alone: what they have up to the top, and after it.
+#[derive(Drop)]
+pub(crate) struct RectColumn {
+    start: Vec<u8>,
+    end: Vec<u8>,
+}
+
+impl RectColumn {
+    pub(crate) fn new(
+        alloc: Global,
+        x: u64,
+        width: u64,
+        height: u64,
+    ) -> Result<RectColumn, AllocError> {
+        let mut start = Vec::new(alloc);
+        put_with_number(&mut start, b"\" x=\"", x)?;
+        put(&mut start, b"\" y=\"")?;
+        let mut end = Vec::new(alloc);
+        put_with_number(&mut end, b"\" width=\"", width)?;
+        put_with_number(&mut end, b"\" height=\"", height)?;
+        put(&mut end, b"\"/>\n")?;
+        Ok(RectColumn { start, end })
+    }
+
+    /// Appends the rectangle with this class and this top.
+    pub(crate) fn put(&self, out: &mut Vec<u8>, class: &[u8], y: u64) -> Result<(), AllocError> {
+        start_element(out, b"<rect class=\"", class)?;
+        put_with_number(out, &self.start, y)?;
+        put(out, &self.end)
+    }
+}
+
 /// Appends the start of a rectangle that has a title. The caller appends the title and calls [`end_titled_rect`].
 pub(crate) fn start_titled_rect(
     out: &mut Vec<u8>,
@@ -62,6 +94,21 @@ pub(crate) fn start_titled_rect(
 
 pub(crate) fn end_titled_rect(out: &mut Vec<u8>) -> Result<(), AllocError> {
     put(out, b"</title></rect>\n")
+}
+
+/// The start of the texts of a column, up to their y: they have this class and this x.
+pub(crate) fn column_start(alloc: Global, class: &[u8], x: u64) -> Result<Vec<u8>, AllocError> {
+    let mut start = Vec::new(alloc);
+    start_element(&mut start, b"<text class=\"", class)?;
+    put_with_number(&mut start, b"\" x=\"", x)?;
+    put(&mut start, b"\" y=\"")?;
+    Ok(start)
+}
+
+/// Appends the start of a text of a column. The caller appends the text itself and calls [`end_text`].
+pub(crate) fn start_in_column(out: &mut Vec<u8>, column: &[u8], y: u64) -> Result<(), AllocError> {
+    put_with_number(out, column, y)?;
+    put(out, b"\">")
 }
 
 /// Appends the start of a text. The caller appends the text itself and calls [`end_text`].
@@ -109,20 +156,11 @@ pub(crate) fn put_vertical(
     put(out, b"\"/>\n")
 }
 
-/// Appends a white zigzag of six pieces of so many pixels down from this point, the torn end of a bar.
-pub(crate) fn put_torn_end(
-    out: &mut Vec<u8>,
-    x: u64,
-    y: u64,
-    piece: u64,
-) -> Result<(), AllocError> {
+/// Appends a white zigzag down from this point, the torn end of a bar. Its six pieces are as high as a bar is.
+pub(crate) fn put_torn_end(out: &mut Vec<u8>, x: u64, y: u64) -> Result<(), AllocError> {
     put_with_number(out, b"<path class=\"torn\" d=\"M", x)?;
     put_with_number(out, b" ", y)?;
-    for _ in 0..3 {
-        put_with_number(out, b"l5 ", piece)?;
-        put_with_number(out, b"l-5 ", piece)?;
-    }
-    put(out, b"\"/>\n")
+    put(out, b"l5 3l-5 3l5 3l-5 3l5 3l-5 3\"/>\n")
 }
 
 /// Appends a circle with a letter in it.

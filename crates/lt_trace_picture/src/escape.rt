@@ -1,7 +1,7 @@
 //! How are arbitrary bytes written so that a terminal or a browser only shows them? [`put_printable`] writes a byte that
 //! is not printable ASCII as `\xHH`. [`put_escaped`] also replaces the characters that have a meaning in SVG and HTML
 //! (`&`, `<`, `>`, `"`) by their names. `specs/Escape.antt` defines both.
-ghost use Rattle.std.specs.Prelude.{◌≡◌, ◌++◌, OnOk, All};
+ghost use Rattle.std.specs.Prelude.{◌≡◌, ◌++◌, OnOk, All, IsTrue};
 ghost use Rattle.std.specs.List.{flat_map};
 ghost use Rattle.lt_trace_picture.specs.Escape.{is_printable, hex_digit, printable_byte, escaped_byte, IsPrintable, IsMarkupFree};
 
@@ -41,16 +41,38 @@ fn put_printable_byte(out: &mut Vec<u8>, b: u8) -> Result<(), AllocError>
     Ok(())
 }
 
+/// Whether all bytes are printable ASCII, so that they are written as they are.
+fn are_printable(bytes: &[u8]) -> bool
+    ensures { IsTrue result → flat_map printable_byte bytes.now ≡ bytes.now }
+{
+    for &b in bytes {
+        if !is_printable(b) {
+            return false;
+        }
+    }
+    true
+}
+
+/// Appends the bytes, one after the other.
+fn put_each_printable(out: &mut Vec<u8>, bytes: &[u8]) -> Result<(), AllocError>
+    ensures { OnOk result (out.new.items ≡ out.old.items ++ flat_map printable_byte bytes.now) }
+{
+    for &b in bytes {
+        put_printable_byte(out, b)?;
+    }
+    Ok(())
+}
+
 /// Appends the bytes. A byte that is not printable ASCII becomes `\xHH`, with two uppercase hexadecimal digits.
 #[tactic(auto, using(crate::proofs::Printed::all_printable))]
 pub fn put_printable(out: &mut Vec<u8>, bytes: &[u8]) -> Result<(), AllocError>
     ensures text { OnOk result (out.new.items ≡ out.old.items ++ flat_map printable_byte bytes.now) }
     ensures printable { All IsPrintable (flat_map printable_byte bytes.now) }
 {
-    for &b in bytes {
-        put_printable_byte(out, b)?;
+    if are_printable(bytes) {
+        return out.extend_from_slice(bytes);
     }
-    Ok(())
+    put_each_printable(out, bytes)
 }
 
 /// Appends the byte by its name in SVG and HTML, if it has a meaning there, and otherwise as [`put_printable`] does.

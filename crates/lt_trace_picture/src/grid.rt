@@ -154,9 +154,18 @@ impl Grid {
         LANES_BETWEEN < self.lanes
     }
 
-    /// Whether the numbers of the steps stand above the lane with this index.
-    pub(crate) fn has_numbers(self, lane: u64) -> bool {
-        self.is_tall() && lane % LANES_BETWEEN == 0
+    /// How many rows of the steps' numbers stand above lanes.
+    pub(crate) fn number_rows(self) -> u64 {
+        if self.is_tall() {
+            (self.lanes.saturating_sub(1) / LANES_BETWEEN).saturating_add(1)
+        } else {
+            0
+        }
+    }
+
+    /// The index of the lane below this row of the steps' numbers, from 0.
+    pub(crate) fn numbered_lane(self, row: u64) -> u64 {
+        LANES_BETWEEN.saturating_mul(row)
     }
 
     /// The height of the legend and the numbers above the lane with this index.

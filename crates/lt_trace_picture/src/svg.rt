@@ -4,8 +4,8 @@
 ghost use Rattle.std.specs.Prelude.{◌≡◌, ◌<◌, ◌↔◌, Err, length};
 
 use crate::drawing::{
-    Area, end_text, end_titled_rect, put, put_marker, put_rect, put_torn_end, put_vertical,
-    put_with_number, start_text, start_titled_rect,
+    Area, RectColumn, column_start, end_text, end_titled_rect, put, put_marker, put_rect,
+    put_torn_end, put_vertical, put_with_number, start_in_column, start_text, start_titled_rect,
 };
 use crate::drawn::{DrawnStep, ShownRange};
 use crate::error::PictureError;
@@ -138,15 +138,15 @@ fn put_head(out: &mut Vec<u8>, key: &Key, range: &ShownRange) -> Result<(), Allo
     end_text(out)
 }
 
-/// Appends the background of a lane.
-fn put_lane(out: &mut Vec<u8>, grid: Grid, index: u64) -> Result<(), AllocError> {
-    let area = Area {
-        x: grid.left(),
-        y: grid.top(index),
-        width: grid.right().saturating_sub(grid.left()),
-        height: grid.lane(),
-    };
-    put_rect(out, if index % 2 == 0 { b"even" } else { b"odd" }, area)
+/// Appends the backgrounds of the lanes.
+fn put_lanes(out: &mut Vec<u8>, grid: Grid, lanes: u64) -> Result<(), AllocError> {
+    let width = grid.right().saturating_sub(grid.left());
+    let rects = RectColumn::new(*out.allocator(), grid.left(), width, grid.lane())?;
+    for index in 0..lanes {
+        let class: &[u8] = if index % 2 == 0 { b"even" } else { b"odd" };
+        rects.put(out, class, grid.top(index))?;
+    }
+    Ok(())
 }
 
 /// Appends whose a request is: its pass, and its transaction if it has one.
@@ -160,23 +160,30 @@ fn put_owner(out: &mut Vec<u8>, claim: Claim) -> Result<(), AllocError> {
     Ok(())
 }
 
-/// Appends the name of a lane, and below it whose its request is. They end at this x.
+/// The starts of the texts at the start of a block: the names of the lanes, and below them whose their requests are.
+#[derive(Drop)]
+struct NameColumns {
+    names: Vec<u8>,
+    owners: Vec<u8>,
+}
+
+/// Appends the name of a lane, and below it whose its request is.
 fn put_lane_name(
     out: &mut Vec<u8>,
-    x: u64,
+    columns: &NameColumns,
     middle: u64,
     lane: Lane,
     owner: Option<Claim>,
 ) -> Result<(), AllocError> {
     let Some(claim) = owner else {
-        start_text(out, b"name", x, middle.saturating_add(4))?;
+        start_in_column(out, &columns.names, middle.saturating_add(4))?;
         put_name(out, lane)?;
         return end_text(out);
     };
-    start_text(out, b"name", x, middle.saturating_sub(2))?;
+    start_in_column(out, &columns.names, middle.saturating_sub(2))?;
     put_name(out, lane)?;
     end_text(out)?;
-    start_text(out, b"owner", x, middle.saturating_add(11))?;
+    start_in_column(out, &columns.owners, middle.saturating_add(11))?;
     put_owner(out, claim)?;
     end_text(out)
 }
@@ -199,14 +206,20 @@ fn put_names(
         };
         put_rect(out, b"between", area)?;
     }
+    // The texts end here.
     let x = grid
         .block(block)
         .saturating_add(grid.left())
         .saturating_sub(10);
+    let alloc = *out.allocator();
+    let columns = NameColumns {
+        names: column_start(alloc, b"name", x)?,
+        owners: column_start(alloc, b"owner", x)?,
+    };
     for index in 0..lanes.len().min(owners.len()) {
         put_lane_name(
             out,
-            x,
+            &columns,
             grid.middle(index as u64),
             lanes[index],
             owners[index],
@@ -216,26 +229,20 @@ fn put_names(
 }
 
 /// Appends the number of a step.
-fn put_step_number(out: &mut Vec<u8>, x: u64, y: u64, index: u64) -> Result<(), AllocError> {
-    start_text(out, b"number", x, y)?;
+fn put_step_number(out: &mut Vec<u8>, column: &[u8], y: u64, index: u64) -> Result<(), AllocError> {
+    start_in_column(out, column, y)?;
     put_number(out, index)?;
     end_text(out)
 }
 
 /// Appends the number of a step below the lanes, and above some of them if there are many.
-fn put_step_numbers(
-    out: &mut Vec<u8>,
-    grid: Grid,
-    lanes: u64,
-    x: u64,
-    index: u64,
-) -> Result<(), AllocError> {
-    for lane in 0..lanes {
-        if grid.has_numbers(lane) {
-            put_step_number(out, x, grid.top(lane).saturating_sub(8), index)?;
-        }
+fn put_step_numbers(out: &mut Vec<u8>, grid: Grid, x: u64, index: u64) -> Result<(), AllocError> {
+    let column = column_start(*out.allocator(), b"number", x)?;
+    for row in 0..grid.number_rows() {
+        let top = grid.top(grid.numbered_lane(row));
+        put_step_number(out, &column, top.saturating_sub(8), index)?;
     }
-    put_step_number(out, x, grid.bottom().saturating_add(18), index)
+    put_step_number(out, &column, grid.bottom().saturating_add(18), index)
 }
 
 /// Appends the column of a step: a rule, and an area that shows the step's words to a pointer.
@@ -328,11 +335,11 @@ fn put_torn_ends(
     area: Area,
 ) -> Result<(), AllocError> {
     if bar.first == 0 {
-        put_torn_end(out, area.x.saturating_sub(2), area.y, BAR / 6)?;
+        put_torn_end(out, area.x.saturating_sub(2), area.y)?;
     }
     if is_cut(range, bar) {
         let right = area.x.saturating_add(area.width);
-        put_torn_end(out, right.saturating_sub(2), area.y, BAR / 6)?;
+        put_torn_end(out, right.saturating_sub(2), area.y)?;
     }
     Ok(())
 }
@@ -441,10 +448,7 @@ fn put_background(
     layout: &Lanes,
     steps: &[DrawnStep],
 ) -> Result<(), AllocError> {
-    let lanes = layout.lanes.len() as u64;
-    for index in 0..lanes {
-        put_lane(out, grid, index)?;
-    }
+    put_lanes(out, grid, layout.lanes.len() as u64)?;
     let mut number = 1u64;
     for step in steps {
         put_step_column(out, grid, number, step)?;
@@ -454,15 +458,10 @@ fn put_background(
 }
 
 /// Appends the numbers of the steps, over the arrows.
-fn put_numbers(
-    out: &mut Vec<u8>,
-    grid: Grid,
-    lanes: u64,
-    steps: &[DrawnStep],
-) -> Result<(), AllocError> {
+fn put_numbers(out: &mut Vec<u8>, grid: Grid, steps: &[DrawnStep]) -> Result<(), AllocError> {
     let mut number = 1u64;
     for step in steps {
-        put_step_numbers(out, grid, lanes, grid.x(number), step.index)?;
+        put_step_numbers(out, grid, grid.x(number), step.index)?;
         number = number.saturating_add(1);
     }
     Ok(())
@@ -500,7 +499,7 @@ pub(crate) fn put_picture(
     put_head(out, key, range)?;
     put_background(out, grid, layout, &range.steps)?;
     put_foreground(out, grid, layout, range)?;
-    put_numbers(out, grid, layout.lanes.len() as u64, &range.steps)?;
+    put_numbers(out, grid, &range.steps)?;
     for block in 0..grid.blocks() {
         put_names(out, grid, block, &layout.lanes, &owners)?;
     }

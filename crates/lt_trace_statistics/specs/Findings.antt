@@ -9,7 +9,7 @@ use Rattle.lt_rules.specs.declared.call.Call.{Call}
 use Rattle.lt_rules.specs.declared.call.Call.TheVariants.{Visit, Acquire, Update, Finish, Leave, Look}
 use Rattle.lt_rules.specs.declared.call.Reply.{Reply}
 use Rattle.lt_rules.specs.declared.call.Reply.TheVariants.{MustWait}
-use Rattle.lt_trace_statistics.specs.declared.step.StepFacts.{StepFacts}
+use Rattle.lt_checker.specs.declared.line.Line.{Line}
 use Rattle.lt_trace_statistics.specs.declared.summary.HotKey.{HotKey}
 use Rattle.lt_trace_statistics.specs.declared.summary.LongestQueue.{LongestQueue}
 use Rattle.lt_trace_statistics.specs.declared.summary.LongestWait.{LongestWait}
@@ -27,15 +27,15 @@ pub record TracedStep : Type 0 where
   pub tickets : List Wait
   pub queue : ℕ
 
--- the step of this key
-abbrev pub traced_step : List ℕ → StepFacts → TracedStep
-traced_step key facts = record {
-  key = key;
-  index = facts.index;
-  call = facts.call;
-  reply = facts.reply;
-  tickets = facts.tickets.items;
-  queue = facts.queue;
+-- the step of this line, after which so many requests are queued
+abbrev pub traced_step : Line → ℕ → TracedStep
+traced_step line queue = record {
+  key = line.key;
+  index = line.step.index;
+  call = line.step.call;
+  reply = line.step.reply;
+  tickets = line.tickets.items;
+  queue = queue;
 }
 
 -- a count, which stops at the greatest number of 64 bits

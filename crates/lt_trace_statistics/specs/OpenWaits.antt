@@ -3,7 +3,7 @@ use Rattle.std.specs.Prelude.{ℕ, ◌≡◌, Bool, nat_eq, find, if◌then◌el
 use Rattle.std.specs.BTreeMap.{BTreeMap, get}
 use Rattle.std.specs.Ordering.{nat_cmp}
 use Rattle.lt_ids.specs.Ids.{Wait, same_wait}
-use Rattle.lt_trace_statistics.specs.declared.step.StepFacts.{StepFacts}
+use Rattle.lt_checker.specs.declared.line.LineStep.{LineStep}
 use Rattle.lt_trace_statistics.specs.declared.waits.OpenWait.{OpenWait}
 use Rattle.lt_trace_statistics.specs.Findings.{mover_of, begun_waits}
 
@@ -41,7 +41,7 @@ HaveNoMover None waits = Unit {0}
 HaveNoMover (Some number) waits = first_of number waits ≡ None
 
 -- The new map has the waits of the old one and the one that the step begins, if its request had none.
-abbrev pub BeginsWait : StepFacts → Pending → Pending → Type 0
+abbrev pub BeginsWait : LineStep → Pending → Pending → Type 0
 BeginsWait step old new = (waits : List OpenWait) → HaveNoMover (mover_of step.call) waits → HasWaits old waits → HasWaits new (waits ++ begun_waits step.call step.reply step.index)
 
 -- the index of the visit that began the wait, if it has this ticket

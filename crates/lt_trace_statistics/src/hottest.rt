@@ -3,10 +3,10 @@ ghost use Rattle.std.specs.Prelude.{◌≡◌, ◌≤◌, OnOk, take, not, inser
 ghost use Rattle.std.specs.List.{prefix_len};
 ghost use Rattle.lt_trace_statistics.specs.Findings.{is_hotter, ranked_with, ranked_after, is_key_of, with_count, wait_count, most_keys};
 
-use crate::step::StepFacts;
 use crate::summary::HotKey;
 use crate::waits::wait_count;
 use lt_ids::Key;
+use lt_rules::Reply;
 use std::alloc::AllocError;
 
 /// How many keys a summary names at most.
@@ -22,13 +22,13 @@ pub(crate) fn is_key_of(latest: &Option<HotKey>, key: &Key) -> bool
     }
 }
 
-/// Counts a step of the latest key.
-pub(crate) fn count_step(latest: &mut Option<HotKey>, step: &StepFacts)
-    ensures { latest.new ≡ with_count step.now.reply latest.old }
+/// Counts a step of the latest key, which has this reply.
+pub(crate) fn count_step(latest: &mut Option<HotKey>, reply: &Reply)
+    ensures { latest.new ≡ with_count reply.now latest.old }
 {
     if let Some(hot) = latest {
         hot.steps = hot.steps.saturating_add(1);
-        hot.waits = hot.waits.saturating_add(wait_count(&step.reply));
+        hot.waits = hot.waits.saturating_add(wait_count(reply));
     }
 }
 

@@ -11,12 +11,10 @@ mod hottest;
 mod laws;
 mod queue;
 mod statistics;
-mod step;
 mod summary;
 mod waits;
 
 pub use hottest::MOST_KEYS;
 pub use laws::{longest_waits, no_longer_queue, ranking_is_hottest_first};
 pub use statistics::Statistics;
-pub use step::StepFacts;
 pub use summary::{HotKey, LongestQueue, LongestWait, StepCounts, TextSummary};

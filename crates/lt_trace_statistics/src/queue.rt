@@ -2,9 +2,8 @@
 ghost use Rattle.std.specs.Prelude.{◌≡◌, OnOk};
 ghost use Rattle.lt_trace_statistics.specs.Findings.{traced_step, queue_len, longer_queue};
 
-use crate::step::StepFacts;
 use crate::summary::LongestQueue;
-use lt_ids::Key;
+use lt_checker::Line;
 use std::alloc::AllocError;
 
 /// How long the longest queue is so far.
@@ -17,19 +16,19 @@ fn queue_len(longest: &Option<LongestQueue>) -> u64
     }
 }
 
-/// Notes the queue after the step, if it is longer.
+/// Notes the queue after the line, if it is longer.
 pub(crate) fn note_queue(
     longest: &mut Option<LongestQueue>,
-    key: &Key,
-    step: &StepFacts,
+    line: &Line,
+    queue: u64,
 ) -> Result<(), AllocError>
-    ensures { OnOk result (longest.new ≡ longer_queue longest.old (traced_step key.now step.now)) }
+    ensures { OnOk result (longest.new ≡ longer_queue longest.old (traced_step line.now queue)) }
 {
-    if queue_len(longest) < step.queue {
+    if queue_len(longest) < queue {
         *longest = Some(LongestQueue {
-            key: key.copy()?,
-            index: step.index,
-            requests: step.queue,
+            key: line.key.copy()?,
+            index: line.step.index,
+            requests: queue,
         });
     }
     Ok(())

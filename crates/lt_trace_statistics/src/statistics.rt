@@ -6,9 +6,9 @@ ghost use Rattle.lt_trace_statistics.specs.Taken.{AreFindings, HasGathered, Summ
 
 use crate::hottest::{count_step, is_key_of, rank_latest};
 use crate::queue::note_queue;
-use crate::step::StepFacts;
 use crate::summary::{HotKey, LongestQueue, LongestWait, StepCounts, TextSummary};
 use crate::waits::{Pending, begin_wait, drop_ended, drop_mover, note_ended, wait_count};
+use lt_checker::Line;
 use lt_ids::Key;
 use std::alloc::{AllocError, Global};
 use std::collections::BTreeMap;
@@ -30,17 +30,17 @@ pub struct Statistics {
 }
 
 /// Counts the step, its wait and its lets.
-fn counted(counts: StepCounts, step: &StepFacts) -> StepCounts
+fn counted(counts: StepCounts, line: &Line) -> StepCounts
     ensures keys { result.keys ≡ counts.keys }
     ensures steps { result.steps ≡ capped (counts.steps + 1) }
-    ensures waits { result.waits ≡ capped (counts.waits + wait_count step.now.reply) }
-    ensures lets { result.lets ≡ capped (counts.lets + length step.now.tickets.items) }
+    ensures waits { result.waits ≡ capped (counts.waits + wait_count line.now.step.reply) }
+    ensures lets { result.lets ≡ capped (counts.lets + length line.now.tickets.items) }
 {
     StepCounts {
         keys: counts.keys,
         steps: counts.steps.saturating_add(1),
-        waits: counts.waits.saturating_add(wait_count(&step.reply)),
-        lets: counts.lets.saturating_add(step.tickets.len() as u64),
+        waits: counts.waits.saturating_add(wait_count(&line.step.reply)),
+        lets: counts.lets.saturating_add(line.tickets.len() as u64),
     }
 }
 
@@ -94,35 +94,36 @@ impl Statistics {
         self.begin_key(key)
     }
 
-    /// Notes a step of the latest key.
-    fn note_step(&mut self, key: &Key, step: &StepFacts) -> Result<(), AllocError>
+    /// Notes a step of the latest key, after which so many requests are queued.
+    fn note_step(&mut self, line: &Line, queue: u64) -> Result<(), AllocError>
         ensures findings { OnOk result ((f : Findings) → AreFindings self.old f →
-            AreFindings self.new (with_step f (traced_step key.now step.now))) }
+            AreFindings self.new (with_step f (traced_step line.now queue))) }
         ensures counts { self.new.counts ≡ self.old.counts }
     {
-        drop_mover(&mut self.pending, &step.call);
+        drop_mover(&mut self.pending, &line.step.call);
         note_ended(
             &mut self.longest_wait,
             &self.pending,
-            key,
-            step.index,
-            &step.tickets,
+            &line.key,
+            line.step.index,
+            &line.tickets,
         )?;
-        drop_ended(&mut self.pending, &step.tickets);
-        begin_wait(&mut self.pending, step)?;
-        note_queue(&mut self.longest_queue, key, step)?;
-        count_step(&mut self.latest, step);
+        drop_ended(&mut self.pending, &line.tickets);
+        begin_wait(&mut self.pending, &line.step)?;
+        note_queue(&mut self.longest_queue, line, queue)?;
+        count_step(&mut self.latest, &line.step.reply);
         Ok(())
     }
 
-    /// Takes the next step of the text, which is a step of this key. The steps of a key come one after the other.
-    pub fn take(&mut self, key: &Key, step: &StepFacts) -> Result<(), AllocError>
+    /// Takes the next line of the text, after which so many requests are queued at its key: the writers, active or not, and
+    /// the readers. The lines of a key come one after the other.
+    pub fn take(&mut self, line: &Line, queue: u64) -> Result<(), AllocError>
         ensures { OnOk result ((steps : List TracedStep) → HasGathered self.old steps →
-            HasGathered self.new (steps ++ traced_step key.now step.now ∷ [])) }
+            HasGathered self.new (steps ++ traced_step line.now queue ∷ [])) }
     {
-        self.enter_key(key)?;
-        self.note_step(key, step)?;
-        self.counts = counted(self.counts, step);
+        self.enter_key(&line.key)?;
+        self.note_step(line, queue)?;
+        self.counts = counted(self.counts, line);
         Ok(())
     }
 

@@ -8,8 +8,8 @@ ghost use Rattle.lt_trace_statistics.specs.Findings.{is_must_wait, wait_count, m
 ghost use Rattle.lt_trace_statistics.specs.declared.waits.OpenWait.{OpenWait};
 ghost use Rattle.lt_trace_statistics.specs.OpenWaits.{HasWaits, ChangesWaits, BeginsWait, since_at};
 
-use crate::step::StepFacts;
 use crate::summary::LongestWait;
+use lt_checker::LineStep;
 use lt_ids::{Key, Ticket};
 use lt_rules::{Call, Reply};
 use std::alloc::AllocError;
@@ -94,7 +94,7 @@ pub(crate) fn drop_ended(pending: &mut Pending, tickets: &[Ticket])
 }
 
 /// Opens the wait that the step begins, if it begins one.
-pub(crate) fn begin_wait(pending: &mut Pending, step: &StepFacts) -> Result<(), AllocError>
+pub(crate) fn begin_wait(pending: &mut Pending, step: &LineStep) -> Result<(), AllocError>
     ensures { OnOk result (BeginsWait step.now pending.old pending.new) }
 {
     if let Call::Visit { ticket, .. } = &step.call

@@ -28,8 +28,7 @@ type Verdict = Result<Report, AuditError>;
 fn expected(alloc: Global, text: &[u8]) -> Verdict {
     match check(alloc, text) {
         Ok(report) => Ok(report),
-        Err(CheckError::Refused { line, fault }) => Err(AuditError::Refused { line, fault }),
-        Err(CheckError::Memory) => Err(AuditError::Memory),
+        Err(refusal) => Err(AuditError::Check(refusal)),
     }
 }
 
@@ -128,7 +127,7 @@ fn verdict_on_interrupted(alloc: Global, text: &[u8]) -> Verdict {
     };
     match BufReader::with_capacity(alloc, 7, reader) {
         Ok(mut reader) => check_stream(alloc, &mut reader),
-        Err(_) => Err(AuditError::Memory),
+        Err(_) => Err(AuditError::Check(CheckError::Memory)),
     }
 }
 

@@ -1,6 +1,6 @@
 //! Does an explanation say why a check refuses a line? The rows are worked out by hand from docs/FORMATS.md. A call that
 //! runs out of memory is made again, so the tests also pass if any one allocation fails.
-use lt_checker::{Fault, HistoryLineError, read_line};
+use lt_checker::{CheckError, Fault, HistoryLineError, read_line};
 use lt_rules::Reply;
 use lt_trace_check::{
     AuditError, BadWord, Explained, LineReason, bad_word, explain, read_first_line,
@@ -12,7 +12,7 @@ use std::test::Fail;
 fn explained(alloc: Global, text: &str, line: usize) -> Result<Explained, AuditError> {
     let mut reader = text.as_bytes();
     match explain(alloc, &mut reader, line) {
-        Err(AuditError::Memory) => {
+        Err(AuditError::Check(CheckError::Memory)) => {
             let mut reader = text.as_bytes();
             explain(alloc, &mut reader, line)
         }
@@ -331,7 +331,7 @@ fn a_first_line_is_read_with_its_line_end(rt: HostRuntime) -> Result<(), Fail> {
     ] {
         let mut reader = text.as_bytes();
         let read = match read_first_line(rt.alloc(), &mut reader) {
-            Err(AuditError::Memory) => {
+            Err(AuditError::Check(CheckError::Memory)) => {
                 let mut reader = text.as_bytes();
                 read_first_line(rt.alloc(), &mut reader)?
             }

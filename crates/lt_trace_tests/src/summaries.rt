@@ -3,11 +3,10 @@
 //! A row is a step; a case has its steps and the expected summary. Some cases are not legal texts, because the statistics
 //! count whatever they are given. A case that runs out of memory is played again, so the tests pass under any single
 //! allocation failure.
+use lt_checker::{Line, LineStep};
 use lt_ids::{Access, Key, Ticket, Timestamp};
 use lt_rules::{Call, Reply};
-use lt_trace_statistics::{
-    HotKey, LongestQueue, LongestWait, Statistics, StepCounts, StepFacts, TextSummary,
-};
+use lt_trace_statistics::{HotKey, LongestQueue, LongestWait, Statistics, StepCounts, TextSummary};
 use std::alloc::Global;
 use std::process::Abort;
 use std::test::Fail;
@@ -152,28 +151,29 @@ fn made(does: Does) -> Option<(Call, Reply)> {
     Some((call, reply))
 }
 
-fn facts_of(alloc: Global, row: &StepRow) -> Option<StepFacts> {
-    let (_, index, does, lets, queue) = *row;
+/// The line of the row. Whose pass makes its call does not matter.
+fn line_of(alloc: Global, row: &StepRow) -> Option<Line> {
+    let (key, index, does, lets, _) = *row;
+    let key = Key::from_bytes(alloc, key).ok()?;
     let (call, reply) = made(does)?;
     let mut tickets = Vec::new(alloc);
     for number in lets {
         tickets.push(ticket(*number)?).ok()?;
     }
-    Some(StepFacts {
+    let step = LineStep {
         index,
+        pass: 1,
         call,
         reply,
-        tickets,
-        queue,
-    })
+    };
+    Some(Line { key, step, tickets })
 }
 
 /// The summary of these steps, or `None` if memory runs out.
 fn summed(alloc: Global, steps: &[StepRow]) -> Option<TextSummary> {
     let mut statistics = Statistics::new(alloc);
     for row in steps {
-        let key = Key::from_bytes(alloc, row.0).ok()?;
-        statistics.take(&key, &facts_of(alloc, row)?).ok()?;
+        statistics.take(&line_of(alloc, row)?, row.4).ok()?;
     }
     statistics.finish().ok()
 }

@@ -1,5 +1,3 @@
-use Rattle.std.proofs.Common.{sym, subst}
-use Rattle.lt_trace_check.specs.Audit.{EndsAs}
 use Rattle.lt_trace_check.proofs.Streams.{ends_by_check}
 use Rattle.lt_trace_check.proofs.stream.end.Goals as goal
 
@@ -8,6 +6,5 @@ returns-in-Ok-clause-ok c = record { says = c.in-Ok.ensures.says; accepts = c.in
 
 pub returns-in-Err-clause-err : goal.returns-in-Err-clause-err
 returns-in-Err-clause-err c =
-    subst (EndsAs c.args.checker c.args.pending.now) (sym c.stopped.ensures)
-    (ends_by_check c.args.checker c.args.pending.now c.in-Err.refusal
-    record { says = c.in-Err.ensures.says; accepts = c.in-Err.ensures.legal; refuses = c.in-Err.ensures.faulty })
+    ends_by_check c.args.checker c.args.pending.now c.in-Err.refusal
+    record { says = c.in-Err.ensures.says; accepts = c.in-Err.ensures.legal; refuses = c.in-Err.ensures.faulty }

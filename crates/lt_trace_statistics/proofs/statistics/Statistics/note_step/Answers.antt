@@ -6,8 +6,8 @@ use Rattle.lt_trace_statistics.proofs.statistics.Statistics.note_step.Goals as g
 
 pub returns-clause-findings : goal.returns-clause-findings
 returns-clause-findings c = λ f are.
-    let mover = mover_of c.args.step.now.call in
-    let tickets = c.args.step.now.tickets.items in
+    let mover = mover_of c.args.line.now.step.call in
+    let tickets = c.args.line.now.tickets.items in
     let moved = c.drop_mover.ensures f.pending are.pending in
     let ended = subst (λ ts. HasWaits c.drop_ended.new.pending (without_ended ts (without_mover mover f.pending))) c.deref-2.ensures.value (c.drop_ended.ensures (without_mover mover f.pending) moved) in
     record {

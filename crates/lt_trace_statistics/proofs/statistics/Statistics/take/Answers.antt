@@ -6,7 +6,7 @@ use Rattle.lt_trace_statistics.proofs.statistics.Statistics.take.Goals as goal
 
 pub returns : goal.returns
 returns c = λ steps gathered.
-    let x = traced_step c.args.key.now c.args.step.now in
+    let x = traced_step c.args.line.now c.args.queue in
     let here = c.in_ok-note_step.ensures.findings _ (c.in_ok-enter_key.ensures.findings (findings_of steps) gathered.findings) in
     record {
       findings = rw (fold-append after_step no_findings steps (x ∷ [])) (search (here, rules));
