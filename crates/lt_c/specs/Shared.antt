@@ -179,6 +179,12 @@ pub record PollTells (code : ℕ) (before after : HeldGuard) : Type 0 where
   pub stays : GuardStays before.guard after.guard
   pub same_table : (arc_value after.table) ≡ (arc_value before.table)
 
+-- If the handle held a request, it holds the request's pass, which names no key yet.
+abbrev pub GivesBack : Option ContentState → Option ContentState → Type 0
+GivesBack (Some (Guard g)) (Some (Pass p)) = (p.pass ≡ g.guard.pass) × (p.wants.items ≡ []) × ((arc_value p.table) ≡ (arc_value g.table))
+GivesBack (Some (Guard g)) _ = ⊥
+GivesBack before after = after ≡ before
+
 -- The handle held a request. Either it has left, and the handle holds its pass; or its leave was refused, never for memory if the
 -- table stores no step, and the handle holds the request at the key whose leave was refused.
 abbrev pub LeaveTells : ℕ → Option ContentState → Option ContentState → Type 0

@@ -8,8 +8,9 @@ use crate::held_shared::{HeldGuard, HeldPass, HeldShared};
 use lt_shard::Rest;
 use lt_try::Rests;
 
-/// What an open handle holds. The table of one thread and the check are large, so each has a box of its own: a pass becomes
-/// a request and a request a pass by a move of the whole.
+/// What an open handle holds. The table of one thread and the check are large, so each has a box of its own: a pass that
+/// enters becomes a request, and a request that has left a pass, by a move of the whole. A request scans, steps and leaves in its
+/// place.
 #[derive(Drop)]
 pub enum Content {
     Table(Box<HeldTable>),

@@ -10,7 +10,8 @@ use crate::held_ending::HeldEnding;
 use crate::seated::SeatedTable;
 use crate::shared_codes::{BUSY, LOST, enter_code, try_code};
 use lt_ids::{Access, Key, Timestamp, TxnId};
-use lt_try::{EnterRefused, Guard, LeaveStopped, Left, Pass, abandon_all};
+use lt_try::{EnterRefused, Guard, Left, Pass, abandon_all};
+use lt_walk::{into_left, leave_on};
 use std::alloc::Global;
 use std::sync::Arc;
 
@@ -95,19 +96,22 @@ impl HeldShared {
     }
 }
 
+/// What a request that enters brings, beside the accesses that its pass has named.
+#[derive(Clone, Copy)]
+pub struct Entering {
+    pub alloc: Global,
+    pub txn: Option<TxnId>,
+    pub ts: Timestamp,
+    pub longest: u32,
+}
+
 impl HeldPass {
     ghost use Rattle.std.specs.Prelude.{◌≢◌, Some, IfErr};
     ghost use Rattle.lt_c.specs.Shared.{Enters};
 
     /// Enters the request that the pass's accesses ask for.
-    pub fn enter(
-        self,
-        alloc: Global,
-        txn: Option<TxnId>,
-        ts: Timestamp,
-        longest: u32,
-    ) -> (Content, u32)
-        ensures entered { Enters txn ts longest result.1 (Some (Content.Pass self)) (Some result.0) }
+    pub fn enter(self, by: &Entering) -> (Content, u32)
+        ensures entered { Enters by.now.txn by.now.ts by.now.longest result.1 (Some (Content.Pass self)) (Some result.0) }
         ensures opened { result.1 ≢ CLOSED }
     {
         let HeldPass {
@@ -115,10 +119,7 @@ impl HeldPass {
             pass,
             mut wants,
         } = self;
-        match table
-            .shared
-            .enter(alloc, pass, txn, ts, wants.as_slice(), longest)
-        {
+        match table.shared.enter(by.alloc, pass, by.txn, by.ts, wants.as_slice(), by.longest) {
             Ok(guard) => {
                 wants.clear();
                 let room = wants;
@@ -148,25 +149,40 @@ impl HeldPass {
 }
 
 impl HeldGuard {
-    ghost use Rattle.std.specs.Prelude.{◌≢◌, Some};
-    ghost use Rattle.lt_c.specs.Shared.{LeaveTells};
+    ghost use Rattle.std.specs.Prelude.{◌≢◌};
+    ghost use Rattle.lt_walk.specs.Reported.{AllLeft, GuardStays, StoppedLeaving};
+    ghost use Rattle.lt_try.specs.declared.error.TryError.{TryError};
+    ghost use Rattle.lt_try.specs.Refused.{RefusesForOthers};
+    ghost use Rattle.lt_c.specs.SharedCodes.{try_code};
 
-    /// The request leaves.
-    pub fn leave(self) -> (Content, u32)
-        ensures left { LeaveTells result.1 (Some (Content.Guard self)) (Some result.0) }
-        ensures opened { result.1 ≢ CLOSED }
+    /// Makes the leave steps of the request that are left. If one is refused, the request stays at its key.
+    pub fn leave_keys(&mut self) -> u32
+        ensures left { result ≡ DONE → AllLeft self.old.guard self.new.guard.pass self.new.guard.walk.answers }
+        ensures refused { result ≢ DONE → (e : TryError) × (result ≡ try_code e) × RefusesForOthers (arc_value self.old.table).of.keeping e }
+        ensures stopped { result ≢ DONE → StoppedLeaving self.old.guard self.new.guard }
+        ensures stays { GuardStays self.old.guard self.new.guard }
+        ensures table { self.new.table ≡ self.old.table }
+        ensures opened { result ≢ CLOSED }
+    {
+        match leave_on(&self.table.shared, &mut self.guard) {
+            Ok(()) => DONE,
+            Err(error) => try_code(error),
+        }
+    }
+
+    /// The pass of a request that has left. It names no key yet.
+    pub fn into_pass(self) -> HeldPass
+        ensures pass { result.pass ≡ self.guard.pass }
+        ensures nothing { result.wants.items ≡ [] }
+        ensures table { result.table ≡ self.table }
     {
         let HeldGuard { table, guard, room } = self;
-        match table.shared.leave(guard) {
-            Ok(Left { pass, answers }) => {
-                drop(answers);
-                let wants = room;
-                (Content::Pass(HeldPass { table, pass, wants }), DONE)
-            }
-            Err(LeaveStopped { guard, error }) => (
-                Content::Guard(HeldGuard { table, guard, room }),
-                try_code(error),
-            ),
+        let Left { pass, answers } = into_left(guard);
+        drop(answers);
+        HeldPass {
+            table,
+            pass,
+            wants: room,
         }
     }
 }

@@ -6,17 +6,17 @@ ghost use Rattle.lt_c.specs.Calls.{optional_txn};
 ghost use Rattle.lt_c.specs.Content.{pass_in, guard_in};
 ghost use Rattle.lt_c.specs.Looks.{bytes_refusal};
 ghost use Rattle.lt_c.specs.Codes.{IsDoneUnless};
-ghost use Rattle.lt_c.specs.Shared.{WantsMore, KeepsWants, KeepsHandle, OnPasses, OnGuards, Enters, ScanTells, PollTells, LeaveTells, SeesLegal, asked_access};
+ghost use Rattle.lt_c.specs.Shared.{WantsMore, KeepsWants, KeepsHandle, OnPasses, OnGuards, Enters, ScanTells, PollTells, GivesBack, LeaveTells, SeesLegal, asked_access};
 
 use crate::codes::{CLOSED, DONE, MEMORY, key_code};
 use crate::content::Content;
 use crate::handle::Handle;
-use crate::held_shared::{HeldGuard, HeldPass};
+use crate::held_shared::{Entering, HeldGuard, HeldPass};
 use crate::shapes::LtTerms;
 use crate::shared_codes::{poll_code, scan_code, scan_index};
+use core::mem;
 use lt_ids::{Access, Key, Timestamp, TxnId};
 use std::alloc::Global;
-use std::mem;
 
 /// The access of a request that writes, or only reads.
 fn asked_access(writes: bool) -> Access
@@ -88,22 +88,28 @@ impl Content {
     }
 }
 
-/// Enters the request, if the content is a pass.
-fn enter(
-    content: Content,
-    alloc: Global,
-    txn: Option<TxnId>,
-    ts: Timestamp,
-    longest: u32,
-) -> (Content, u32)
-    ensures entered { result.1 ≢ CLOSED → Enters txn ts longest result.1 (Some content) (Some result.0) }
+/// The request that has entered through a pass, or the pass whose request was refused. Other content stays as it is.
+fn entered(content: Content, by: &Entering) -> (Content, u32)
+    ensures entered { result.1 ≢ CLOSED → Enters by.now.txn by.now.ts by.now.longest result.1 (Some content) (Some result.0) }
     ensures kept { result.1 ≡ CLOSED → result.0 ≡ content }
     ensures opened { IsSome (pass_in (Some content)) → result.1 ≢ CLOSED }
 {
     match content {
-        Content::Pass(held) => held.enter(alloc, txn, ts, longest),
+        Content::Pass(held) => held.enter(by),
         content => (content, CLOSED),
     }
+}
+
+/// Enters the request, if the content is a pass.
+fn enter(content: &mut Content, by: &Entering) -> u32
+    ensures entered { result ≢ CLOSED → Enters by.now.txn by.now.ts by.now.longest result (Some content.old) (Some content.new) }
+    ensures kept { result ≡ CLOSED → content.new ≡ content.old }
+    ensures opened { IsSome (pass_in (Some content.old)) → result ≢ CLOSED }
+{
+    if !matches!(content, Content::Pass(_)) {
+        return CLOSED;
+    }
+    mem::replace_with(content, by, entered)
 }
 
 /// The pass's request enters with the keys that were named. The handle then holds the request.
@@ -119,13 +125,16 @@ pub extern "C" fn lt_pass_enter(alloc: Global, handle: &mut Handle, terms: &LtTe
     let Some(mut content) = handle.take(alloc) else {
         return CLOSED;
     };
-    let ts = Timestamp {
-        wall: terms.wall,
-        logical: terms.logical,
+    let by = Entering {
+        alloc,
+        txn: TxnId::new(terms.txn),
+        ts: Timestamp {
+            wall: terms.wall,
+            logical: terms.logical,
+        },
+        longest: terms.longest,
     };
-    let before = mem::replace(&mut *content, Content::Nothing);
-    let (after, code) = enter(before, alloc, TxnId::new(terms.txn), ts, terms.longest);
-    *content = after;
+    let code = enter(&mut content, &by);
     content.legal();
     handle.put(content);
     code
@@ -207,16 +216,39 @@ pub extern "C" fn lt_pass_poll(alloc: Global, handle: &mut Handle) -> u32
     code
 }
 
-/// The request leaves, if the content is one.
-fn leave(content: Content) -> (Content, u32)
-    ensures left { result.1 ≢ CLOSED → LeaveTells result.1 (Some content) (Some result.0) }
-    ensures kept { result.1 ≡ CLOSED → result.0 ≡ content }
-    ensures opened { IsSome (guard_in (Some content)) → result.1 ≢ CLOSED }
+/// The pass of a request that has made its leave steps. Other content stays as it is.
+fn given_back(content: Content, _left: ()) -> (Content, ())
+    ensures { GivesBack (Some content) (Some result.0) }
 {
     match content {
-        Content::Guard(held) => held.leave(),
-        content => (content, CLOSED),
+        Content::Guard(held) => (Content::Pass(held.into_pass()), ()),
+        content => (content, ()),
     }
+}
+
+/// Puts the pass of a request that has made its leave steps in the place of the request, if the content is one.
+fn give_back(content: &mut Content)
+    ensures { GivesBack (Some content.old) (Some content.new) }
+{
+    if matches!(content, Content::Guard(_)) {
+        mem::replace_with(content, (), given_back);
+    }
+}
+
+/// The request leaves, if the content is one.
+fn leave(content: &mut Content) -> u32
+    ensures left { result ≢ CLOSED → LeaveTells result (Some content.old) (Some content.new) }
+    ensures kept { result ≡ CLOSED → content.new ≡ content.old }
+    ensures opened { IsSome (guard_in (Some content.old)) → result ≢ CLOSED }
+{
+    let code = match content {
+        Content::Guard(held) => held.leave_keys(),
+        _ => return CLOSED,
+    };
+    if code == DONE {
+        give_back(content);
+    }
+    code
 }
 
 /// The request leaves. The handle then holds its pass again. After `BUSY` the same call goes on from where it was.
@@ -230,9 +262,7 @@ pub extern "C" fn lt_pass_leave(alloc: Global, handle: &mut Handle) -> u32
     let Some(mut content) = handle.take(alloc) else {
         return CLOSED;
     };
-    let before = mem::replace(&mut *content, Content::Nothing);
-    let (after, code) = leave(before);
-    *content = after;
+    let code = leave(&mut content);
     content.legal();
     handle.put(content);
     code

@@ -3,7 +3,7 @@
 ghost use Rattle.std.specs.Prelude.{◌≡◌, ◌≢◌, ◌<◌, ◌⊎◌};
 ghost use Rattle.lt_c.specs.SharedCodes.{prepare_code, try_code, close_code, enter_code, scan_code, scan_index, poll_code};
 
-use crate::codes::{CLOSED, FIRST_REPLY, MEMORY};
+use crate::codes::{CLOSED, DONE, FIRST_REPLY, MEMORY};
 use lt_try::{CloseError, EnterError, Poll, PrepareError, Scan, ScanError, TryError};
 
 /// Another caller is in the shard. The step was not made: call again.
@@ -108,6 +108,7 @@ pub(crate) fn prepare_code(error: PrepareError) -> u32
 pub(crate) fn try_code(error: TryError) -> u32
     ensures code { result ≡ try_code error }
     ensures opened { result ≢ CLOSED }
+    ensures refused { result ≢ DONE }
     ensures below { result < FIRST_REPLY }
     ensures tried { (result ≡ MEMORY) ⊎ ((result ≡ BUSY) ⊎ ((result ≡ HISTORY_FULL) ⊎ (result ≡ LOST))) }
     ensures full { result ≡ HISTORY_FULL → error ≡ TryError.HistoryFull }
