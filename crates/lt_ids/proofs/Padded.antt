@@ -55,3 +55,15 @@ short_writes n xs zeros all within =
     let many : (22 - length (take n xs)) + length (take n xs) ≡ length xs = omega (arith, all, within) in
     let cells = cells_padded n xs zeros (22 - length (take n xs)) many in
     rw fits (ap (λ it. it ∷ []) cells)
+
+drop_zeros : (k : ℕ) (xs : List ℕ) → AreZero xs → AreZero (drop k xs)
+drop_zeros zero xs zeros = zeros
+drop_zeros (suc k) [] zeros = tt
+drop_zeros (suc k) (x ∷ xs) zeros = drop_zeros k xs zeros.1
+
+-- Cells that are 0 from one place on are 0 from a later place on.
+pub zeros_later : (n m : ℕ) (xs : List ℕ) → n ≤ m → AreZero (drop n xs) → AreZero (drop m xs)
+zeros_later zero m xs later zeros = drop_zeros m xs zeros
+zeros_later (suc n) zero xs later zeros = absurd (omega (arith, later))
+zeros_later (suc n) (suc m) [] later zeros = tt
+zeros_later (suc n) (suc m) (x ∷ xs) later zeros = zeros_later n m xs (omega (arith, later)) zeros

@@ -1,7 +1,7 @@
 //! What is a key, and when does one allocate? [`Key`] is the public type; `Bytes` is its storage, which no
 //! contract outside this crate mentions. `specs/Key.antt` defines which byte strings are keys and the order of the
 //! faults.
-ghost use Rattle.std.specs.Prelude.{◌≡◌, ◌==◌, ◌≤◌, [], ◌∷◌, length, take, IfOk, IsOk, IfSome, IfNone, IsNone, All, IsTrue, true, false, not, position, sum, drop};
+ghost use Rattle.std.specs.Prelude.{◌≡◌, ◌==◌, ◌≤◌, ◌<◌, [], ◌∷◌, length, take, IfOk, IsOk, IfSome, IfNone, IsNone, All, IsTrue, true, false, not, position, sum, drop};
 ghost use Rattle.std.specs.List.{AllByRecursion};
 ghost use Rattle.std.specs.Ordering.{nat_cmp, as_partial_cmp};
 ghost use Rattle.std.specs.Cmp.{partial_order_from_own_ties};
@@ -27,23 +27,17 @@ pub(crate) enum Bytes {
 }
 
 impl Bytes {
-    /// Stores these bytes, at most 64. Up to 22 bytes allocate nothing.
-    fn from_slice(alloc: Global, bytes: &[u8]) -> Result<Bytes, AllocError>
-        requires { length bytes.now ≤ MAX_KEY_BYTES }
+    /// Stores these bytes, from 23 to 64, in an allocation.
+    fn from_long(alloc: Global, bytes: &[u8]) -> Result<Bytes, AllocError>
+        requires fits { length bytes.now ≤ MAX_KEY_BYTES }
+        requires long { 22 < length bytes.now }
         ensures bytes { IfOk result (λ b. bytes_of b ≡ bytes.now) }
         ensures within { IfOk result AreWithin }
         ensures needed { IfOk result NeedTheirRoom }
         ensures padded { IfOk result ArePadded }
-        ensures short { length bytes.now ≤ 22 → IsOk result }
     {
-        let len = bytes.len();
-        if len <= 22 {
-            let mut short = [0; 22];
-            short[..len].copy_from_slice(bytes);
-            return Ok(Bytes::Short(len as u8, short));
-        }
         match Box::new(alloc, cells_of_64(bytes)) {
-            Ok(long) => Ok(Bytes::Long(len as u8, long)),
+            Ok(long) => Ok(Bytes::Long(bytes.len() as u8, long)),
             Err(_) => Err(AllocError),
         }
     }
@@ -87,6 +81,35 @@ impl Bytes {
             Bytes::Long(_, bytes) => sum_of_64(bytes),
         }
     }
+}
+
+/// Copies the bytes of a short key into its cells, which are 0, and returns the index of the first byte that a key cannot
+/// contain. It tests and copies eight bytes at once, and the rest one after the other.
+#[inline(always)]
+fn copy_short(cells: &mut [u8; 22], bytes: &[u8]) -> Option<usize>
+    requires few { length bytes.now ≤ 22 }
+    requires empty { AllByRecursion (λ b. b ≡ 0) cells.old }
+    ensures bytes { IfNone result (take (length bytes.now) cells.new ≡ bytes.now) }
+    ensures padded { IfNone result (AllByRecursion (λ b. b ≡ 0) (drop (length bytes.now) cells.new)) }
+    ensures place { result ≡ position (λ b. not (is_key_byte b)) bytes.now }
+    ensures each { IfNone result (All (λ b. IsTrue (is_key_byte b)) bytes.now) }
+{
+    let mut done = 0;
+    for _i in 0..bytes.len() / 8 {
+        if !are_eight_in_key(&bytes[done..]) {
+            break;
+        }
+        cells[done..done + 8].copy_from_slice(&bytes[done..done + 8]);
+        done += 8;
+    }
+    for j in done..bytes.len() {
+        let b = bytes[j];
+        if !is_in_key(b) {
+            return Some(j);
+        }
+        cells[j] = b;
+    }
+    None
 }
 
 /// The cells of a long key with these bytes.
@@ -201,10 +224,30 @@ impl Key {
         if bytes.len() > MAX_KEY_BYTES {
             return Err(IdError::KeyTooLong);
         }
+        if bytes.len() <= 22 {
+            let mut cells = [0; 22];
+            if let Some(place) = copy_short(&mut cells, bytes) {
+                return Err(IdError::KeyByte(place));
+            }
+            let bytes = Bytes::Short(bytes.len() as u8, cells);
+            return Ok(Key { bytes });
+        }
+        Key::from_long(alloc, bytes)
+    }
+
+    /// The key with these bytes, from 23 to 64. It stays out of line, so that a short key takes few instructions wherever one is made.
+    #[inline(never)]
+    fn from_long(alloc: Global, bytes: &[u8]) -> Result<Key, IdError>
+        requires fits { length bytes.now ≤ MAX_KEY_BYTES }
+        requires long { 22 < length bytes.now }
+        ensures fault { IfSome (key_fault bytes.now) (λ fault. result ≡ Err fault) }
+        ensures key { IfNone (key_fault bytes.now) (IsKeyUnlessMemory bytes.now result) }
+        ensures is_key { IfOk result IsKey }
+    {
         if let Some(place) = bad_byte(bytes) {
             return Err(IdError::KeyByte(place));
         }
-        let bytes = Bytes::from_slice(alloc, bytes).map_err(|_| IdError::Memory)?;
+        let bytes = Bytes::from_long(alloc, bytes).map_err(|_| IdError::Memory)?;
         Ok(Key { bytes })
     }
 
