@@ -134,8 +134,8 @@ impl<N: Name + ValueName> Store<N> {
     }
 
     /// Takes the key's lock, unless the transaction holds it already, and reads the key. Waits until no other transaction
-    /// holds the lock. If the transaction holds the lock, reads what it has put, or else the key's value, which nobody has
-    /// changed since the lock was taken.
+    /// holds the lock. If the transaction holds the lock, reads what it has put, or else the key's value, which no other
+    /// transaction changes meanwhile.
     ///
     /// `NoTxn` if no transaction has begun, and `Deadlock` if the transaction has to give way. Any other error is one of the
     /// table, of the clock or of memory. After `Memory` the transaction may hold the lock, and the call may be made again.

@@ -30,14 +30,22 @@
 //! - **All transactions that were committed went one after the other**, at every key that two of them share, over the one
 //!   history that the close gives (`in_order` of [`Store::close`]). It compares the numbers of the passes at run time, because
 //!   no contract follows a pass through threads.
+//! - **A transaction reads what it has put itself** (`own` of [`Store::get`] and [`Store::get_for_update`]), and a put or delete
+//!   leaves what was put at other keys (`put` of [`Store::put`] and [`Store::delete`]).
 //! - **A read under a lock** that the call takes is of the values after exactly the steps of the key's shard up to the acquire
-//!   (`took` of [`Store::get_for_update`]). If a transaction has put what the key then held, it is what that transaction had put:
-//!   both are in the log of values, which says one value of a step (the head of `example_cells`).
+//!   (`took` of [`Store::get_for_update`]). If the reading says so (`left` of `CellReading`), the log of values has what was read,
+//!   as what the finish left that ended the last tenure of the lock. The log also has what each commit put (`ok` of
+//!   [`Store::commit`]), and says one value of a step. So if the reading says so and that tenure ended with a commit that put a
+//!   value, the read returns this value.
 //! - **An abort that says Ok** leaves each value as it is (`leaves` of [`Store::abort`]).
 //! - [`victim_of`] chooses the greatest number of some cycle, and chooses nobody only if there is no cycle.
 //!
 //! # What is not proved
 //!
+//! - **Which values.** The clauses on commits, locked reads and aborts speak of some values that fit the steps of the key's shard.
+//!   That these are the store's own is in the bodies (the head of `example_cells`). Only the log of values says more.
+//! - **That a locked read finds what was put.** No clause says that a reading has `left`: the head of `example_cells` says when it
+//!   has. And [`Store::get_for_update`] returns the value alone, so its caller does not see `left`.
 //! - **Reads without a lock** ([`Store::get`]) are read committed, and no transaction is ordered by them.
 //! - **Waits.** No contract says that a call returns, that every deadlock is found and resolved, or that the count of waits is
 //!   right.

@@ -1,5 +1,6 @@
 //! What do two sessions find that call the store in turn? A test plays rows: a session, a key, a call, and what the call must
-//! answer. Then the store is closed, and each session's log has what the session committed.
+//! answer. Then the store is closed, and each session's log has what the session committed. So it is in each way to keep the
+//! history.
 //!
 //! The expected values are found by hand.
 //!
@@ -239,7 +240,7 @@ fn wanted() -> TurnsRun {
 
 #[test]
 fn each_session_finds_what_was_committed_and_its_own_puts(rt: HostRuntime) -> Result<(), Fail> {
-    for keeping in [Keeping::Unrecorded, Keeping::Streamed] {
+    for keeping in [Keeping::Whole, Keeping::Streamed, Keeping::Unrecorded] {
         let found = run(&rt, rt.alloc(), keeping).ok_or("the run")?;
         assert_eq!(rt; found, wanted());
     }
@@ -249,7 +250,7 @@ fn each_session_finds_what_was_committed_and_its_own_puts(rt: HostRuntime) -> Re
 /// Fault injection runs this test once for each of its allocations, and refuses that one.
 #[test]
 fn an_allocation_that_fails_changes_no_answer(rt: HostRuntime) -> Result<(), Fail> {
-    for keeping in [Keeping::Unrecorded, Keeping::Streamed] {
+    for keeping in [Keeping::Whole, Keeping::Streamed, Keeping::Unrecorded] {
         if let Some(found) = run(&rt, rt.alloc(), keeping) {
             assert_eq!(rt; found, wanted());
         }
