@@ -6,9 +6,9 @@ use crate::follow::{follow_steps, write_text};
 use crate::gather::Gatherer;
 use crate::input::{is_regular, open_reader};
 use lt_checker::{CheckError, Expected, Line};
-use lt_ids::Ticket;
 use lt_rules::KeyState;
-use lt_text::put::{put_number_word, put_reply, put_ticket, put_word};
+use lt_text::lets::put_lets;
+use lt_text::put::{put_number_word, put_reply};
 use lt_trace_check::{
     AuditError, BadWord, Explained, LineReason, bad_word, explain, read_first_line, rule_of,
 };
@@ -49,17 +49,6 @@ fn put_shown_bytes(out: &mut Vec<u8>, bytes: &[u8]) -> Result<(), AllocError> {
     out.extend_from_slice(b"    ")?;
     put_printable(out, bytes)?;
     out.push(b'\n')?;
-    Ok(())
-}
-
-fn put_lets(out: &mut Vec<u8>, tickets: &[Ticket]) -> Result<(), AllocError> {
-    if tickets.is_empty() {
-        return Ok(());
-    }
-    put_word(out, b"let")?;
-    for ticket in tickets {
-        put_ticket(out, *ticket)?;
-    }
     Ok(())
 }
 

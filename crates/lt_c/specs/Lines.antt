@@ -4,7 +4,7 @@ use Rattle.std.specs.List.{join_with_byte}
 use Rattle.lt_entry.specs.declared.entry.Entry.{Entry}
 use Rattle.lt_text.specs.Calls.{call_words}
 use Rattle.lt_text.specs.Replies.{reply_words}
-use Rattle.lt_checker.specs.Lines.{lets_words}
+use Rattle.lt_text.specs.Lets.{lets_words}
 
 -- The index of the line of a text of histories. The line of a trace has none.
 abbrev pub index_words : ℕ → List (List ℕ)

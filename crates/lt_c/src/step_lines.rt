@@ -1,9 +1,6 @@
 //! How does C write the steps that it holds? Line by line, as a trace or a text of histories has them (docs/FORMATS.md).
-ghost use Rattle.std.specs.Prelude.{◌≡◌, ◌≢◌, ◌≤◌, ◌++◌, ◌∷◌, Some, None, OnOk, IfOk, IfErr, length, map, drop};
-ghost use Rattle.std.specs.List.{flat_map};
+ghost use Rattle.std.specs.Prelude.{◌≡◌, ◌≢◌, ◌≤◌, ◌++◌, Some, None, OnOk, IfOk, IfErr, length, drop};
 ghost use Rattle.lt_text.specs.Compose.{spaced};
-ghost use Rattle.lt_text.specs.Fields.{ticket_word};
-ghost use Rattle.lt_checker.specs.Lines.{lets_words};
 ghost use Rattle.lt_c.specs.Codes.{IsDoneUnless};
 ghost use Rattle.lt_c.specs.Content.{steps_in};
 ghost use Rattle.lt_c.specs.Taking.{OnStep, OnSteps, place_refusal};
@@ -14,9 +11,9 @@ use crate::content::Content;
 use crate::handle::Handle;
 use crate::shared_codes::BAD_INDEX;
 use lt_entry::Entry;
-use lt_ids::Through;
 use lt_shard::Rest;
-use lt_text::put::{put_call, put_number_word, put_reply, put_ticket, put_word};
+use lt_text::lets::put_lets;
+use lt_text::put::{put_call, put_number_word, put_reply, put_word};
 use std::alloc::{AllocError, Global};
 
 /// Appends a space and the index, unless it is 0.
@@ -28,28 +25,6 @@ fn put_index(out: &mut Vec<u8>, index: u64) -> Result<(), AllocError>
         return Ok(());
     }
     put_number_word(out, index)
-}
-
-/// Appends the tickets that were let through, with a space before each.
-fn put_tickets(out: &mut Vec<u8>, lets: &[Through]) -> Result<(), AllocError>
-    ensures { OnOk result (out.new.items ≡ out.old.items ++ flat_map (λ t. 32 ∷ ticket_word t.ticket) lets.now) }
-{
-    for t in lets {
-        put_ticket(out, t.ticket)?;
-    }
-    Ok(())
-}
-
-/// Appends `let` and the tickets, with a space before each word. Appends nothing if the step let nobody through.
-#[tactic(auto, using(crate::proofs::Lined::lets_are))]
-fn put_lets(out: &mut Vec<u8>, lets: &[Through]) -> Result<(), AllocError>
-    ensures { OnOk result (out.new.items ≡ out.old.items ++ spaced (lets_words (map (λ t. t.ticket) lets.now))) }
-{
-    if lets.is_empty() {
-        return Ok(());
-    }
-    put_word(out, b"let")?;
-    put_tickets(out, lets)
 }
 
 /// Appends the line of the step, with this index, or with none for 0.

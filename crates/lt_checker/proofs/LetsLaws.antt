@@ -9,7 +9,8 @@ use Rattle.lt_ids.specs.Ids.{Wait}
 use Rattle.lt_text.specs.Maybe.{◌>>=◌}
 use Rattle.lt_text.specs.Fields.{ticket_word, ticket_of}
 use Rattle.lt_entry.specs.Ranges.{IsTicket}
-use Rattle.lt_checker.specs.Lines.{lets_words, tickets_of, if_any, lets_in_words}
+use Rattle.lt_text.specs.Lets.{lets_words}
+use Rattle.lt_checker.specs.Lines.{tickets_of, if_any, lets_in_words}
 use Rattle.lt_text.proofs.Plain.{ArePlain}
 use Rattle.lt_text.proofs.FieldLaws.{bind_some, ticket_field}
 use Rattle.lt_text.proofs.CallLaws.{chosen}

@@ -19,7 +19,8 @@ use Rattle.lt_text.specs.Maybe.{◌>>=◌}
 use Rattle.lt_text.specs.Fields.{number_within}
 use Rattle.lt_text.specs.Calls.{call_words, field_at, call_at}
 use Rattle.lt_text.specs.Replies.{reply_words, is_reply_of, reply_at}
-use Rattle.lt_checker.specs.Lines.{Parts, IsLine, IsReadStep, step_words, lets_words, line_words, if_no_fault, key_if_legal, key_at, equals_of, step_in, step_at, lets_in_words, parts_at, parts_with}
+use Rattle.lt_text.specs.Lets.{lets_words}
+use Rattle.lt_checker.specs.Lines.{Parts, IsLine, IsReadStep, step_words, line_words, if_no_fault, key_if_legal, key_at, equals_of, step_in, step_at, lets_in_words, parts_at, parts_with}
 use Rattle.lt_text.proofs.Plain.{above, ArePlain}
 use Rattle.lt_text.proofs.FieldLaws.{bind_some, IsField, IsWithin, number_field, txn_field, field_takes, field_again}
 use Rattle.lt_text.proofs.CallLaws.{call_takes, call_again, call_plain}

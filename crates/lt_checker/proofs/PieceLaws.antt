@@ -20,7 +20,8 @@ use Rattle.lt_checker.specs.Cursor.{spot, latest_key}
 use Rattle.lt_checker.specs.Histories.{precedes}
 use Rattle.lt_ids.specs.Ids.{Wait}
 use Rattle.lt_checker.specs.declared.line.LineStep.{LineStep}
-use Rattle.lt_checker.specs.Lines.{Parts, IsLine, line_text, lets_words, parts_with, step_at, step_words, lets_in_words}
+use Rattle.lt_text.specs.Lets.{lets_words}
+use Rattle.lt_checker.specs.Lines.{Parts, IsLine, line_text, parts_with, step_at, step_words, lets_in_words}
 use Rattle.lt_checker.specs.Text.{Spot, IsOf, IsOrdered, HasItsIndex, IsShapelessIn, MayNotComeNext, start, text_by, spot_after, spot_from, outcome, index_after, Follows, AreLegal, AreLegalFrom, key_count, HasFault, HasFaultOr, FailsAt, Fails}
 use Rattle.lt_checker.specs.Verdict.{IsReported, FailsOr, GoesOn, Judges, IsLegalText, IsOrMemory, located}
 use Rattle.lt_checker.specs.Version.{IsVersion, header_of}

@@ -1,5 +1,5 @@
 -- What a line says, how it is written as words, and how it is read from words.
-use Rattle.std.specs.Prelude.{ℕ, ◌≡◌, ◌^◌, ◌≤◌, ◌<◌, suc, if◌then◌else◌, List, [], ◌∷◌, ◌++◌, map, Bool, true, false, Option, Some, None, Result, Ok, Err, decimal, codes}
+use Rattle.std.specs.Prelude.{ℕ, ◌≡◌, ◌^◌, ◌≤◌, ◌<◌, suc, if◌then◌else◌, List, [], ◌∷◌, ◌++◌, Bool, true, false, Option, Some, None, Result, Ok, Err, decimal, codes}
 use Rattle.std.specs.Str.{bytes_eq}
 use Rattle.std.specs.List.{join_with_byte, AllByRecursion}
 use Rattle.lt_ids.specs.Key.{IsKey, key_fault}
@@ -11,11 +11,12 @@ use Rattle.lt_checker.specs.declared.error.HistoryLineError.TheVariants as refus
 use Rattle.lt_checker.specs.declared.line.LineStep.{LineStep}
 use Rattle.lt_checker.specs.declared.line.Line.{Line}
 use Rattle.lt_text.specs.Maybe.{◌>>=◌}
-use Rattle.lt_text.specs.Fields.{ticket_word, number_within, ticket_of}
+use Rattle.lt_text.specs.Fields.{number_within, ticket_of}
 use Rattle.lt_entry.specs.Ranges.{IsTicket}
 use Rattle.lt_text.specs.Calls.{call_words, field_at, call_at}
 use Rattle.lt_entry.specs.Ranges.{IsCall}
 use Rattle.lt_text.specs.Replies.{reply_words, is_reply_of, reply_at}
+use Rattle.lt_text.specs.Lets.{lets_words}
 use Rattle.lt_entry.specs.Ranges.{IsReply}
 use Rattle.lt_ids.specs.declared.limits.TheConstants.{MAX_PASS}
 
@@ -26,11 +27,6 @@ pub record Parts : Type 0 where
   pub tickets : List Wait
 
 -- ---- writing
-
--- No words, or `let` and one or more tickets.
-abbrev pub lets_words : List Wait → List (List ℕ)
-lets_words [] = []
-lets_words (t ∷ ts) = codes "let" ∷ map ticket_word (t ∷ ts)
 
 -- The index, the pass, the call, the sign `=` and the reply.
 abbrev pub step_words : LineStep → List (List ℕ)

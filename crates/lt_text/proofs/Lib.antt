@@ -5,3 +5,4 @@ pub mod Plain
 pub mod FieldLaws
 pub mod CallLaws
 pub mod ReplyLaws
+pub mod LetLaws

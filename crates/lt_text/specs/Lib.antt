@@ -4,4 +4,5 @@ pub mod Number
 pub mod Fields
 pub mod Calls
 pub mod Replies
+pub mod Lets
 pub mod Compose

@@ -4,9 +4,8 @@ use crate::drawn::DrawnStep;
 use crate::step::ShownStep;
 use lt_ids::Ticket;
 use lt_rules::{Holder, KeyState, QueuedRequest, QueuedWriter};
-use lt_text::put::{
-    put_call, put_number, put_number_word, put_reply, put_ticket, put_time, put_word,
-};
+use lt_text::lets::{put_lets, put_tickets};
+use lt_text::put::{put_call, put_number, put_number_word, put_reply, put_time, put_word};
 use std::alloc::AllocError;
 
 /// Appends `TXN at TIMESTAMP`, or `-` if nobody holds the lock.
@@ -86,14 +85,11 @@ fn put_readers(out: &mut Vec<u8>, state: &KeyState) -> Result<(), AllocError> {
 }
 
 /// Appends the tickets of the waits that the step ended, or `-` if it ended none.
-fn put_tickets(out: &mut Vec<u8>, tickets: &[Ticket]) -> Result<(), AllocError> {
+fn put_tickets_or_none(out: &mut Vec<u8>, tickets: &[Ticket]) -> Result<(), AllocError> {
     if tickets.is_empty() {
         return put_word(out, b"-");
     }
-    for ticket in tickets {
-        put_ticket(out, *ticket)?;
-    }
-    Ok(())
+    put_tickets(out, tickets)
 }
 
 /// Appends the state of a key in words, with a space before each: `holder`, `reserved`, `writers` and `readers`, and
@@ -140,7 +136,7 @@ pub(crate) fn put_column(
         5 => put_reservation(out, step.state.reservation),
         6 => put_writers(out, &step.state),
         7 => put_readers(out, &step.state),
-        _ => put_tickets(out, &step.tickets),
+        _ => put_tickets_or_none(out, &step.tickets),
     }
 }
 
@@ -168,9 +164,5 @@ pub(crate) fn put_step_words(out: &mut Vec<u8>, step: &DrawnStep) -> Result<(), 
     put_call(out, step.call)?;
     put_word(out, b"=")?;
     put_reply(out, step.reply)?;
-    if step.tickets.is_empty() {
-        return Ok(());
-    }
-    put_word(out, b"let")?;
-    put_tickets(out, &step.tickets)
+    put_lets(out, &step.tickets)
 }

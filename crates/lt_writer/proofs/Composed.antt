@@ -3,14 +3,13 @@ use Rattle.std.proofs.Common.{◌≡◌, ℕ, List, [], ◌∷◌, ◌++◌, map
 use Rattle.std.proofs.lemmas.List.{append-nil}
 use Rattle.std.specs.Prelude.{codes}
 use Rattle.std.specs.Fmt.{decimal}
-use Rattle.std.specs.List.{join_with_byte, flat_map}
-use Rattle.lt_ids.specs.declared.ticket.Through.{Through}
+use Rattle.std.specs.List.{join_with_byte}
 use Rattle.lt_text.specs.Compose.{spaced}
-use Rattle.lt_text.specs.Fields.{ticket_word}
 use Rattle.lt_text.specs.Calls.{call_words}
 use Rattle.lt_text.specs.Replies.{reply_words}
 use Rattle.lt_entry.specs.declared.entry.Entry.{Entry}
-use Rattle.lt_checker.specs.Lines.{lets_words, line_text}
+use Rattle.lt_text.specs.Lets.{lets_words}
+use Rattle.lt_checker.specs.Lines.{line_text}
 use Rattle.lt_checker.specs.Histories.{parts_of_entry}
 
 spaced_more : (xs ys : List (List ℕ)) → spaced (xs ++ ys) ≡ spaced xs ++ spaced ys
@@ -21,14 +20,6 @@ spaced_more (x ∷ xs) ys = ap (λ (t : List ℕ). (32 ∷ x) ++ t) (spaced_more
 joined : (w : List ℕ) (ws : List (List ℕ)) → join_with_byte 32 (w ∷ ws) ≡ w ++ spaced ws
 joined w [] = sym (append-nil w)
 joined w (v ∷ ws) = ap (λ (t : List ℕ). w ++ 32 ∷ t) (joined v ws)
-
-pub tickets_are : (ts : List Through) → flat_map (λ t. 32 ∷ ticket_word t.ticket) ts ≡ spaced (map ticket_word (map (λ t. t.ticket) ts))
-tickets_are [] = refl
-tickets_are (t ∷ ts) = ap (λ (more : List ℕ). (32 ∷ ticket_word t.ticket) ++ more) (tickets_are ts)
-
-pub lets_are : (ts : List Through) (out : List ℕ) → (ts ≡ [] → ⊥) → (out ++ 32 ∷ codes "let") ++ flat_map (λ t. 32 ∷ ticket_word t.ticket) ts ≡ out ++ spaced (lets_words (map (λ t. t.ticket) ts))
-lets_are [] out some = absurd (some refl)
-lets_are (t ∷ ts) out some = append_assoc out (32 ∷ codes "let") _ ∙ ap (λ (more : List ℕ). out ++ 32 ∷ (codes "let" ++ more)) (tickets_are (t ∷ ts))
 
 regroup : (out key a b c d e f z : List ℕ) → (((((((out ++ key) ++ a) ++ b) ++ c) ++ d) ++ e) ++ f) ++ z ≡ out ++ ((key ++ (a ++ (b ++ ((c ++ (d ++ e)) ++ f)))) ++ z)
 regroup out key a b c d e f z = simp append_assoc

@@ -3,11 +3,8 @@
 //! [`put_histories`] collects the entries of all shards, sorts them by key without changing the order within a key,
 //! and writes one line for each. [`compose`] does the same into a new vector. Read next: `specs/Histories.antt`,
 //! which defines the text of a list of entries, and `printer.rt`, which writes it to a stream.
-ghost use Rattle.std.specs.Prelude.{◌≡◌, IsTrue, ◌%◌, ◌+◌, ◌<◌, ◌≤◌, ◌^◌, ◌++◌, ◌∷◌, [], OnOk, IfOk, map, length};
-ghost use Rattle.std.specs.List.{flat_map};
-ghost use Rattle.lt_text.specs.Compose.{spaced};
-ghost use Rattle.lt_text.specs.Fields.{ticket_word};
-ghost use Rattle.lt_checker.specs.Lines.{lets_words, line_text};
+ghost use Rattle.std.specs.Prelude.{◌≡◌, IsTrue, ◌%◌, ◌+◌, ◌<◌, ◌≤◌, ◌^◌, ◌++◌, [], OnOk, IfOk, map, length};
+ghost use Rattle.lt_checker.specs.Lines.{line_text};
 ghost use Rattle.lt_checker.specs.Histories.{parts_of_entry, stored_entries, IsOnlyText, IsTextOf};
 ghost use Rattle.lt_entry.specs.Legal.{key_part};
 ghost use Rattle.lt_writer.specs.Puts.{PutsOnlyText, PutsText};
@@ -20,8 +17,9 @@ ghost use Rattle.lt_writer.specs.Rank.{byte_or_0, rank_of};
 ghost use Rattle.lt_ids.specs.Key.{IsKey};
 
 use crate::Entry;
-use lt_ids::{Key, Through};
-use lt_text::put::{put_call, put_number_word, put_reply, put_ticket, put_word};
+use lt_ids::Key;
+use lt_text::lets::put_lets;
+use lt_text::put::{put_call, put_number_word, put_reply, put_word};
 use lt_text::words::is_name;
 use std::alloc::{AllocError, Global};
 use std::cmp::Ordering;
@@ -142,29 +140,6 @@ fn by_key<'a>(alloc: Global, shards: &'a [Vec<Entry>]) -> Result<Vec<Ranked<'a>>
     let mut entries = entries_of(alloc, shards)?;
     sort_by_key(&mut entries)?;
     Ok(entries)
-}
-
-/// Appends the tickets that were let through, with a space before each.
-fn put_tickets(out: &mut Vec<u8>, lets: &[Through]) -> Result<(), AllocError>
-    ensures { OnOk result (out.new.items ≡ out.old.items ++ flat_map (λ t. 32 ∷ ticket_word t.ticket) lets.now) }
-{
-    for t in lets {
-        put_ticket(out, t.ticket)?;
-    }
-    Ok(())
-}
-
-/// Appends `let` and the tickets, with a space before each word. Appends nothing if the step let nobody through.
-#[tactic(auto, using(crate::proofs::Composed::lets_are))]
-fn put_lets(out: &mut Vec<u8>, lets: &[Through]) -> Result<(), AllocError>
-    ensures { OnOk result (out.new.items ≡ out.old.items ++ spaced (lets_words (map (λ t. t.ticket) lets.now))) }
-{
-    if lets.is_empty() {
-        return Ok(());
-    }
-    put_word(out, b"let")?;
-    put_tickets(out, lets)?;
-    Ok(())
 }
 
 /// Appends the line of this entry, which is its key's step of this index.
