@@ -9,9 +9,10 @@ use crate::content::Content;
 use crate::held_ending::HeldEnding;
 use crate::seated::SeatedTable;
 use crate::shared_codes::{BUSY, LOST, enter_code, try_code};
-use lt_ids::{Access, Key, Timestamp, TxnId};
+use lt_ids::{Access, Key};
+use lt_shard::Answer;
 use lt_try::{EnterRefused, Guard, Left, Pass, abandon_all};
-use lt_walk::{into_left, leave_on};
+use lt_walk::{Terms, into_left, leave_on};
 use std::alloc::Global;
 use std::sync::Arc;
 
@@ -31,18 +32,25 @@ impl Drop for HeldShared {
     }
 }
 
-/// A pass of a table, and the accesses that its next request asks for.
+/// A pass of a table, the accesses that its next request asks for, and the room for the answers of that request.
 pub struct HeldPass {
     pub table: Arc<SeatedTable>,
     pub pass: Pass,
     pub wants: Vec<(Key, Access)>,
+    pub answers: Vec<Answer>,
     pub ghost of: { pass.of ≡ (arc_value table).of },
 }
 
 impl Drop for HeldPass {
     fn drop(self) {
-        let HeldPass { table, pass, wants } = self;
+        let HeldPass {
+            table,
+            pass,
+            wants,
+            answers,
+        } = self;
         pass.abandon();
+        drop(answers);
         drop(wants);
         drop(table);
     }
@@ -100,9 +108,7 @@ impl HeldShared {
 #[derive(Clone, Copy)]
 pub struct Entering {
     pub alloc: Global,
-    pub txn: Option<TxnId>,
-    pub ts: Timestamp,
-    pub longest: u32,
+    pub terms: Terms,
 }
 
 impl HeldPass {
@@ -111,24 +117,32 @@ impl HeldPass {
 
     /// Enters the request that the pass's accesses ask for.
     pub fn enter(self, by: &Entering) -> (Content, u32)
-        ensures entered { Enters by.now.txn by.now.ts by.now.longest result.1 (Some (Content.Pass self)) (Some result.0) }
+        ensures entered { Enters by.now.terms.txn by.now.terms.ts by.now.terms.longest result.1 (Some (Content.Pass self)) (Some result.0) }
         ensures opened { result.1 ≢ CLOSED }
     {
         let HeldPass {
             table,
             pass,
             mut wants,
+            answers,
         } = self;
-        match table.shared.enter(by.alloc, pass, by.txn, by.ts, wants.as_slice(), by.longest) {
+        let left = Left { pass, answers };
+        match table.shared.enter_again(by.alloc, left, by.terms, wants.as_slice()) {
             Ok(guard) => {
                 wants.clear();
                 let room = wants;
                 (Content::Guard(HeldGuard { table, guard, room }), DONE)
             }
-            Err(EnterRefused { pass, error }) => (
-                Content::Pass(HeldPass { table, pass, wants }),
-                enter_code(error),
-            ),
+            Err(EnterRefused { pass, error }) => {
+                let answers = Vec::new(by.alloc);
+                let held = HeldPass {
+                    table,
+                    pass,
+                    wants,
+                    answers,
+                };
+                (Content::Pass(held), enter_code(error))
+            }
         }
     }
 
@@ -136,14 +150,25 @@ impl HeldPass {
     pub fn go_back(self) -> Result<(), HeldPass>
         ensures { IfErr result (λ held. held ≡ self) }
     {
-        let HeldPass { table, pass, wants } = self;
+        let HeldPass {
+            table,
+            pass,
+            wants,
+            answers,
+        } = self;
         match table.seats.leave(pass) {
             Ok(()) => {
+                drop(answers);
                 drop(wants);
                 drop(table);
                 Ok(())
             }
-            Err(pass) => Err(HeldPass { table, pass, wants }),
+            Err(pass) => Err(HeldPass {
+                table,
+                pass,
+                wants,
+                answers,
+            }),
         }
     }
 }
@@ -178,11 +203,11 @@ impl HeldGuard {
     {
         let HeldGuard { table, guard, room } = self;
         let Left { pass, answers } = into_left(guard);
-        drop(answers);
         HeldPass {
             table,
             pass,
             wants: room,
+            answers,
         }
     }
 }

@@ -158,8 +158,13 @@ fn next_pass(alloc: Global, held: &mut HeldShared, out: &mut Handle) -> u32
         return MEMORY;
     };
     let pass = held.passes.pop().unwrap();
-    let wants = Vec::new(alloc);
-    *given = Content::Pass(HeldPass { table, pass, wants });
+    let held = HeldPass {
+        table,
+        pass,
+        wants: Vec::new(alloc),
+        answers: Vec::new(alloc),
+    };
+    *given = Content::Pass(held);
     out.put(given);
     DONE
 }

@@ -16,6 +16,7 @@ use crate::shapes::LtTerms;
 use crate::shared_codes::{poll_code, scan_code, scan_index};
 use core::mem;
 use lt_ids::{Access, Key, Timestamp, TxnId};
+use lt_walk::Terms;
 use std::alloc::Global;
 
 /// The access of a request that writes, or only reads.
@@ -90,7 +91,7 @@ impl Content {
 
 /// The request that has entered through a pass, or the pass whose request was refused. Other content stays as it is.
 fn entered(content: Content, by: &Entering) -> (Content, u32)
-    ensures entered { result.1 ≢ CLOSED → Enters by.now.txn by.now.ts by.now.longest result.1 (Some content) (Some result.0) }
+    ensures entered { result.1 ≢ CLOSED → Enters by.now.terms.txn by.now.terms.ts by.now.terms.longest result.1 (Some content) (Some result.0) }
     ensures kept { result.1 ≡ CLOSED → result.0 ≡ content }
     ensures opened { IsSome (pass_in (Some content)) → result.1 ≢ CLOSED }
 {
@@ -102,7 +103,7 @@ fn entered(content: Content, by: &Entering) -> (Content, u32)
 
 /// Enters the request, if the content is a pass.
 fn enter(content: &mut Content, by: &Entering) -> u32
-    ensures entered { result ≢ CLOSED → Enters by.now.txn by.now.ts by.now.longest result (Some content.old) (Some content.new) }
+    ensures entered { result ≢ CLOSED → Enters by.now.terms.txn by.now.terms.ts by.now.terms.longest result (Some content.old) (Some content.new) }
     ensures kept { result ≡ CLOSED → content.new ≡ content.old }
     ensures opened { IsSome (pass_in (Some content.old)) → result ≢ CLOSED }
 {
@@ -125,8 +126,7 @@ pub extern "C" fn lt_pass_enter(alloc: Global, handle: &mut Handle, terms: &LtTe
     let Some(mut content) = handle.take(alloc) else {
         return CLOSED;
     };
-    let by = Entering {
-        alloc,
+    let terms = Terms {
         txn: TxnId::new(terms.txn),
         ts: Timestamp {
             wall: terms.wall,
@@ -134,6 +134,7 @@ pub extern "C" fn lt_pass_enter(alloc: Global, handle: &mut Handle, terms: &LtTe
         },
         longest: terms.longest,
     };
+    let by = Entering { alloc, terms };
     let code = enter(&mut content, &by);
     content.legal();
     handle.put(content);

@@ -7,7 +7,7 @@ use crate::shard_value::ShardValue;
 use crate::table::Table;
 use lt_ids::{Access, Key, Timestamp, TxnId};
 use lt_rules::KeyTable;
-use lt_walk::{EnterRefused, Guard, Terms, enter_on};
+use lt_walk::{EnterRefused, Guard, Left, Terms, enter_on};
 use lt_words::{Name, Pass, Waker};
 use std::alloc::Global;
 
@@ -33,6 +33,7 @@ impl<N: Name, T: KeyTable, W: Waker, V: ShardValue> Table<N, T, W, V> {
     {
         let max_requests = self.config.max_requests;
         let terms = Terms { txn, ts, longest };
-        enter_on(&self.book, max_requests, alloc, pass, terms, accesses)
+        let left = Left::of(alloc, pass);
+        enter_on(&self.book, max_requests, alloc, left, terms, accesses)
     }
 }

@@ -42,9 +42,26 @@ impl<T: KeyTable + Drop, M: EmptyTables<T>, W: Waker> TryTable<T, M, W> {
         ensures entered { IfOk result (λ g. IsEntered pass accesses.now txn ts longest self.now.config.max_requests g) }
         ensures refused { IfErr result (λ e. IsRefused e.error pass accesses.now self.now.config.max_requests e.pass) }
     {
-        let max_requests = self.config.max_requests;
+        let left = Left::of(alloc, pass);
         let terms = Terms { txn, ts, longest };
-        enter_on(&self.book, max_requests, alloc, pass, terms, accesses)
+        self.enter_again(alloc, left, terms, accesses)
+    }
+
+    /// [`TryTable::enter`] through the pass of a request that has left. If its answers had room for those of this request, an
+    /// enter allocates nothing for them.
+    #[inline(always)]
+    pub fn enter_again(
+        &self,
+        alloc: Global,
+        left: Left,
+        terms: Terms,
+        accesses: &[(Key, Access)],
+    ) -> Result<Guard, EnterRefused>
+        requires pass { left.pass.of ≡ self.now.of }
+        ensures entered { IfOk result (λ g. IsEntered left.pass accesses.now terms.txn terms.ts terms.longest self.now.config.max_requests g) }
+        ensures refused { IfErr result (λ e. IsRefused e.error left.pass accesses.now self.now.config.max_requests e.pass) }
+    {
+        enter_on(&self.book, self.config.max_requests, alloc, left, terms, accesses)
     }
 
     /// Whether the request was let through: one load of the pass's status word, compared with the whole ticket of

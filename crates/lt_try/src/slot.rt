@@ -10,6 +10,7 @@ use counted_slot::{Counted, FREE, Fits, PRESENT, TAKEN};
 use lt_rules::KeyTable;
 use lt_shard::Shard;
 use lt_words::Front;
+use std::mem;
 
 /// Which shard stands in a slot: its book, its index in the book, and how many steps it may hold.
 #[derive(Drop)]
@@ -58,6 +59,7 @@ pub(crate) fn put_back<T: KeyTable + Drop>(slot: &ShardSlot<T>, boxed: BoxedShar
         claim.done();
         return false;
     }
-    let _ = claim.put(Some(boxed), FREE);
+    // The word was `PRESENT`, so there is nothing in the slot to drop.
+    mem::forget(claim.put(Some(boxed), FREE));
     true
 }

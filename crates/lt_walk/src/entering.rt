@@ -6,6 +6,7 @@ ghost use Rattle.lt_walk.specs.Entered.{IsEntered, IsRefused};
 
 use crate::guard::{Guard, guard_of};
 use crate::keys::{EnterError, key_list};
+use crate::leaving::Left;
 use crate::walk::Walk;
 use lt_ids::{Access, Key, Timestamp, TxnId};
 use lt_shard::Answer;
@@ -44,38 +45,47 @@ impl EnterRoom {
     fn new(
         alloc: Global,
         list: Vec<(Key, Access)>,
+        mut answers: Vec<Answer>,
         accesses: &[(Key, Access)],
     ) -> Result<EnterRoom, EnterError>
-        requires { list.items ≡ [] }
+        requires list { list.items ≡ [] }
+        requires answers { answers.items ≡ [] }
         ensures keys { IfOk result (λ room. IsKeyList accesses.now room.keys.items) }
         ensures none { (result ≡ Err EnterError.NoKeys) ↔ (accesses.now ≡ []) }
         ensures many { (result ≡ Err EnterError.TooManyKeys) ↔ (256 < length accesses.now) }
         ensures drawn { result ≢ Err EnterError.NumbersOut }
     {
         let keys = key_list(alloc, list, accesses)?;
-        let answers = Vec::with_capacity(alloc, keys.len())?;
+        answers.reserve_exact(keys.len())?;
         Ok(EnterRoom { keys, answers })
     }
 }
 
 /// Enters a request with these accesses through the pass: lists its keys, and draws its number last. So none is drawn if
 /// the accesses are refused or an allocation fails. Its guard keeps the pass until the request leaves.
+///
+/// The answers that an earlier request left are dropped, and their room serves this request.
 #[inline(always)]
 pub fn enter_on(
     book: &Book,
     max_requests: u64,
     alloc: Global,
-    mut pass: Pass,
+    left: Left,
     terms: Terms,
     accesses: &[(Key, Access)],
 ) -> Result<Guard, EnterRefused>
-    requires pass { pass.of ≡ book.now }
+    requires pass { left.pass.of ≡ book.now }
     requires few { max_requests < 2 ^ 40 }
-    ensures entered { IfOk result (λ g. IsEntered pass accesses.now terms.txn terms.ts terms.longest max_requests g) }
-    ensures refused { IfErr result (λ e. IsRefused e.error pass accesses.now max_requests e.pass) }
+    ensures entered { IfOk result (λ g. IsEntered left.pass accesses.now terms.txn terms.ts terms.longest max_requests g) }
+    ensures refused { IfErr result (λ e. IsRefused e.error left.pass accesses.now max_requests e.pass) }
 {
+    let Left {
+        mut pass,
+        mut answers,
+    } = left;
+    answers.clear();
     let list = pass.take_list(alloc);
-    let room = match EnterRoom::new(alloc, list, accesses) {
+    let room = match EnterRoom::new(alloc, list, answers, accesses) {
         Ok(room) => room,
         Err(error) => return Err(EnterRefused { pass, error }),
     };

@@ -10,11 +10,23 @@ use crate::walk::WalkParts;
 use crate::walk_progress::Mode;
 use lt_shard::{Answer, StepError};
 use lt_words::Pass;
+use std::alloc::Global;
 
 /// A request that has left every key: its pass, and an answer for each key, in the guard's order.
 pub struct Left {
     pub pass: Pass,
     pub answers: Vec<Answer>,
+}
+
+impl Left {
+    /// A pass through which no request has left.
+    #[inline(always)]
+    pub fn of(alloc: Global, pass: Pass) -> Left
+        ensures { result.pass ≡ pass }
+    {
+        let answers = Vec::new(alloc);
+        Left { pass, answers }
+    }
 }
 
 /// A leave that was refused. The guard is leaving and stays at the refused key; another leave continues there.
