@@ -9,22 +9,15 @@ ghost use Rattle.std.specs.Prelude.{◌≡◌};
 use crate::key_names::key_of;
 use crate::load::Load;
 use anyhow::bail;
+use lockbench_parts::hand_over::is_taken;
 use lt_ids::{Key, Timestamp, TxnId};
-use lt_rules::{KeyTable, Reply};
-use lt_table::{Answer, StepError, Table};
+use lt_rules::KeyTable;
+use lt_table::Table;
 use lt_test_kit::holds::Holds;
 use lt_test_kit::seat::Seat;
 use lt_words::{Name, Pass};
 use std::alloc::Global;
 use std::sync::Wait;
-
-/// Some if the acquire took a lock that was free.
-pub fn is_taken(answered: Result<Answer, StepError>) -> Option<()> {
-    match answered {
-        Ok(answer) if answer.reply == Reply::Taken => Some(()),
-        _ => None,
-    }
-}
 
 /// Takes the lock of the key for the transaction that makes no rounds. None if the lock is not taken.
 fn take_lock<N: Name, T: KeyTable, R: Wait>(

@@ -3,18 +3,18 @@
 //!
 //! The table keeps its history whole until it is closed, streams it to a thread that takes the steps while others
 //! are made, or records none. A further transaction may hold locks meanwhile. Read [`crate::drivers`] for what each
-//! pass does, [`crate::taking`] for the thread that takes the steps, and [`crate::holding`] for the locks that are
+//! pass does, [`lockbench_parts::taking`] for the thread that takes the steps, and [`crate::holding`] for the locks that are
 //! held.
 ghost use Rattle.std.specs.Prelude.{◌≡◌, unwrap_or};
 
-use crate::closing::{Ending, close};
 use crate::drivers::{Driver, Tally, all_of, drive, drive_in_turn, drivers_of, gathered};
 use crate::holding::holder_of;
 use crate::key_names::keys_of;
-use crate::spent::{Spent, Start, tell_times};
-use crate::taking::{Piece, Taker, take_until};
-use crate::words::name_of;
 use anyhow::bail;
+use lockbench_parts::closing::{Ending, close};
+use lockbench_parts::keeping::name_of;
+use lockbench_parts::spent::{Spent, Start, tell_times};
+use lockbench_parts::taking::{Piece, Taker, take_until};
 use lt_history::print;
 use lt_ids::{Key, MAX_REQUEST, MAX_WAIT};
 use lt_rules::KeyTable;

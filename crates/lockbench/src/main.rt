@@ -3,23 +3,19 @@
 //!
 //! - `load` times rounds of a store's transactions, on one thread or many. The table keeps its history whole,
 //!   streams it, or records none, and may hold further locks meanwhile. Read [`load`] and then [`drivers`].
-//! - `hand-over` times how a lock goes from transaction to transaction while requests wait for it. Read [`hand_over`].
-//! - `soak --seconds N` plays random requests on threads for N seconds and checks the histories. Read [`soak`].
+//! - `hand-over` times how a lock goes from transaction to transaction while requests wait for it. Read `lockbench_parts`.
+//! - `soak --seconds N` plays random requests on threads for N seconds and checks the histories. Read
+//!   `lockbench_parts`.
 #![tactic(auto)]
 
-mod closing;
 mod drivers;
-mod hand_over;
 mod holding;
 mod key_names;
 mod load;
-mod memory;
-mod soak;
-mod spent;
-mod taking;
 mod words;
 
 use crate::words::BenchJob;
+use lockbench_parts::{hand_over, soak};
 use std::env;
 use std::sync::Wait;
 use std::thread::Threads;

@@ -2,12 +2,12 @@
 //! fault.
 //!
 //! The defaults and ranges of the options are in [`load_of`], [`hand_over_of`] and [`soak_of`]; their help texts are with the options.
-use crate::hand_over::HandOver;
 use crate::load::Load;
-use crate::soak::Soak;
 use anyhow::bail;
 use clap::error::ErrorKind;
 use clap::{Arg, ArgAction, ArgMatches, Command, Error};
+use lockbench_parts::hand_over::HandOver;
+use lockbench_parts::soak::Soak;
 use lt_table::{Keeping, MAX_KEY_BYTES, MAX_PASS, MAX_SHARDS};
 use std::alloc::{AllocError, Global};
 
@@ -160,15 +160,6 @@ fn keeping_of(matches: &ArgMatches<'_>) -> anyhow::Result<Keeping> {
         Some("streamed") => Ok(Keeping::Streamed),
         Some("unrecorded") => Ok(Keeping::Unrecorded),
         Some(_) => bail!("--history is whole, streamed or unrecorded"),
-    }
-}
-
-/// The name of a way to keep steps, as on the command line.
-pub fn name_of(keeping: Keeping) -> &'static str {
-    match keeping {
-        Keeping::Whole => "whole",
-        Keeping::Streamed => "streamed",
-        Keeping::Unrecorded => "unrecorded",
     }
 }
 

@@ -11,7 +11,7 @@
 //! sorts, `lt_trace_check` and `lt_checker` check, `lt_trace_waits` judges waits, `lt_trace_statistics` counts, and
 //! `lt_trace_picture` draws.
 //!
-//! Read next: `src/task.rt` for what each command does, `src/words.rt` for the command line.
+//! Read next: `src/task.rt` for what each command does, `locktrace_words` for the command line.
 #![tactic(auto)]
 
 mod audit;
@@ -20,20 +20,16 @@ mod explain;
 mod failure;
 mod follow;
 mod gather;
-mod help;
 mod input;
-mod layout;
 mod output;
 mod progress_line;
 mod task;
-mod words;
 
 use crate::check::{check_file, len_of_file};
 use crate::failure::{TraceFailure, fault_of, status};
-use crate::layout::width_of;
 use crate::progress_line::ProgressLine;
 use crate::task::{STREAMS, TaskNames, names_of, perform};
-use crate::words::{Task, TaskError, read_task};
+use locktrace_words::{Task, TaskError, read_task, width_of};
 use lt_trace_picture::Terminal;
 use std::env::{self, VarError};
 use std::io::{ErrorKind, IsTerminal};

@@ -7,7 +7,7 @@ use crate::follow::{StepTaker, follow_steps, write_text};
 use crate::input::{buffered, open};
 use crate::output::{Output, ending_of};
 use crate::progress_line::ProgressLine;
-use crate::words::{PictureWords, SortWords, Task, WantedSteps};
+use locktrace_words::{PictureWords, SortWords, Task, WantedSteps};
 use lt_checker::{Checker, Line};
 use lt_ids::Key;
 use lt_rules::KeyState;

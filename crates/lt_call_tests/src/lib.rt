@@ -6,18 +6,14 @@
 //!   its steps, and [`keeping`] on a table that streams its steps or records none. [`worked`], [`kept`] and
 //!   [`learning`] have the tests. [`closing`] tries to close a table without its last pass.
 //! - **Failed allocations.** The tests of [`refusals`] and [`rules`] pass under any single allocation failure.
-//!   [`refusing`] plays the script of the former. [`giving_up`] gives locks up where memory has ended.
-//!   [`counting`] makes the calls that take no memory. [`valuing`] has finishes refused that would have lent a value.
+//!   [`refusing`] plays the script of the former. [`valuing`] has finishes refused that would have lent a value. Calls where
+//!   memory has ended are in `lt_memory_tests`.
 //!
 //! Worked schedules are scripts of the tool (`lt_tool_tests`).
 #![tactic(auto)]
 
 #[cfg(test)]
 mod closing;
-#[cfg(test)]
-mod counting;
-#[cfg(test)]
-mod giving_up;
 #[cfg(test)]
 mod keeping;
 #[cfg(test)]

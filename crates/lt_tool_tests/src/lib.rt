@@ -1,10 +1,12 @@
-//! What do runs of the program write, byte by byte, and how do they fail?
+//! What do the jobs of the program write, byte by byte, and how do they fail?
 //!
-//! [`scripts`] runs scripts, and [`words`] plays command lines. `lt_tool_test_kit` has the readers, writers and gates
-//! that they share with `lt_text_tests`, which has the texts of histories. Start with [`scripts`].
+//! [`scripts`] runs scripts, [`checks`] checks and upgrades texts, and [`long`] has long scripts and texts. `lt_tool_test_kit` has the
+//! readers, writers and gates that they share with `lt_command_tests`, which plays command lines. Start with [`scripts`].
 #![tactic(auto)]
 
 #[cfg(test)]
-mod scripts;
+mod checks;
 #[cfg(test)]
-mod words;
+mod long;
+#[cfg(test)]
+mod scripts;

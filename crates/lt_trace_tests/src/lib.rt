@@ -1,13 +1,8 @@
 //! Do the crates for traces do what no contract of theirs says? [`sorting`] sorts traces through temporary files that
-//! fail and fill up. [`audits`] cuts texts at every byte and compares the verdicts. [`explanations`] compares what is said
-//! of faulty lines with what was worked out by hand, [`pictures`] tables and pictures, and [`summaries`] the figures of a
-//! text.
+//! fail and fill up. [`pictures`] compares tables and pictures with what was worked out by hand, and [`summaries`] the
+//! figures of a text. The tests of the check are in `lt_trace_check_tests`.
 #![tactic(auto)]
 
-#[cfg(test)]
-mod audits;
-#[cfg(test)]
-mod explanations;
 #[cfg(test)]
 mod pictures;
 #[cfg(test)]

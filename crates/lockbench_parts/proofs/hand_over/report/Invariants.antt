@@ -1,4 +1,4 @@
-use Rattle.lockbench.proofs.hand_over.report.Given as goal
+use Rattle.lockbench_parts.proofs.hand_over.report.Given as goal
 
 -- Instantiates the name with the book that was prepared for this load.
 abbrev pub ghosts-play : goal.ghosts-play

@@ -1,4 +1,4 @@
-use Rattle.lt_call_tests.proofs.counting.run_in_room.Given as goal
+use Rattle.lt_memory_tests.proofs.counting.run_in_room.Given as goal
 
 -- the name of the book that was just opened
 abbrev pub ghosts-make_in_room : goal.ghosts-make_in_room

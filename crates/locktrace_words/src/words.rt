@@ -1,8 +1,8 @@
 //! Which task do the words of the command line ask for?
 //!
 //! The first half of the file builds the command line for clap from [`COMMANDS`], a row for each command. The second
-//! half turns clap's matches into a [`Task`]. [`read_task`] combines the two. Read next: `task.rt`, which performs a
-//! task.
+//! half turns clap's matches into a [`Task`]. [`read_task`] combines the two. Read next: `task.rt` of `locktrace`, which
+//! performs a task.
 use crate::help;
 use crate::layout::{choice_of, layout_of, width_of};
 use clap::error::ErrorKind;

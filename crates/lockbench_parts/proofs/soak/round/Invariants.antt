@@ -1,4 +1,4 @@
-use Rattle.lockbench.proofs.soak.round.Given as goal
+use Rattle.lockbench_parts.proofs.soak.round.Given as goal
 
 -- Instantiates the name with the book that was prepared for this round.
 abbrev pub ghosts-play_named : goal.ghosts-play_named

@@ -12,9 +12,8 @@
 ghost use Rattle.std.specs.Prelude.{◌≡◌};
 
 use crate::closing::{Ending, close};
-use crate::holding::is_taken;
+use crate::keeping::name_of;
 use crate::spent::{Spent, Start, tell_nanoseconds, tell_times};
-use crate::words::name_of;
 use anyhow::bail;
 use lt_ids::{Access, Key, MAX_REQUEST, MAX_WAIT, Timestamp, TxnId};
 use lt_rules::{KeyTable, Reply};
@@ -92,6 +91,14 @@ fn contenders_of<N: Name>(alloc: Global, seats: Vec<Seat<N>>) -> Option<Vec<Cont
 fn accesses_of(alloc: Global) -> Option<[(Key, Access); 1]> {
     let key = Key::from_bytes(alloc, b"k0").ok()?;
     Some([(key, Access::Write)])
+}
+
+/// Some if the acquire took a lock that was free.
+pub fn is_taken(answered: Result<Answer, StepError>) -> Option<()> {
+    match answered {
+        Ok(answer) if answer.reply == Reply::Taken => Some(()),
+        _ => None,
+    }
 }
 
 /// Some if a finish freed the lock.

@@ -1,4 +1,4 @@
-use Rattle.lt_call_tests.proofs.giving_up.run.Given as goal
+use Rattle.lt_memory_tests.proofs.counting.run.Given as goal
 
 -- the name of the book that was just opened
 abbrev pub ghosts-run_named : goal.ghosts-run_named

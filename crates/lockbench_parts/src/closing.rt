@@ -1,8 +1,7 @@
 //! How is a table closed, for each way in which it keeps its steps? [`close`] joins the steps that were taken
 //! while it ran with those that are left.
 //!
-//! [`crate::taking`] takes the steps of a streamed table. [`crate::load`] and [`crate::soak`] call [`close`] at
-//! the end.
+//! [`crate::taking`] takes the steps of a streamed table. Each job calls [`close`] at the end.
 use crate::taking::Piece;
 use lt_entry::Entry;
 use lt_rules::KeyTable;
