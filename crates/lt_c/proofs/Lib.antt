@@ -1,5 +1,1 @@
-pub mod WalkSteps
-pub mod Boxes
-pub mod Copied
-pub mod Hearing
 pub mod Lined

@@ -9,7 +9,7 @@ use Rattle.lt_text.specs.Calls.{call_words}
 use Rattle.lt_text.specs.Replies.{reply_words}
 use Rattle.lt_entry.specs.declared.entry.Entry.{Entry}
 use Rattle.lt_text.specs.Lets.{lets_words}
-use Rattle.lt_c.specs.Lines.{index_words, step_line}
+use Rattle.lt_handles.specs.Lines.{index_words, step_line}
 
 spaced_more : (xs ys : List (List ℕ)) → spaced (xs ++ ys) ≡ spaced xs ++ spaced ys
 spaced_more [] ys = refl

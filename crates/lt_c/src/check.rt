@@ -3,16 +3,16 @@
 ghost use Rattle.std.specs.Prelude.{◌≡◌, ◌≢◌, [], ℕ, List, Some, None, IsSome, IsNone, is_some};
 ghost use Rattle.lt_checker.specs.Verdict.{IsLegalText};
 ghost use Rattle.lt_checker.specs.Pieces.{IsCountable};
-ghost use Rattle.lt_c.specs.Checks.{Checks, Tells, legal_report};
-ghost use Rattle.lt_c.specs.CheckPieces.{HasHeardText, HearsPiece, EndsCheck, OnCheck, OnChecks};
-ghost use Rattle.lt_c.specs.Content.{check_in};
+ghost use Rattle.lt_handles.specs.Checks.{Checks, Tells, legal_report};
+ghost use Rattle.lt_handles.specs.CheckPieces.{HasHeardText, HearsPiece, EndsCheck, OnCheck, OnChecks};
+ghost use Rattle.lt_handles.specs.Content.{check_in};
 
-use crate::codes::{CLOSED, DONE, MEMORY, OPEN_ALREADY, fault_code};
-use crate::content::Content;
-use crate::handle::Handle;
-use crate::held_check::HeldCheck;
-use crate::shapes::LtReport;
 use lt_checker::{CheckError, Report, check};
+use lt_handles::codes::{CLOSED, DONE, MEMORY, OPEN_ALREADY, fault_code};
+use lt_handles::content::Content;
+use lt_handles::handle::Handle;
+use lt_handles::held_check::HeldCheck;
+use lt_handles::shapes::LtReport;
 use std::alloc::Global;
 
 /// Fills the report with the verdict, and returns its code.

@@ -1,13 +1,13 @@
 //! How does C learn whom its steps let through, so that it wakes them? It asks after each call that may let others through.
 ghost use Rattle.std.specs.Prelude.{◌≡◌, ◌≢◌, Some, true, false};
-ghost use Rattle.lt_c.specs.Shared.{OnCaller, TellsLet, has_pass, number_in};
+ghost use Rattle.lt_handles.specs.Shared.{OnCaller, TellsLet, has_pass, number_in};
 
-use crate::codes::{CLOSED, DONE};
-use crate::content::Content;
-use crate::handle::Handle;
-use crate::held_shared::{HeldGuard, HeldPass};
-use crate::shapes::{LtThrough, raw_let};
-use crate::shared_codes::NO_LET;
+use lt_handles::codes::{CLOSED, DONE};
+use lt_handles::content::Content;
+use lt_handles::handle::Handle;
+use lt_handles::held_shared::{HeldGuard, HeldPass};
+use lt_handles::shapes::{LtThrough, raw_let};
+use lt_handles::shared_codes::NO_LET;
 use std::alloc::Global;
 
 /// Takes a let of the pass's steps out, if one is left.

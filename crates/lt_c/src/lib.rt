@@ -26,44 +26,29 @@
 //!   latest let is left to be told until it is taken out.
 //! - Every argument is tested. A call requires nothing of a key, a number or a length.
 //!
-//! What C must do, because no proof covers it: declare the structs of `shapes.rt` and the functions as they are here,
+//! What C must do, because no proof covers it: declare the structs of `shapes.rt` of `lt_handles` and the functions as they are here,
 //! pass pointers to memory of these types that the call alone uses, set a handle to zero before its first call, and
 //! neither copy nor write a handle. A pointer and a length are a slice; the pointer is not null, even if the length
 //! is 0. `alloc` takes no bytes, so C does not pass it. The library takes memory by the three functions that begin
 //! with `rattle_`.
 //!
-//! Read next: `steps.rt`, `looks.rt`, `lists.rt`, `check.rt` and `shard.rt` have the exports, and `codes.rt` has what they
-//! answer. `opening.rt`, `requests.rt`, `pass_steps.rt`, `letting.rt`, `pass_looks.rt` and `pass_keys.rt` have those of the shared table,
-//! `taking.rt`, `ending.rt`, `taken_steps.rt` and `step_lines.rt` those of its history, and
-//! `shared_codes.rt` has what they answer beside. `handle.rt` and `slot.rt` have the handle, `content.rt` says what an open
-//! one holds, and `calls.rt` has the visit that C asks for. In `specs/`, `Steps`, `Looks`, `Lists`, `CheckPieces`,
-//! `Shared`, `PassLooks`, `Taking`, `Lines` and `Ending` define what the contracts of the exports say.
+//! Read next: `steps.rt`, `looks.rt`, `lists.rt`, `check.rt` and `shard.rt` have the exports. `opening.rt`, `requests.rt`,
+//! `pass_steps.rt`, `letting.rt`, `pass_looks.rt` and `pass_keys.rt` have those of the shared table, and `taking.rt`, `ending.rt`,
+//! `taken_steps.rt` and `step_lines.rt` those of its history. `lt_handles` has what a handle holds, the structs and the codes, and
+//! its `specs/` define what the contracts of the exports say.
 #![tactic(auto)]
 
-mod calls;
 mod check;
-mod codes;
-mod content;
 mod ending;
-mod handle;
-mod held;
-mod held_check;
-mod held_ending;
-mod held_shared;
 mod letting;
 mod lists;
 mod looks;
 mod opening;
-mod pass_call;
 mod pass_keys;
 mod pass_looks;
 mod pass_steps;
 mod requests;
-mod seated;
-mod shapes;
 mod shard;
-mod shared_codes;
-mod slot;
 mod step_lines;
 mod steps;
 mod taken_steps;

@@ -2,16 +2,16 @@
 //! changes nothing in the table. Lets that are left do not keep C from looking. Read next `lists.rt`.
 ghost use Rattle.std.specs.Prelude.{◌≡◌, ◌≢◌, ◌≤◌, ◌<◌, Some, None, IfOk, IfErr, OnOk, length};
 ghost use Rattle.lt_rules.specs.Table.{record_at};
-ghost use Rattle.lt_c.specs.Content.{table_in};
-ghost use Rattle.lt_c.specs.Codes.{IsReplyUnless, IsDoneUnless};
-ghost use Rattle.lt_c.specs.Looks.{bytes_refusal, look_refusal, Looks, ShowsKey};
-ghost use Rattle.lt_c.specs.Steps.{OnTable};
+ghost use Rattle.lt_handles.specs.Content.{table_in};
+ghost use Rattle.lt_handles.specs.Codes.{IsReplyUnless, IsDoneUnless};
+ghost use Rattle.lt_handles.specs.Looks.{bytes_refusal, look_refusal, Looks, ShowsKey};
+ghost use Rattle.lt_handles.specs.Steps.{OnTable};
 
-use crate::codes::{CLOSED, DONE, FIRST_REPLY, MEMORY, key_code, reply_code, reply_txn};
-use crate::content::Content;
-use crate::handle::Handle;
-use crate::held::HeldTable;
-use crate::shapes::{LtKey, raw_key};
+use lt_handles::codes::{CLOSED, DONE, FIRST_REPLY, MEMORY, key_code, reply_code, reply_txn};
+use lt_handles::content::Content;
+use lt_handles::handle::Handle;
+use lt_handles::held::HeldTable;
+use lt_handles::shapes::{LtKey, raw_key};
 use lt_ids::Key;
 use lt_rules::KeyState;
 use std::alloc::Global;

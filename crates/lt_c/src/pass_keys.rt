@@ -4,18 +4,18 @@ ghost use Rattle.std.specs.Option.{option_copied};
 ghost use Rattle.lt_words.specs.History.{part};
 ghost use Rattle.lt_words.specs.Row.{SeesMore};
 ghost use Rattle.lt_shard.specs.Shards.{AreLockedKeysAfter};
-ghost use Rattle.lt_c.specs.Content.{pass_in};
-ghost use Rattle.lt_c.specs.Lists.{after_key, after_refusal};
-ghost use Rattle.lt_c.specs.PassLooks.{SeesKeys, ListsShard, keys_refusal_at};
-ghost use Rattle.lt_c.specs.Shared.{OnPasses, IsSeenUnless};
+ghost use Rattle.lt_handles.specs.Content.{pass_in};
+ghost use Rattle.lt_handles.specs.Lists.{after_key, after_refusal};
+ghost use Rattle.lt_handles.specs.PassLooks.{SeesKeys, ListsShard, keys_refusal_at};
+ghost use Rattle.lt_handles.specs.Shared.{OnPasses, IsSeenUnless};
 
-use crate::codes::{CLOSED, DONE, FIRST_REPLY};
-use crate::content::Content;
-use crate::handle::Handle;
-use crate::held_shared::HeldPass;
 use crate::lists::{after_key, write_keys};
-use crate::shapes::LtKeyName;
-use crate::shared_codes::{BAD_SHARD, try_code};
+use lt_handles::codes::{CLOSED, DONE, FIRST_REPLY};
+use lt_handles::content::Content;
+use lt_handles::handle::Handle;
+use lt_handles::held_shared::HeldPass;
+use lt_handles::shapes::LtKeyName;
+use lt_handles::shared_codes::{BAD_SHARD, try_code};
 use lt_ids::Key;
 use std::alloc::Global;
 

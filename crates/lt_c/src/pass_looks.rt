@@ -1,16 +1,16 @@
 //! What does C see of a key of a shared table? The record after the steps that its pass has then seen.
 ghost use Rattle.std.specs.Prelude.{◌≡◌, ◌≢◌, ◌<◌, Some, None, IfOk, IfErr, OnOk, OnErr};
-ghost use Rattle.lt_c.specs.Shared.{OnCaller, SeesLegal, SeesRecord, IsSeenUnless, caller_refusal};
-ghost use Rattle.lt_c.specs.PassLooks.{ShowsRecord};
-ghost use Rattle.lt_c.specs.Looks.{bytes_refusal};
+ghost use Rattle.lt_handles.specs.Shared.{OnCaller, SeesLegal, SeesRecord, IsSeenUnless, caller_refusal};
+ghost use Rattle.lt_handles.specs.PassLooks.{ShowsRecord};
+ghost use Rattle.lt_handles.specs.Looks.{bytes_refusal};
 
-use crate::codes::{CLOSED, DONE, FIRST_REPLY, key_code};
-use crate::content::Content;
-use crate::handle::Handle;
-use crate::held_shared::{HeldGuard, HeldPass};
 use crate::lists::{write_readers, write_writers};
-use crate::shapes::{LtKey, LtQueued, raw_key};
-use crate::shared_codes::try_code;
+use lt_handles::codes::{CLOSED, DONE, FIRST_REPLY, key_code};
+use lt_handles::content::Content;
+use lt_handles::handle::Handle;
+use lt_handles::held_shared::{HeldGuard, HeldPass};
+use lt_handles::shapes::{LtKey, LtQueued, raw_key};
+use lt_handles::shared_codes::try_code;
 use lt_ids::Key;
 use lt_rules::KeyState;
 use std::alloc::Global;

@@ -1,7 +1,7 @@
 //! Which shard has a key, if a store spreads its keys over tables? A store in C can have one table per shard, each
 //! behind a lock of its own.
 ghost use Rattle.std.specs.Prelude.{◌≡◌, ◌≤◌, ◌<◌, length};
-ghost use Rattle.lt_c.specs.Shard.{shard_of_bytes};
+ghost use Rattle.lt_handles.specs.Shard.{shard_of_bytes};
 
 use lt_ids::MAX_KEY_BYTES;
 

@@ -1,16 +1,16 @@
 //! How does C write the steps that it holds? Line by line, as a trace or a text of histories has them (docs/FORMATS.md).
 ghost use Rattle.std.specs.Prelude.{◌≡◌, ◌≢◌, ◌≤◌, ◌++◌, Some, None, OnOk, IfOk, IfErr, length, drop};
 ghost use Rattle.lt_text.specs.Compose.{spaced};
-ghost use Rattle.lt_c.specs.Codes.{IsDoneUnless};
-ghost use Rattle.lt_c.specs.Content.{steps_in};
-ghost use Rattle.lt_c.specs.Taking.{OnStep, OnSteps, place_refusal};
-ghost use Rattle.lt_c.specs.Lines.{WritesFirst, index_words, step_line};
+ghost use Rattle.lt_handles.specs.Codes.{IsDoneUnless};
+ghost use Rattle.lt_handles.specs.Content.{steps_in};
+ghost use Rattle.lt_handles.specs.Taking.{OnStep, OnSteps, place_refusal};
+ghost use Rattle.lt_handles.specs.Lines.{WritesFirst, index_words, step_line};
 
-use crate::codes::{CLOSED, DONE, MEMORY};
-use crate::content::Content;
-use crate::handle::Handle;
-use crate::shared_codes::BAD_INDEX;
 use lt_entry::Entry;
+use lt_handles::codes::{CLOSED, DONE, MEMORY};
+use lt_handles::content::Content;
+use lt_handles::handle::Handle;
+use lt_handles::shared_codes::BAD_INDEX;
 use lt_shard::Rest;
 use lt_text::lets::put_lets;
 use lt_text::put::{put_call, put_number_word, put_reply, put_word};

@@ -1,15 +1,15 @@
 //! What does C see of the steps that a handle holds? How many there are, and each by its index. Nothing here changes them.
 ghost use Rattle.std.specs.Prelude.{◌≡◌, ◌≢◌, Some, None, IsSome, IsNone, is_some, if◌then◌else◌, unwrap_or};
-ghost use Rattle.lt_c.specs.Content.{steps_in};
-ghost use Rattle.lt_c.specs.Taking.{OnStep, OnSteps, ShowsStep, CountsSteps, place_refusal};
+ghost use Rattle.lt_handles.specs.Content.{steps_in};
+ghost use Rattle.lt_handles.specs.Taking.{OnStep, OnSteps, ShowsStep, CountsSteps, place_refusal};
 
-use crate::codes::{CLOSED, DONE};
-use crate::content::Content;
-use crate::handle::Handle;
-use crate::held::write_lets;
-use crate::shapes::{LtStep, LtThrough, raw_step};
-use crate::shared_codes::BAD_INDEX;
 use lt_entry::Entry;
+use lt_handles::codes::{CLOSED, DONE};
+use lt_handles::content::Content;
+use lt_handles::handle::Handle;
+use lt_handles::held::write_lets;
+use lt_handles::shapes::{LtStep, LtThrough, raw_step};
+use lt_handles::shared_codes::BAD_INDEX;
 use lt_shard::Rest;
 use std::alloc::Global;
 

@@ -1,15 +1,15 @@
 //! How does C take a table's steps out while it runs? A pass takes those of a shard, and a handle of their own then holds them.
 //! Read next `taken_steps.rt`.
 ghost use Rattle.std.specs.Prelude.{◌≡◌, ◌≢◌, Some, None, IsSome, IsNone, IfOk, IfErr, OnErr};
-ghost use Rattle.lt_c.specs.Content.{pass_in};
-ghost use Rattle.lt_c.specs.Shared.{OnPasses};
-ghost use Rattle.lt_c.specs.Taking.{TakesSteps, MakesNothing, OnTake, IsTakenUnless, take_refusal, take_refusal_of, whole_refusal};
+ghost use Rattle.lt_handles.specs.Content.{pass_in};
+ghost use Rattle.lt_handles.specs.Shared.{OnPasses};
+ghost use Rattle.lt_handles.specs.Taking.{TakesSteps, MakesNothing, OnTake, IsTakenUnless, take_refusal, take_refusal_of, whole_refusal};
 
-use crate::codes::{CLOSED, DONE, MEMORY, OPEN_ALREADY};
-use crate::content::Content;
-use crate::handle::Handle;
-use crate::held_shared::HeldPass;
-use crate::shared_codes::{BAD_SHARD, KEPT_WHOLE, LOST, try_code};
+use lt_handles::codes::{CLOSED, DONE, MEMORY, OPEN_ALREADY};
+use lt_handles::content::Content;
+use lt_handles::handle::Handle;
+use lt_handles::held_shared::HeldPass;
+use lt_handles::shared_codes::{BAD_SHARD, KEPT_WHOLE, LOST, try_code};
 use lt_shard::Rest;
 use lt_words::Keeping;
 use std::alloc::Global;

@@ -1,5 +1,5 @@
 use Rattle.std.proofs.Common.{◌≡◌, ◌∙◌, ◌<◌, arith, rules, refl, sym, ap, ℕ, List, [], ◌∷◌, Some, length}
-use Rattle.lt_c.specs.Lists.{after_key}
+use Rattle.lt_handles.specs.Lists.{after_key}
 use Rattle.lt_c.proofs.lists.after_key.Goals as goal
 
 some_key : (bs : List ℕ) → 0 < length bs → after_key bs ≡ Some bs

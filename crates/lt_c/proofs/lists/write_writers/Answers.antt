@@ -1,6 +1,6 @@
 use Rattle.std.proofs.Common.{arith}
-use Rattle.lt_c.specs.Shapes.{raw_writer}
-use Rattle.lt_c.proofs.Copied.{written-more}
+use Rattle.lt_handles.specs.Shapes.{raw_writer}
+use Rattle.lt_handles.proofs.Copied.{written-more}
 use Rattle.lt_c.proofs.lists.write_writers.Goals as goal
 
 pub loop-i-preserved : goal.loop-i-preserved

@@ -1,5 +1,5 @@
 use Rattle.std.proofs.Common.{◌≡◌, ◌++◌, map, take, drop}
-use Rattle.lt_c.specs.Shapes.{raw_writer}
+use Rattle.lt_handles.specs.Shapes.{raw_writer}
 use Rattle.lt_c.proofs.lists.write_writers.Given as goal
 
 abbrev pub invariant-loop-i : goal.invariant-loop-i

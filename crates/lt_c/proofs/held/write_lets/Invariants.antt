@@ -1,6 +1,0 @@
-use Rattle.std.proofs.Common.{◌≡◌, ◌++◌, map, take, drop}
-use Rattle.lt_c.specs.Shapes.{raw_let}
-use Rattle.lt_c.proofs.held.write_lets.Given as goal
-
-abbrev pub invariant-loop-i : goal.invariant-loop-i
-invariant-loop-i l = l.array ≡ map raw_let (take l.i l.lets) ++ drop l.i l.fn.array

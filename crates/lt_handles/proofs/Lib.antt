@@ -1,0 +1,4 @@
+pub mod WalkSteps
+pub mod Boxes
+pub mod Copied
+pub mod Hearing
