@@ -61,7 +61,14 @@ impl<T: KeyTable + Drop, M: EmptyTables<T>, W: Waker> TryTable<T, M, W> {
         ensures entered { IfOk result (λ g. IsEntered left.pass accesses.now terms.txn terms.ts terms.longest self.now.config.max_requests g) }
         ensures refused { IfErr result (λ e. IsRefused e.error left.pass accesses.now self.now.config.max_requests e.pass) }
     {
-        enter_on(&self.book, self.config.max_requests, alloc, left, terms, accesses)
+        enter_on(
+            &self.book,
+            self.config.max_requests,
+            alloc,
+            left,
+            terms,
+            accesses,
+        )
     }
 
     /// Whether the request was let through: one load of the pass's status word, compared with the whole ticket of
