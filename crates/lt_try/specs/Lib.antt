@@ -1,2 +1,3 @@
 pub mod Tags
+pub mod Slots
 pub mod Refused

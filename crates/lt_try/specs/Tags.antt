@@ -1,5 +1,6 @@
--- Which shard stands in a slot, and what contracts see of a table.
+-- Which shard stands in a slot, and what contracts see of a slot and of a table.
 use Rattle.std.specs.Prelude.{ℕ, ◌≡◌, ◌<◌, List, length, slice_index_or}
+use Rattle.atomic_table.specs.Seated.{TableId}
 use Rattle.lt_words.specs.Row.{Opening}
 use Rattle.lt_shard.specs.Shards.{View}
 use Rattle.lt_walk.specs.declared.config.Config.{Config}
@@ -25,9 +26,14 @@ pub record IsTag (of : Opening) (max_steps index : ℕ) (tag : ShardTag) : Type 
   pub number_is : tag.index ≡ index
   pub most_is : tag.max_steps ≡ max_steps
 
+-- what contracts see of a slot: which shard stands there, and which slot it is
+pub record SlotState : Type 0 where
+  pub tag : ShardTag
+  pub id : TableId
+
 -- The slots' tags are those of the book's shards, in order.
-abbrev pub AreTags : Opening → ℕ → List ShardTag → Type 0
-AreTags of max_steps tags = (s : ℕ) (d : ShardTag) → s < length tags → IsTag of max_steps s (slice_index_or tags s d)
+abbrev pub AreTags : Opening → ℕ → List SlotState → Type 0
+AreTags of max_steps slots = (s : ℕ) (d : SlotState) → s < length slots → IsTag of max_steps s (slice_index_or slots s d).tag
 
 -- what contracts see of a table: the numbers with which it was opened, and its book
 pub record TableState : Type 0 where

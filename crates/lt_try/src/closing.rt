@@ -2,7 +2,7 @@
 //! `src/closing.rt` of `lt_table_core`, and `IsClosed` in `specs/Closed.antt` of `lt_walk`.
 //!
 //! A close owns the table, so no caller is in a shard. It takes the shards out of their slots, and one pass meets each.
-ghost use Rattle.std.specs.Prelude.{◌≡◌, ◌≢◌, ◌≤◌, ◌<◌, ◌+◌, ℕ, [], true, map, length, slice_index_or, vec_capacity, IfOk, IfErr, IfSome, IfNone, OnOk, OnSome};
+ghost use Rattle.std.specs.Prelude.{◌≡◌, ◌≢◌, ◌≤◌, ◌<◌, ◌+◌, ◌^◌, ℕ, [], true, map, length, slice_index_or, vec_capacity, IfOk, IfErr, IfSome, IfNone, OnOk, OnSome};
 ghost use Rattle.std.specs.List.{All};
 ghost use Rattle.lt_shard.specs.Shards.{View};
 ghost use Rattle.lt_words.specs.Row.{SeesMore};
@@ -10,12 +10,11 @@ ghost use Rattle.lt_walk.specs.Closed.{passes_of, AreCounted, IsMiscount, IsEnde
 ghost use Rattle.lt_try.specs.Tags.{IsPlaced, IsTagged, ArePlaced, AreTags};
 
 use crate::error::TryError;
-use crate::slot::{BoxedShard, ShardSlot, ShardTag};
+use crate::slot::ShardSlot;
 use crate::table::TryTable;
-use counted_slot::Counted;
 use lt_entry::Entry;
 use lt_rules::KeyTable;
-use lt_shard::{EmptyTables, Rest};
+use lt_shard::{EmptyTables, Rest, Shard};
 use lt_walk::{
     CloseError, ClosedTable, Guard, Histories, Rests, Wanted, abandon_guards, all_passes,
     into_histories, is_counted, learn_all,
@@ -45,67 +44,68 @@ impl<T: KeyTable + Drop, M: EmptyTables<T> + Drop, W: Waker + Drop> TryCloseRefu
     }
 }
 
-/// Takes the shards out of their slots, in order. `boxes` is empty and has room for them. `None` if a shard is not there.
-fn boxes_of<T: KeyTable + Drop>(
+/// Takes the shards out of their slots, in order, and leaves empty ones there. `shards` is empty and has room for them.
+/// `None` if somebody is in a shard.
+fn shards_of<T: KeyTable + Drop, M: EmptyTables<T>>(
+    alloc: Global,
     book: &Book,
-    slots: Vec<ShardSlot<T>>,
+    tables: &M,
+    slots: &[ShardSlot<T>],
     max_steps: u64,
-    mut boxes: Vec<BoxedShard<T>>,
-) -> Option<Vec<BoxedShard<T>>>
-    requires tags { AreTags book.now max_steps slots.items }
-    requires empty { boxes.items ≡ [] }
-    requires room { length slots.items ≤ vec_capacity boxes }
-    ensures many { IfSome result (λ all. length all.items ≡ length slots.items) }
-    ensures each { IfSome result (λ all. ArePlaced book.now max_steps (map (λ r. r.shard.value) all.items)) }
+    mut shards: Vec<Shard<T>>,
+) -> Option<Vec<Shard<T>>>
+    requires many { length slots.now ≡ book.now.shards }
+    requires tags { AreTags book.now max_steps slots.now }
+    requires low { 1 ≤ max_steps }
+    requires high { max_steps ≤ 2 ^ 32 }
+    requires empty { shards.items ≡ [] }
+    requires room { length slots.now ≤ vec_capacity shards }
+    ensures many { IfSome result (λ all. length all.items ≡ length slots.now) }
+    ensures each { IfSome result (λ all. ArePlaced book.now max_steps all.items) }
 {
-    for slot in slots {
-        let boxed = slot.into_inner()?;
-        boxes.push_reserved(boxed);
+    for index in 0..slots.len() {
+        let empty = Shard::new(alloc, tables.empty_table(), book, index, max_steps);
+        let shard = slots[index].replace(empty)?;
+        shards.push_reserved(shard);
     }
-    Some(boxes)
+    Some(shards)
 }
 
-/// Puts each shard back into a slot, in order. `slots` is empty and has room for them.
-fn slots_of<T: KeyTable + Drop>(
+/// Puts each shard back into its slot. False if somebody is in a shard.
+fn put_back<T: KeyTable + Drop>(
     book: &Book,
-    boxes: Vec<BoxedShard<T>>,
+    slots: &[ShardSlot<T>],
     max_steps: u64,
-    mut slots: Vec<ShardSlot<T>>,
-) -> Vec<ShardSlot<T>>
-    requires placed { ArePlaced book.now max_steps (map (λ r. r.shard.value) boxes.items) }
-    requires empty { slots.items ≡ [] }
-    requires room { length boxes.items ≤ vec_capacity slots }
-    ensures many { length result.items ≡ length boxes.items }
-    ensures each { AreTags book.now max_steps result.items }
+    mut shards: Vec<Shard<T>>,
+) -> bool
+    requires many { length shards.items ≡ length slots.now }
+    requires tags { AreTags book.now max_steps slots.now }
+    requires placed { ArePlaced book.now max_steps shards.items }
 {
-    for boxed in boxes {
-        let tag = ShardTag {
-            start: book.front(),
-            index: slots.len(),
-            max_steps,
-        };
-        slots.push_reserved(Counted::new(Some(boxed), &tag));
+    while let Some(shard) = shards.pop() {
+        if slots[shards.len()].replace(shard).is_none() {
+            return false;
+        }
     }
-    slots
+    true
 }
 
 /// Names the first shard that is not counted in the sense of `is_counted`.
 fn count_fault<T: KeyTable>(
     book: &Book,
-    boxes: &[BoxedShard<T>],
+    shards: &[Shard<T>],
     wanted: Wanted,
     passes: &[Pass],
     guards: &[Guard],
 ) -> Option<CloseError>
-    requires many { length boxes.now ≡ book.now.shards }
+    requires many { length shards.now ≡ book.now.shards }
     requires passes { All (λ p. p.of ≡ book.now) passes.now }
     requires guards { All (λ g. g.pass.of ≡ book.now) guards.now }
-    ensures none { IfNone result (AreCounted wanted (passes_of passes.now guards.now) (map (λ r. r.shard.value) boxes.now) book.now.shards) }
-    ensures some { IfSome result (IsMiscount wanted (passes_of passes.now guards.now) (map (λ r. r.shard.value) boxes.now)) }
+    ensures none { IfNone result (AreCounted wanted (passes_of passes.now guards.now) shards.now book.now.shards) }
+    ensures some { IfSome result (IsMiscount wanted (passes_of passes.now guards.now) shards.now) }
 {
-    for index in 0..boxes.len() {
-        let boxed = &boxes[index];
-        if !is_counted(&boxed.shard, index, wanted, passes, guards) {
+    for index in 0..shards.len() {
+        if !is_counted(&shards[index], index, wanted, passes, guards) {
             return Some(CloseError::Counts(index));
         }
     }
@@ -113,14 +113,12 @@ fn count_fault<T: KeyTable>(
 }
 
 /// Lets the pass meet the shard, and returns what is left of the shard. `None` if the shard was lost.
-fn end_shard<T: KeyTable + Drop>(book: &Book, boxed: BoxedShard<T>, last: &mut Pass) -> Option<Rest>
-    requires book { boxed.shard.value.front.of ≡ book.now }
+fn end_shard<T: KeyTable + Drop>(book: &Book, mut shard: Shard<T>, last: &mut Pass) -> Option<Rest>
+    requires book { shard.front.of ≡ book.now }
     requires pass { last.old.of ≡ book.now }
-    ensures ended { IfSome result (IsEnded book.now last.old last.new boxed.shard.value.index boxed.shard.value) }
+    ensures ended { IfSome result (IsEnded book.now last.old last.new shard.index shard) }
     ensures more { SeesMore last.old last.new }
 {
-    let BoxedShard { shard } = boxed;
-    let mut shard = Box::into_inner(shard);
     if !shard.meet_once(book, last) {
         return None;
     }
@@ -130,30 +128,29 @@ fn end_shard<T: KeyTable + Drop>(book: &Book, boxed: BoxedShard<T>, last: &mut P
 /// Lets the pass meet each shard, and returns what is left of each. `None` if a shard was lost.
 fn end_shards<T: KeyTable + Drop>(
     book: &Book,
-    boxes: Vec<BoxedShard<T>>,
+    shards: Vec<Shard<T>>,
     max_steps: u64,
     last: &mut Pass,
     mut rests: Vec<Rest>,
 ) -> Option<Vec<Rest>>
-    requires placed { ArePlaced book.now max_steps (map (λ r. r.shard.value) boxes.items) }
+    requires placed { ArePlaced book.now max_steps shards.items }
     requires pass { last.old.of ≡ book.now }
     requires empty { rests.items ≡ [] }
-    requires room { length boxes.items ≤ vec_capacity rests }
-    ensures ended { IfSome result (λ all. AreEnded book.now last.old last.new (map (λ r. r.shard.value) boxes.items) all.items) }
+    requires room { length shards.items ≤ vec_capacity rests }
+    ensures ended { IfSome result (λ all. AreEnded book.now last.old last.new shards.items all.items) }
     ensures more { SeesMore last.old last.new }
 {
-    for boxed in boxes {
-        let rest = end_shard(book, boxed, last)?;
+    for shard in shards {
+        let rest = end_shard(book, shard, last)?;
         rests.push_reserved(rest);
     }
     Some(rests)
 }
 
-/// Room for the shards, for their slots if the table comes back, for what is left of them, and for their histories.
+/// Room for the shards, for what is left of them, and for their histories.
 #[derive(Drop)]
 struct EndingRoom<T: KeyTable> {
-    boxes: Vec<BoxedShard<T>>,
-    slots: Vec<ShardSlot<T>>,
+    shards: Vec<Shard<T>>,
     rests: Vec<Rest>,
     histories: Vec<Vec<Entry>>,
 }
@@ -165,8 +162,7 @@ fn take_room<T: KeyTable + Drop>(
     passes: &mut Vec<Pass>,
     guards: usize,
 ) -> Result<EndingRoom<T>, CloseError>
-    ensures boxes { IfOk result (λ room. IsRoomFor shards room.boxes) }
-    ensures slots { IfOk result (λ room. IsRoomFor shards room.slots) }
+    ensures shards { IfOk result (λ room. IsRoomFor shards room.shards) }
     ensures rests { IfOk result (λ room. IsRoomFor shards room.rests) }
     ensures histories { IfOk result (λ room. IsRoomFor shards room.histories) }
     ensures passes { passes.new.items ≡ passes.old.items }
@@ -175,8 +171,7 @@ fn take_room<T: KeyTable + Drop>(
 {
     passes.reserve(guards)?;
     Ok(EndingRoom {
-        boxes: Vec::with_capacity(alloc, shards)?,
-        slots: Vec::with_capacity(alloc, shards)?,
+        shards: Vec::with_capacity(alloc, shards)?,
         rests: Vec::with_capacity(alloc, shards)?,
         histories: Vec::with_capacity(alloc, shards)?,
     })
@@ -186,19 +181,19 @@ fn take_room<T: KeyTable + Drop>(
 /// if a shard was lost.
 fn end<T: KeyTable + Drop>(
     book: &Book,
-    boxes: Vec<BoxedShard<T>>,
+    shards: Vec<Shard<T>>,
     wanted: Wanted,
     mut passes: Vec<Pass>,
     rests: Vec<Rest>,
 ) -> Option<Rests>
     requires some { 0 < length passes.items }
     requires passes { All (λ p. p.of ≡ book.now) passes.items }
-    requires many { length boxes.items ≡ book.now.shards }
-    requires placed { ArePlaced book.now wanted.max_steps (map (λ r. r.shard.value) boxes.items) }
-    requires counted { AreCounted wanted passes.items (map (λ r. r.shard.value) boxes.items) book.now.shards }
+    requires many { length shards.items ≡ book.now.shards }
+    requires placed { ArePlaced book.now wanted.max_steps shards.items }
+    requires counted { AreCounted wanted passes.items shards.items book.now.shards }
     requires keeping { wanted.keeping ≡ book.now.keeping }
     requires empty { rests.items ≡ [] }
-    requires room { length boxes.items ≤ vec_capacity rests }
+    requires room { length shards.items ≤ vec_capacity rests }
     ensures closed { IfSome result (λ r. IsClosedRest book.now passes.items r.shards.items r.draws) }
     ensures whole { IfSome result (λ r. wanted.whole ≡ true → AreWhole book.now r.shards.items) }
     ensures limit { IfSome result (λ r. All (λ t. length t.entries.items ≤ wanted.max_steps) r.shards.items) }
@@ -208,7 +203,7 @@ fn end<T: KeyTable + Drop>(
     };
     learn_all(&mut last, &passes);
     abandon_all(passes);
-    let Some(shards) = end_shards(book, boxes, wanted.max_steps, &mut last, rests) else {
+    let Some(shards) = end_shards(book, shards, wanted.max_steps, &mut last, rests) else {
         last.abandon();
         return None;
     };
@@ -241,6 +236,7 @@ impl<T: KeyTable + Drop, M: EmptyTables<T> + Drop, W: Waker + Drop> TryTable<T, 
     /// Closes a table whose passes are back, in this room. With `only_whole`, refuses it if steps are gone.
     fn close_in(
         self,
+        alloc: Global,
         only_whole: bool,
         passes: Vec<Pass>,
         guards: Vec<Guard>,
@@ -249,8 +245,7 @@ impl<T: KeyTable + Drop, M: EmptyTables<T> + Drop, W: Waker + Drop> TryTable<T, 
         requires passes { All (λ p. p.of ≡ self.of) passes.items }
         requires guards { All (λ g. g.pass.of ≡ self.of) guards.items }
         requires back { self.config.passes ≤ length passes.items + length guards.items }
-        requires boxes { IsRoomFor self.config.shards room.boxes }
-        requires slots { IsRoomFor self.config.shards room.slots }
+        requires shards { IsRoomFor self.config.shards room.shards }
         requires rests { IsRoomFor self.config.shards room.rests }
         requires histories { IsRoomFor self.config.shards room.histories }
         requires all { length passes.items + length guards.items ≤ vec_capacity passes }
@@ -269,7 +264,8 @@ impl<T: KeyTable + Drop, M: EmptyTables<T> + Drop, W: Waker + Drop> TryTable<T, 
             tables,
             waker,
         } = self;
-        let Some(boxes) = boxes_of(&book, slots, config.max_steps, room.boxes) else {
+        let max_steps = config.max_steps;
+        let Some(shards) = shards_of(alloc, &book, &tables, &slots, max_steps, room.shards) else {
             abandon_all(passes);
             abandon_guards(guards);
             return Err(TryError::Lost);
@@ -279,8 +275,12 @@ impl<T: KeyTable + Drop, M: EmptyTables<T> + Drop, W: Waker + Drop> TryTable<T, 
             max_steps: config.max_steps,
             keeping: book.keeping(),
         };
-        if let Some(error) = count_fault(&book, &boxes, wanted, &passes, &guards) {
-            let slots = slots_of(&book, boxes, config.max_steps, room.slots);
+        if let Some(error) = count_fault(&book, &shards, wanted, &passes, &guards) {
+            if !put_back(&book, &slots, max_steps, shards) {
+                abandon_all(passes);
+                abandon_guards(guards);
+                return Err(TryError::Lost);
+            }
             let table = TryTable {
                 config,
                 book,
@@ -291,7 +291,7 @@ impl<T: KeyTable + Drop, M: EmptyTables<T> + Drop, W: Waker + Drop> TryTable<T, 
             return Ok(Err(refusal(table, passes, guards, error)));
         }
         let passes = all_passes(passes, guards);
-        let Some(rests) = end(&book, boxes, wanted, passes, room.rests) else {
+        let Some(rests) = end(&book, shards, wanted, passes, room.rests) else {
             return Err(TryError::Lost);
         };
         Ok(Ok(ClosedTable {
@@ -325,7 +325,7 @@ impl<T: KeyTable + Drop, M: EmptyTables<T> + Drop, W: Waker + Drop> TryTable<T, 
             return Ok(Err(refusal(self, passes, guards, error)));
         }
         match take_room(alloc, self.slots.len(), &mut passes, guards.len()) {
-            Ok(room) => self.close_in(only_whole, passes, guards, room),
+            Ok(room) => self.close_in(alloc, only_whole, passes, guards, room),
             Err(error) => Ok(Err(refusal(self, passes, guards, error))),
         }
     }

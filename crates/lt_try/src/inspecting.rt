@@ -26,11 +26,13 @@ impl<T: KeyTable + Drop, M: EmptyTables<T>, W: Waker> TryTable<T, M, W> {
         ensures never_full { result ≢ Err TryError.HistoryFull }
     {
         let index = self.shard_of(key);
-        let Some(mut boxed) = self.take_shard(index) else {
+        let Some(mut inside) = self.enter_shard(index) else {
             return Err(TryError::Busy);
         };
-        let found = boxed.shard.inspect_once(&self.book, pass, key);
-        self.put_shard(index, boxed);
+        let slot = inside.slot;
+        let entered = inside.seat.slot_mut(&slot.place.shared, 0);
+        let found = entered.inspect_once(&self.book, pass, key);
+        inside.leave();
         Ok(found?)
     }
 
@@ -57,11 +59,13 @@ impl<T: KeyTable + Drop, M: EmptyTables<T>, W: Waker> TryTable<T, M, W> {
         ensures err { OnErr result (pass.new ≡ pass.old) }
         ensures never_full { result ≢ Err TryError.HistoryFull }
     {
-        let Some(mut boxed) = self.take_shard(shard) else {
+        let Some(mut inside) = self.enter_shard(shard) else {
             return Err(TryError::Busy);
         };
-        let all = boxed.shard.locked_keys_once(&self.book, pass);
-        self.put_shard(shard, boxed);
+        let slot = inside.slot;
+        let entered = inside.seat.slot_mut(&slot.place.shared, 0);
+        let all = entered.locked_keys_once(&self.book, pass);
+        inside.leave();
         Ok(all?)
     }
 
@@ -86,13 +90,13 @@ impl<T: KeyTable + Drop, M: EmptyTables<T>, W: Waker> TryTable<T, M, W> {
         ensures err { OnErr result (pass.new ≡ pass.old) }
         ensures never_full { result ≢ Err TryError.HistoryFull }
     {
-        let Some(mut boxed) = self.take_shard(shard) else {
+        let Some(mut inside) = self.enter_shard(shard) else {
             return Err(TryError::Busy);
         };
-        let first = boxed
-            .shard
-            .locked_keys_after_once(&self.book, pass, after, at_most);
-        self.put_shard(shard, boxed);
+        let slot = inside.slot;
+        let entered = inside.seat.slot_mut(&slot.place.shared, 0);
+        let first = entered.locked_keys_after_once(&self.book, pass, after, at_most);
+        inside.leave();
         Ok(first?)
     }
 }

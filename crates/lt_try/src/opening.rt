@@ -5,9 +5,8 @@ ghost use Rattle.std.specs.List.{All};
 ghost use Rattle.lt_words.specs.Row.{AreFresh, AreNoting, fresh_passes};
 ghost use Rattle.lt_try.specs.Tags.{AreTags, IsTag};
 
-use crate::slot::{BoxedShard, ShardSlot, ShardTag};
+use crate::slot::{ShardSlot, ShardTag};
 use crate::table::TryTable;
-use counted_slot::Counted;
 use lt_rules::KeyTable;
 use lt_shard::{EmptyTables, Shard};
 use lt_walk::{Ready, ReadyParts, noting_lets, parts_of};
@@ -25,16 +24,15 @@ fn new_slot<T: KeyTable + Drop, M: EmptyTables<T>>(
     requires index { index < book.now.shards }
     requires low { 1 ≤ max_steps }
     requires high { max_steps ≤ 2 ^ 32 }
-    ensures { IfOk result (λ tag. IsTag book.now max_steps index tag) }
+    ensures { IfOk result (λ slot. IsTag book.now max_steps index slot.tag) }
 {
     let shard = Shard::new(alloc, tables.empty_table(), book, index, max_steps);
-    let shard = Box::new(alloc, shard)?;
     let tag = ShardTag {
         start: book.front(),
         index,
         max_steps,
     };
-    Ok(Counted::new(Some(BoxedShard { shard }), &tag))
+    ShardSlot::new(alloc, shard, &tag)
 }
 
 /// The slots of a new book's shards, in order.

@@ -1,16 +1,18 @@
-//! What keeps two callers out of one shard? A slot that is tried once: a caller who finds the shard in it takes the shard
-//! out, and puts it back.
+//! What keeps two callers out of one shard? A slot that is tried once: a caller who finds its word [`FREE`] is alone in the
+//! shard until he leaves it.
 //!
-//! The slot's tag ([`ShardTag`]) alone says which shard the slot holds. So whoever takes a shard out knows its book and its
-//! index, and compares nothing.
-ghost use Rattle.std.specs.Prelude.{◌≡◌, IfSome};
+//! A step costs one exchange of the word and one store. The shard stays where it is. The slot's tag ([`ShardTag`]) alone says
+//! which shard stands there. So whoever is in a shard knows its book and its index, and compares nothing.
+ghost use Rattle.std.specs.Prelude.{◌≡◌, IfOk, IfSome};
 ghost use Rattle.lt_try.specs.Tags.{IsTagged};
+ghost use Rattle.lt_try.specs.Slots.{IsGuarded, HasTaken, Holds};
 
-use counted_slot::{Counted, FREE, Fits, PRESENT, TAKEN};
+use atomic_table::{Play, Refused, Seat, Table, TableRule};
 use lt_rules::KeyTable;
 use lt_shard::Shard;
 use lt_words::Front;
-use std::mem;
+use std::alloc::{AllocError, Global};
+use std::marker::Model;
 
 /// Which shard stands in a slot: its book, its index in the book, and how many steps it may hold.
 #[derive(Drop)]
@@ -20,46 +22,119 @@ pub(crate) struct ShardTag {
     pub max_steps: u64,
 }
 
-/// A shard that is in its slot, or was taken out of it. The box makes it cheap to move.
+// The word of a slot: nobody is in the shard, or one caller is.
+const FREE: u64 = 0;
+
+const TAKEN: u64 = 1;
+
+/// The rule of a slot: while its word is `FREE`, the shard in it has the slot's tag.
+pub(crate) struct OneCaller;
+
+impl<T: KeyTable> TableRule<Shard<T>, ShardTag, ShardTag> for OneCaller {
+    ghost holds = { λ tag s. IsGuarded tag s };
+
+    ghost first = { λ tag. tag };
+}
+
+/// Whoever found the word `FREE` has taken the shard.
+struct Enters;
+
+impl<T: KeyTable> Play<Shard<T>, ShardTag> for Enters {
+    ghost use Rattle.std.specs.Prelude.{◌≡◌};
+
+    ghost then = { λ _ me found after. found ≡ 0 → HasTaken me.0 after };
+}
+
+struct Leaves;
+
+impl<T: KeyTable> Play<Shard<T>, ShardTag> for Leaves {
+    ghost then = { λ _ _ _ _. Unit {0} };
+}
+
+/// Where a shard stands. In a contract, it is its tag and its identity.
 #[derive(Drop)]
-pub(crate) struct BoxedShard<T: KeyTable> {
-    pub shard: Box<Shard<T>>,
+pub(crate) struct ShardSlot<T: KeyTable> {
+    pub place: Table<Shard<T>, ShardTag, ShardTag, OneCaller, Global>,
 }
 
-impl<T: KeyTable> Fits for BoxedShard<T> {
-    type Tag = ShardTag;
+impl<T: KeyTable> Model for ShardSlot<T> {
+    ghost use Rattle.std.specs.Prelude.{◌≡◌};
+    ghost use Rattle.lt_try.specs.Tags.{SlotState};
 
-    ghost fits = { λ tag boxed. IsTagged tag boxed.shard.value };
+    ghost Value = { SlotState };
+
+    ghost view = { λ s. record { tag = s.place.shared.key; id = s.place.shared.table_id } };
+
+    ghost invariant = { λ s. (s.place.shared.table_id.words ≡ 1) × (s.place.shared.table_id.slots ≡ 1) };
 }
 
-/// Where a shard stands. While it is taken out, the slot's word is `PRESENT`.
-pub(crate) type ShardSlot<T> = Counted<Option<BoxedShard<T>>>;
+/// The shard that a caller is in. `seat` lends it to him. He has to leave it: there is no other way to be rid of this value.
+pub(crate) struct Inside<'a, T: KeyTable> {
+    pub slot: &'a ShardSlot<T>,
+    pub seat: Seat<Shard<T>, ShardTag>,
+    ghost of_slot: { seat.table_id ≡ slot.now.id },
+}
 
-/// Takes the shard out, if it is there.
-#[inline(always)]
-pub(crate) fn take_out<T: KeyTable>(slot: &ShardSlot<T>) -> Option<BoxedShard<T>>
-    ensures { IfSome result (λ boxed. IsTagged slot.now boxed.shard.value) }
-{
-    let (found, claim) = slot.turn(FREE, TAKEN);
-    if found != FREE {
-        claim.done();
-        return None;
+impl<T: KeyTable + Drop> ShardSlot<T> {
+    /// The shard in a new slot, which nobody is in.
+    pub(crate) fn new(
+        alloc: Global,
+        shard: Shard<T>,
+        tag: &ShardTag,
+    ) -> Result<ShardSlot<T>, AllocError>
+        requires { IsTagged tag.now shard }
+        ensures { IfOk result (λ slot. slot.tag ≡ tag.now) }
+    {
+        let mut shards = Vec::with_capacity(alloc, 1)?;
+        shards.push_reserved(shard);
+        match Table::new(alloc, &[FREE], shards, tag) {
+            Ok((place, _seat)) => Ok(ShardSlot { place }),
+            Err(Refused { slots: _ }) => Err(AllocError),
+        }
     }
-    claim.put(None, PRESENT)
+
+    /// Goes into the shard, if nobody is in it.
+    #[inline(always)]
+    pub(crate) fn enter(&self) -> Option<Inside<'_, T>>
+        ensures { IfSome result (λ inside. Holds (IsTagged self.now.tag) inside.seat.me × (inside.slot.now ≡ self.now)) }
+    {
+        let (found, seat) = self.place.shared.swap_new_seat::<Enters>(0, TAKEN);
+        if found != FREE {
+            return None;
+        }
+        Some(Inside { slot: self, seat })
+    }
+
+    /// Puts this shard in the place of the one that stands here, and returns that one. `None`, and the shard is gone, if
+    /// somebody is in it.
+    pub(crate) fn replace(&self, shard: Shard<T>) -> Option<Shard<T>>
+        requires { IsTagged self.now.tag shard }
+        ensures { IfSome result (λ was. IsTagged self.now.tag was) }
+    {
+        let inside = self.enter()?;
+        Some(inside.replace(shard))
+    }
 }
 
-/// Puts the shard back. False, and the shard is gone, if the word was written meanwhile. Only this function writes it
-/// while the shard is out.
-#[inline(always)]
-pub(crate) fn put_back<T: KeyTable + Drop>(slot: &ShardSlot<T>, boxed: BoxedShard<T>) -> bool
-    requires { IsTagged slot.now boxed.shard.value }
-{
-    let (found, claim) = slot.turn(PRESENT, TAKEN);
-    if found != PRESENT {
-        claim.done();
-        return false;
+impl<'a, T: KeyTable> Inside<'a, T> {
+    /// Leaves this shard in the place of the one that the caller is in, and returns that one.
+    fn replace(self, shard: Shard<T>) -> Shard<T>
+        requires held { Holds (IsTagged self.slot.now.tag) self.seat.me }
+        requires tag { IsTagged self.slot.now.tag shard }
+        ensures { Holds (λ v. v ≡ result) self.entry.seat.me }
+    {
+        let Inside { slot, mut seat } = self;
+        let was = slot.place.shared.exchange(&mut seat, 0, shard);
+        Inside { slot, seat }.leave();
+        was
     }
-    // The word was `PRESENT`, so there is nothing in the slot to drop.
-    mem::forget(claim.put(Some(boxed), FREE));
-    true
+
+    /// Leaves the shard, so that others may come.
+    #[inline(always)]
+    pub(crate) fn leave(self)
+        requires { Holds (IsTagged self.slot.now.tag) self.seat.me }
+    {
+        let Inside { slot, mut seat } = self;
+        slot.place.shared.store::<Leaves>(&mut seat, 0, FREE);
+    }
 }

@@ -4,14 +4,14 @@ ghost use Rattle.lt_entry.specs.Ranges.{NamesNumber};
 ghost use Rattle.lt_words.specs.History.{shard_of};
 ghost use Rattle.lt_words.specs.Row.{awoken};
 ghost use Rattle.lt_walk.specs.Reported.{ReportsCall};
-ghost use Rattle.lt_try.specs.Tags.{IsPlaced};
+ghost use Rattle.lt_try.specs.Slots.{HasEntered};
 ghost use Rattle.lt_try.specs.Refused.{RefusesCallWith};
 
 use crate::error::TryError;
-use crate::slot::{BoxedShard, ShardSlot, put_back, take_out};
+use crate::slot::{Inside, ShardSlot};
 use lt_ids::Key;
 use lt_rules::{Call, KeyTable};
-use lt_shard::{Answer, EmptyTables};
+use lt_shard::{Answer, EmptyTables, Shard};
 use lt_walk::{Config, KeySteps};
 use lt_words::{Book, Keeping, Pass, Waker, shard_of};
 use std::marker::Model;
@@ -44,25 +44,25 @@ impl<T: KeyTable, M: EmptyTables<T>, W: Waker> Model for TryTable<T, M, W> {
 /// Makes the call at the key, which is in this shard. The pass has then still to wake whom the step let through.
 #[inline(always)]
 fn step_inside<T: KeyTable + Drop, M: EmptyTables<T>>(
-    boxed: &mut BoxedShard<T>,
+    shard: &mut Shard<T>,
     tables: &M,
     book: &Book,
     pass: &mut Pass,
     key: &Key,
     call: &Call,
 ) -> Result<Answer, TryError>
-    requires book { book.now ≡ boxed.old.shard.value.front.of }
+    requires book { book.now ≡ shard.old.front.of }
     requires pass { pass.old.of ≡ book.now }
-    requires shard { boxed.old.shard.value.index ≡ shard_of key.now book.now.shards }
+    requires shard { shard.old.index ≡ shard_of key.now book.now.shards }
     requires number { NamesNumber call.now }
     ensures ok { IfOk result (λ a. ReportsCall pass.old (awoken pass.new) key.now call.now a) }
     ensures err { OnErr result (pass.new ≡ pass.old) }
     ensures refused { IfErr result (λ e. RefusesCallWith book.now.keeping call.now e) }
-    ensures of { boxed.new.shard.value.front.of ≡ boxed.old.shard.value.front.of }
-    ensures index { boxed.new.shard.value.index ≡ boxed.old.shard.value.index }
-    ensures max_steps { boxed.new.shard.value.max_steps ≡ boxed.old.shard.value.max_steps }
+    ensures of { shard.new.front.of ≡ shard.old.front.of }
+    ensures index { shard.new.index ≡ shard.old.index }
+    ensures max_steps { shard.new.max_steps ≡ shard.old.max_steps }
 {
-    match boxed.shard.step_once(tables, book, pass, key, call) {
+    match shard.step_once(tables, book, pass, key, call) {
         Ok(answer) => Ok(answer),
         Err(error) => Err(TryError::from(error)),
     }
@@ -100,23 +100,14 @@ impl<T: KeyTable + Drop, M: EmptyTables<T>, W: Waker> TryTable<T, M, W> {
         self.book.keeping()
     }
 
-    /// Takes the shard with this index out of its slot, if no other caller is in it.
+    /// Goes into the shard with this index, if no other caller is in it.
     #[inline(always)]
-    pub(crate) fn take_shard(&self, index: usize) -> Option<BoxedShard<T>>
+    pub(crate) fn enter_shard(&self, index: usize) -> Option<Inside<'_, T>>
         requires { index < self.now.of.shards }
-        ensures { IfSome result (λ boxed. IsPlaced self.now.of self.now.config.max_steps index boxed.shard.value) }
+        ensures { IfSome result (λ inside. HasEntered self.now.of self.now.config.max_steps index inside.slot.now inside.seat.me) }
     {
-        let boxed = take_out(&self.slots[index])?;
-        Some(boxed)
-    }
-
-    /// Puts the shard back into its slot.
-    #[inline(always)]
-    pub(crate) fn put_shard(&self, index: usize, boxed: BoxedShard<T>)
-        requires index { index < self.now.of.shards }
-        requires placed { IsPlaced self.now.of self.now.config.max_steps index boxed.shard.value }
-    {
-        let _ = put_back(&self.slots[index], boxed);
+        let inside = self.slots[index].enter()?;
+        Some(inside)
     }
 }
 
@@ -136,11 +127,13 @@ impl<T: KeyTable + Drop, M: EmptyTables<T>, W: Waker> KeySteps for TryTable<T, M
     #[inline(always)]
     fn step(&self, pass: &mut Pass, key: &Key, call: &Call) -> Result<Answer, TryError> {
         let index = self.shard_of(key);
-        let Some(mut boxed) = self.take_shard(index) else {
+        let Some(mut inside) = self.enter_shard(index) else {
             return Err(TryError::Busy);
         };
-        let answered = step_inside(&mut boxed, &self.tables, &self.book, pass, key, call);
-        self.put_shard(index, boxed);
+        let slot = inside.slot;
+        let shard = inside.seat.slot_mut(&slot.place.shared, 0);
+        let answered = step_inside(shard, &self.tables, &self.book, pass, key, call);
+        inside.leave();
         let answer = answered?;
         // The slot is free again, so the callers that are woken do not find it taken.
         self.book.hand_out(pass, &self.waker);

@@ -39,11 +39,13 @@ impl<T: KeyTable + Drop, M: EmptyTables<T>, W: Waker> TryTable<T, M, W> {
         ensures err { OnErr result (steps.new ≡ steps.old) }
         ensures busy { IfErr result (λ e. e ≢ TryError.Lost → (e ≡ TryError.Busy) × (pass.new ≡ pass.old)) }
     {
-        let Some(mut boxed) = self.take_shard(shard) else {
+        let Some(mut inside) = self.enter_shard(shard) else {
             return Err(TryError::Busy);
         };
-        let taken = boxed.shard.take_once(&self.book, pass, steps);
-        self.put_shard(shard, boxed);
+        let slot = inside.slot;
+        let entered = inside.seat.slot_mut(&slot.place.shared, 0);
+        let taken = entered.take_once(&self.book, pass, steps);
+        inside.leave();
         match taken {
             Some(from) => Ok(from),
             None => Err(TryError::Lost),
@@ -78,13 +80,13 @@ impl<T: KeyTable + Drop, M: EmptyTables<T>, W: Waker> TryTable<T, M, W> {
         ensures busy { IfErr result (λ e. e ≢ TryError.Lost → (e ≡ TryError.Busy) × (pass.new ≡ pass.old)) }
     {
         let index = reader.shard;
-        let Some(mut boxed) = self.take_shard(index) else {
+        let Some(mut inside) = self.enter_shard(index) else {
             return Err(TryError::Busy);
         };
-        let taken = boxed
-            .shard
-            .take_next_once(&self.book, pass, reader.next, steps);
-        self.put_shard(index, boxed);
+        let slot = inside.slot;
+        let entered = inside.seat.slot_mut(&slot.place.shared, 0);
+        let taken = entered.take_next_once(&self.book, pass, reader.next, steps);
+        inside.leave();
         match taken {
             Some(Ok(count)) => {
                 reader.next = count;

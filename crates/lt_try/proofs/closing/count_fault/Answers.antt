@@ -1,9 +1,7 @@
-use Rattle.std.proofs.Common.{◌≡◌, ◌<◌, ◌+◌, ℕ, suc, zero, List, [], ◌∷◌, length, map, get_or, arith, refl, sym, subst, ◌∙◌}
-use Rattle.std.proofs.lemmas.List.{length-map}
+use Rattle.std.proofs.Common.{◌≡◌, ◌<◌, ◌+◌, ℕ, suc, zero, List, [], ◌∷◌, length, get_or, arith, refl, sym, subst, ◌∙◌}
 use Rattle.lt_words.specs.Row.{Opening}
 use Rattle.lt_shard.specs.Shards.{View}
 use Rattle.lt_walk.specs.Closed.{IsCounted, passes_of}
-use Rattle.lt_try.proofs.Placed.{seen_at}
 use Rattle.lt_try.proofs.closing.count_fault.Goals as goal
 
 -- within the list the default does not matter
@@ -37,23 +35,19 @@ is_counted-requires-clause-guards g c = λ k d less. within c.args.book.now _ _ 
 
 pub returns-then-not-is_counted-clause-some : goal.returns-then-not-is_counted-clause-some
 returns-then-not-is_counted-clause-some g c =
-    let boxed = c.index-boxes-index.result in
-    let here = seen_at (λ r. r.shard.value) c.args.boxes.now c.loop-index.index boxed c.loop-index-test.true c.index-boxes-index.is in
-    let lt : c.loop-index.index < length (map (λ r. r.shard.value) c.args.boxes.now) = omega (arith, c.loop-index-test.true, length-map c.args.boxes.now (λ r. r.shard.value)) in (
+    let shard = c.index-shards-index.result in
+    let lt : c.loop-index.index < length c.args.shards.now = c.loop-index-test.true in (
       lt,
       c.loop-index.invariant,
       λ v counted. c.if-not-is_counted.ensures.no refl
           (subst (λ (w : View). IsCounted c.args.wanted (passes_of c.args.passes.now c.args.guards.now) c.loop-index.index w)
-          (same_at (map (λ r. r.shard.value) c.args.boxes.now) c.loop-index.index v boxed.shard.value lt ∙ (sym here ∙ sym c.deref.ensures)) counted),
+          (same_at c.args.shards.now c.loop-index.index v shard lt ∙ sym c.index-shards-index.is) counted),
     )
 
 pub loop-index-preserved : goal.loop-index-preserved
 loop-index-preserved g c =
-    let boxed = c.index-boxes-index.result in
-    let here = seen_at (λ r. r.shard.value) c.args.boxes.now c.loop-index.index boxed c.loop-index-test.true c.index-boxes-index.is in
-    let lt : c.loop-index.index < length (map (λ r. r.shard.value) c.args.boxes.now) = omega (arith, c.loop-index-test.true, length-map c.args.boxes.now (λ r. r.shard.value)) in
-    one_view_more (IsCounted c.args.wanted (passes_of c.args.passes.now c.args.guards.now)) (map (λ r. r.shard.value) c.args.boxes.now) c.loop-index.index boxed.shard.value lt here
-    (subst (λ (w : View). IsCounted c.args.wanted (passes_of c.args.passes.now c.args.guards.now) c.loop-index.index w) c.deref.ensures (c.if-not-is_counted.ensures.yes refl)) c.loop-index.invariant
+    one_view_more (IsCounted c.args.wanted (passes_of c.args.passes.now c.args.guards.now)) c.args.shards.now c.loop-index.index c.index-shards-index.result c.loop-index-test.true c.index-shards-index.is
+    (c.if-not-is_counted.ensures.yes refl) c.loop-index.invariant
 
 pub returns-clause-none : goal.returns-clause-none
 returns-clause-none g c = λ s v less. c.loop-index.invariant s v (omega (arith, less, c.requires.many, c.loop-index-test.false))

@@ -1,8 +1,7 @@
 use Rattle.std.proofs.Common.{◌≡◌, ◌<◌, ℕ, zero, suc, List, ◌++◌, ◌∷◌, [], ◌∙◌, length, get_or, arith, refl, subst, sym, ap}
 use Rattle.std.specs.List.{AllByRecursion}
 use mathlib.Core.List.{IsPrefix}
-use Rattle.std.proofs.Common.{length-append, map}
-use Rattle.std.proofs.lemmas.List.{length-map}
+use Rattle.std.proofs.Common.{length-append}
 use Rattle.lt_words.specs.Row.{Opening, PassState}
 use Rattle.lt_words.specs.History.{IsLegalHistory}
 use Rattle.lt_shard.specs.Shards.{new_shard}
@@ -46,11 +45,11 @@ returns-clause-closed g c =
     let shown : AllByRecursion (λ p. IsPrefix p.shown one.shown) c.args.passes.items = rw joined (all_and_last (λ p. p.shown) c.pop.new.self.items c.in-Some.last one.shown (rw (← c.deref.ensures.value) c.learn_all.ensures.shown) c.learn_all.ensures.more.shown) in
     let of : three.of ≡ c.args.book.now = c.drawn-draws.ensures.more.of ∙ (c.end_shards.ensures.more.of ∙ (c.learn_all.ensures.more.of ∙ of_last (λ p. p.of ≡ c.args.book.now) c.args.passes.items c.pop.new.self.items c.in-Some.last joined c.requires.passes)) in
     let legal : IsLegalHistory c.args.book.now.shards three.seen = subst (λ n. IsLegalHistory n three.seen) (ap (λ o. o.shards) of) c.legal.ensures.legal in
-    ends c.args.book.now c.args.wanted c.args.passes.items (map (λ r. r.shard.value) c.args.boxes.items) c.in-Some-end_shards.shards.items one two three c.drawn-draws.result seen shown c.end_shards.ensures.more.shown c.drawn-draws.ensures.more.shown c.legal.ensures.let_through c.in-Some-end_shards.ensures.ended c.end_shards.ensures.more.seen c.drawn-draws.ensures.more.seen legal c.drawn-draws.ensures.draws
-    (length-map c.args.boxes.items (λ r. r.shard.value) ∙ c.requires.many) c.requires.counted c.requires.keeping (new_shard c.args.book.now 0 0)
+    ends c.args.book.now c.args.wanted c.args.passes.items c.args.shards.items c.in-Some-end_shards.shards.items one two three c.drawn-draws.result seen shown c.end_shards.ensures.more.shown c.drawn-draws.ensures.more.shown c.legal.ensures.let_through c.in-Some-end_shards.ensures.ended c.end_shards.ensures.more.seen c.drawn-draws.ensures.more.seen legal c.drawn-draws.ensures.draws
+    c.requires.many c.requires.counted c.requires.keeping (new_shard c.args.book.now 0 0)
 
 pub returns-clause-whole : goal.returns-clause-whole
-returns-clause-whole g c = λ yes. ends_whole c.args.book.now c.args.wanted c.args.passes.items (map (λ r. r.shard.value) c.args.boxes.items) c.in-Some-end_shards.shards.items c.learn_all.new.last c.end_shards.new.last c.in-Some-end_shards.ensures.ended (length-map c.args.boxes.items (λ r. r.shard.value) ∙ c.requires.many) c.requires.counted (new_shard c.args.book.now 0 0) yes
+returns-clause-whole g c = λ yes. ends_whole c.args.book.now c.args.wanted c.args.passes.items c.args.shards.items c.in-Some-end_shards.shards.items c.learn_all.new.last c.end_shards.new.last c.in-Some-end_shards.ensures.ended c.requires.many c.requires.counted (new_shard c.args.book.now 0 0) yes
 
 pub returns-clause-limit : goal.returns-clause-limit
-returns-clause-limit g c = ends_short c.args.book.now c.args.wanted c.args.passes.items (map (λ r. r.shard.value) c.args.boxes.items) c.in-Some-end_shards.shards.items c.learn_all.new.last c.end_shards.new.last c.in-Some-end_shards.ensures.ended (length-map c.args.boxes.items (λ r. r.shard.value) ∙ c.requires.many) c.requires.counted (new_shard c.args.book.now 0 0)
+returns-clause-limit g c = ends_short c.args.book.now c.args.wanted c.args.passes.items c.args.shards.items c.in-Some-end_shards.shards.items c.learn_all.new.last c.end_shards.new.last c.in-Some-end_shards.ensures.ended c.requires.many c.requires.counted (new_shard c.args.book.now 0 0)

@@ -1,4 +1,4 @@
-use Rattle.std.proofs.Common.{◌≡◌, ◌≤◌, ◌∙◌, length, ap, subst, sym, arith}
+use Rattle.std.proofs.Common.{◌∙◌, length, ap, subst, sym, arith}
 use Rattle.std.specs.List.{All}
 use Rattle.lt_words.specs.Row.{OwesNoWakeUp}
 use Rattle.lt_walk.proofs.Noted.{fresh_owe_none, many_fresh, quiet_are_of}
