@@ -1,7 +1,5 @@
 //! How does a shared table end? Its passes come back to their seats, whoever has the table's handle ends it, and takes what is
 //! left of each shard out.
-//!
-//! A pass comes back through its own handle, which shares the table with the table's handle. So no call compares two tables.
 ghost use Rattle.std.specs.Prelude.{◌≡◌, ◌≢◌, Some, None, IsSome, IsNone};
 ghost use Rattle.lt_handles.specs.Codes.{IsDoneUnless};
 ghost use Rattle.lt_handles.specs.Content.{ended_in};

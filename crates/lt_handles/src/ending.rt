@@ -1,5 +1,4 @@
-//! How does a shared table end? Its passes come back to their seats, whoever has the table's handle ends it, and takes what is
-//! left of each shard out.
+//! What do the handles of a shared table hold as its passes come back, it ends, and its last steps are taken out?
 //!
 //! A pass comes back through its own handle, which shares the table with the table's handle. So no call compares two tables.
 ghost use Rattle.std.specs.Prelude.{◌≡◌, ◌≢◌, ◌<◌, Some, length};

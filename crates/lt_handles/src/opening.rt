@@ -1,4 +1,4 @@
-//! How does C open a table that threads share, and give each of them a pass?
+//! What does a handle hold once a table that threads share was opened in it, or a pass was given out through it?
 ghost use Rattle.std.specs.Prelude.{◌≡◌, ◌≢◌, true, false, Some, None, IfOk};
 ghost use Rattle.std.specs.Option.{option_map};
 ghost use Rattle.lt_walk.specs.Configs.{fault};

@@ -1,5 +1,5 @@
-//! How does C make a request of a shared table? Its pass names the keys, enters, scans, polls and leaves, all through one
-//! handle: `lt_pass_enter` makes a request of the pass, and `lt_pass_leave` gives the pass back.
+//! What becomes of the pass in a handle as it names keys, enters, scans, polls and leaves? `requests.rt` of `lt_c` has the calls of
+//! C.
 ghost use Rattle.std.specs.Prelude.{◌≡◌, ◌≢◌, Some, IsSome, IsNone};
 ghost use Rattle.lt_handles.specs.Content.{pass_in, guard_in};
 ghost use Rattle.lt_handles.specs.Looks.{bytes_refusal};
