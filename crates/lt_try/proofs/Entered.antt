@@ -5,18 +5,18 @@ use Rattle.lt_words.specs.Row.{Opening}
 use Rattle.lt_shard.specs.Shards.{View, OnlySeesMore, GaveUp}
 use Rattle.lt_try.specs.declared.slot.ShardTag.{ShardTag}
 use Rattle.lt_try.specs.Tags.{IsPlaced, IsTagged, SlotState}
-use Rattle.lt_try.specs.Slots.{Holds, HasEntered}
+use Rattle.lt_try.specs.Slots.{HoldsShard, IsInShard}
 
 -- the shard that a seat can lend
-pub can_lend : (is : View → Type 0) (me : Me View ShardTag) → Holds is me → (v : View) × (me.1 ≡ (0, v) ∷ rest me.1)
+pub can_lend : (is : View → Type 0) (me : Me View ShardTag) → HoldsShard is me → (v : View) × (me.1 ≡ (0, v) ∷ rest me.1)
 can_lend is me held = (held.0, held.1 ∙ ap (λ (l : List (ℕ × View)). (0, held.0) ∷ rest l) (sym held.1))
 
 -- what is true of the shard that the seat holds is true of the one that it lends
-pub lent_is : (is : View → Type 0) (me : Me View ShardTag) (v : View) → Holds is me → me.1 ≡ (0, v) ∷ rest me.1 → is v
+pub lent_is : (is : View → Type 0) (me : Me View ShardTag) (v : View) → HoldsShard is me → me.1 ≡ (0, v) ∷ rest me.1 → is v
 lent_is is me v held lent = subst is (ap (λ (l : List (ℕ × View)). (get_or l 0 (0, held.0)).1) (sym held.1 ∙ lent)) held.2
 
 -- what is true of the shard that the seat holds is true of that shard by another name
-pub held_is : (is : View → Type 0) (me : Me View ShardTag) (w : View) → Holds is me → Holds (λ v. v ≡ w) me → is w
+pub held_is : (is : View → Type 0) (me : Me View ShardTag) (w : View) → HoldsShard is me → HoldsShard (λ v. v ≡ w) me → is w
 held_is is me w held named = lent_is is me w held (subst (λ (v : View). me.1 ≡ (0, v) ∷ rest me.1) named.2 (named.1 ∙ ap (λ (l : List (ℕ × View)). (0, named.0) ∷ rest l) (sym named.1)))
 
 -- The shard w is the one that was v: of the same book, with the same index and room.
@@ -44,7 +44,7 @@ stays_after_next B C D (Some (Err e)) v w gave err lost = stays_after_look v w e
 stays_after_next B C D None v w gave err lost = unchanged v w lost.0
 
 -- a shard that stays is left where it was entered
-pub can_leave : (of : Opening) (max_steps k : ℕ) (slot : SlotState) (me : Me View ShardTag) (v w : View) → HasEntered of max_steps k slot me → me.1 ≡ (0, v) ∷ rest me.1
+pub can_leave : (of : Opening) (max_steps k : ℕ) (slot : SlotState) (me : Me View ShardTag) (v w : View) → IsInShard of max_steps k slot me → me.1 ≡ (0, v) ∷ rest me.1
     → Stays v w → (x : View) × ((0, w) ∷ rest me.1 ≡ (0, x) ∷ []) × IsTagged slot.tag x
 can_leave of max_steps k slot me v w entered lent stays =
     let is : IsPlaced of max_steps k v = lent_is (IsPlaced of max_steps k) me v entered.shard_is lent in (

@@ -1,3 +1,3 @@
 pub mod Placed
 pub mod Entered
-pub mod Guarded
+pub mod SlotRule

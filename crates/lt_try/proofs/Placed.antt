@@ -5,7 +5,7 @@ use Rattle.lt_shard.specs.Shards.{View}
 use Rattle.atomic_table.specs.Table.{Me}
 use Rattle.lt_try.specs.declared.slot.ShardTag.{ShardTag}
 use Rattle.lt_try.specs.Tags.{IsPlaced, IsTagged, ArePlaced, IsTag, SlotState, AreTags}
-use Rattle.lt_try.specs.Slots.{Holds, HasEntered}
+use Rattle.lt_try.specs.Slots.{HoldsShard, IsInShard}
 use Rattle.lt_walk.proofs.Ends.{at_each}
 
 -- what has a slot's tag is the shard of the slot's index
@@ -32,7 +32,7 @@ pub placed_at : (of : Opening) (max_steps : ℕ) (vs : List View) (k : ℕ) (v :
 placed_at of max_steps vs k v placed lt is = subst (IsPlaced of max_steps k) (sym is) (placed k v lt)
 
 -- whoever took the shard from the slot at an index is in the shard with this index
-pub entered_at : (of : Opening) (max_steps : ℕ) (slots : List SlotState) (k : ℕ) (slot : SlotState) (me : Me View ShardTag) → AreTags of max_steps slots → k < length slots → slot ≡ get_or slots k slot → Holds (IsTagged slot.tag) me → HasEntered of max_steps k slot me
+pub entered_at : (of : Opening) (max_steps : ℕ) (slots : List SlotState) (k : ℕ) (slot : SlotState) (me : Me View ShardTag) → AreTags of max_steps slots → k < length slots → slot ≡ get_or slots k slot → HoldsShard (IsTagged slot.tag) me → IsInShard of max_steps k slot me
 entered_at of max_steps slots k slot me each lt is held = record {
   slot_is = subst (λ (x : SlotState). IsTag of max_steps k x.tag) (sym is) (each k slot lt);
   shard_is = (held.0, held.1, placed_by_tag of max_steps slots k slot held.0 each lt is held.2);

@@ -8,19 +8,19 @@ use Rattle.lt_try.specs.declared.slot.ShardTag.{ShardTag}
 use Rattle.lt_words.specs.Row.{Opening}
 use Rattle.lt_try.specs.Tags.{IsPlaced, IsTagged, IsTag, SlotState}
 
--- While the word is 0, the shard is at home and has the tag.
-abbrev pub IsGuarded : ShardTag → State View ShardTag → Type 0
-IsGuarded tag s = (length s.words ≡ 1) × (slice_index s.words 0 ≡ 0 → (v : View) × (get_elem? s.homes 0 ≡ some (some v)) × IsTagged tag v)
+-- While the word is 0, the shard stands in its slot and has the tag.
+abbrev pub StandsWhileFree : ShardTag → State View ShardTag → Type 0
+StandsWhileFree tag s = (length s.words ≡ 1) × (slice_index s.words 0 ≡ 0 → (v : View) × (get_elem? s.homes 0 ≡ some (some v)) × IsTagged tag v)
 
 -- The seat holds one shard, and it is so.
-abbrev pub Holds : (View → Type 0) → Me View ShardTag → Type 0
-Holds is me = (v : View) × (me.1 ≡ (0, v) ∷ []) × is v
+abbrev pub HoldsShard : (View → Type 0) → Me View ShardTag → Type 0
+HoldsShard is me = (v : View) × (me.1 ≡ (0, v) ∷ []) × is v
 
 -- The seat has taken the shard of this tag.
-abbrev pub HasTaken : ShardTag → Me View ShardTag → Type 0
-HasTaken tag me = Holds (IsTagged tag) me
+abbrev pub HasTakenShard : ShardTag → Me View ShardTag → Type 0
+HasTakenShard tag me = HoldsShard (IsTagged tag) me
 
 -- The slot is that of the book's shard with this index, and the seat has taken that shard.
-pub record HasEntered (of : Opening) (max_steps index : ℕ) (slot : SlotState) (me : Me View ShardTag) : Type 0 where
+pub record IsInShard (of : Opening) (max_steps index : ℕ) (slot : SlotState) (me : Me View ShardTag) : Type 0 where
   pub slot_is : IsTag of max_steps index slot.tag
-  pub shard_is : Holds (IsPlaced of max_steps index) me
+  pub shard_is : HoldsShard (IsPlaced of max_steps index) me

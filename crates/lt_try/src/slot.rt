@@ -5,7 +5,7 @@
 //! which shard stands there. So whoever is in a shard knows its book and its index, and compares nothing.
 ghost use Rattle.std.specs.Prelude.{◌≡◌, IfOk, IfSome};
 ghost use Rattle.lt_try.specs.Tags.{IsTagged};
-ghost use Rattle.lt_try.specs.Slots.{IsGuarded, HasTaken, Holds};
+ghost use Rattle.lt_try.specs.Slots.{StandsWhileFree, HasTakenShard, HoldsShard};
 
 use atomic_table::{Play, Refused, Seat, Table, TableRule};
 use lt_rules::KeyTable;
@@ -31,7 +31,7 @@ const TAKEN: u64 = 1;
 pub(crate) struct OneCaller;
 
 impl<T: KeyTable> TableRule<Shard<T>, ShardTag, ShardTag> for OneCaller {
-    ghost holds = { λ tag s. IsGuarded tag s };
+    ghost holds = { λ tag s. StandsWhileFree tag s };
 
     ghost first = { λ tag. tag };
 }
@@ -42,7 +42,7 @@ struct Enters;
 impl<T: KeyTable> Play<Shard<T>, ShardTag> for Enters {
     ghost use Rattle.std.specs.Prelude.{◌≡◌};
 
-    ghost then = { λ _ me found after. found ≡ 0 → HasTaken me.0 after };
+    ghost then = { λ _ me found after. found ≡ 0 → HasTakenShard me.0 after };
 }
 
 struct Leaves;
@@ -96,7 +96,7 @@ impl<T: KeyTable + Drop> ShardSlot<T> {
     /// Goes into the shard, if nobody is in it.
     #[inline(always)]
     pub(crate) fn enter(&self) -> Option<Inside<'_, T>>
-        ensures { IfSome result (λ inside. Holds (IsTagged self.now.tag) inside.seat.me × (inside.slot.now ≡ self.now)) }
+        ensures { IfSome result (λ inside. HoldsShard (IsTagged self.now.tag) inside.seat.me × (inside.slot.now ≡ self.now)) }
     {
         let (found, seat) = self.place.shared.swap_new_seat::<Enters>(0, TAKEN);
         if found != FREE {
@@ -119,9 +119,9 @@ impl<T: KeyTable + Drop> ShardSlot<T> {
 impl<'a, T: KeyTable> Inside<'a, T> {
     /// Leaves this shard in the place of the one that the caller is in, and returns that one.
     fn replace(self, shard: Shard<T>) -> Shard<T>
-        requires held { Holds (IsTagged self.slot.now.tag) self.seat.me }
+        requires held { HoldsShard (IsTagged self.slot.now.tag) self.seat.me }
         requires tag { IsTagged self.slot.now.tag shard }
-        ensures { Holds (λ v. v ≡ result) self.entry.seat.me }
+        ensures { HoldsShard (λ v. v ≡ result) self.entry.seat.me }
     {
         let Inside { slot, mut seat } = self;
         let was = slot.place.shared.exchange(&mut seat, 0, shard);
@@ -132,7 +132,7 @@ impl<'a, T: KeyTable> Inside<'a, T> {
     /// Leaves the shard, so that others may come.
     #[inline(always)]
     pub(crate) fn leave(self)
-        requires { Holds (IsTagged self.slot.now.tag) self.seat.me }
+        requires { HoldsShard (IsTagged self.slot.now.tag) self.seat.me }
     {
         let Inside { slot, mut seat } = self;
         slot.place.shared.store::<Leaves>(&mut seat, 0, FREE);

@@ -4,7 +4,7 @@ ghost use Rattle.lt_entry.specs.Ranges.{NamesNumber};
 ghost use Rattle.lt_words.specs.History.{shard_of};
 ghost use Rattle.lt_words.specs.Row.{awoken};
 ghost use Rattle.lt_walk.specs.Reported.{ReportsCall};
-ghost use Rattle.lt_try.specs.Slots.{HasEntered};
+ghost use Rattle.lt_try.specs.Slots.{IsInShard};
 ghost use Rattle.lt_try.specs.Refused.{RefusesCallWith};
 
 use crate::error::TryError;
@@ -104,7 +104,7 @@ impl<T: KeyTable + Drop, M: EmptyTables<T>, W: Waker> TryTable<T, M, W> {
     #[inline(always)]
     pub(crate) fn enter_shard(&self, index: usize) -> Option<Inside<'_, T>>
         requires { index < self.now.of.shards }
-        ensures { IfSome result (λ inside. HasEntered self.now.of self.now.config.max_steps index inside.slot.now inside.seat.me) }
+        ensures { IfSome result (λ inside. IsInShard self.now.of self.now.config.max_steps index inside.slot.now inside.seat.me) }
     {
         let inside = self.slots[index].enter()?;
         Some(inside)

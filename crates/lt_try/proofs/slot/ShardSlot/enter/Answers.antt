@@ -1,11 +1,11 @@
 use Rattle.std.proofs.Common.{arith, ap, refl, subst}
 use Rattle.lt_try.specs.declared.slot.ShardTag.{ShardTag}
-use Rattle.lt_try.specs.Slots.{HasTaken}
-use Rattle.lt_try.proofs.Guarded.{takes_it}
+use Rattle.lt_try.specs.Slots.{HasTakenShard}
+use Rattle.lt_try.proofs.SlotRule.{takes_it}
 use Rattle.lt_try.proofs.slot.ShardSlot.enter.Goals as goal
 
 pub swap_new_seat-found-requires : goal.swap_new_seat-found-requires
 swap_new_seat-found-requires g c = (omega (arith, c.self.invariant.0), takes_it c.self.inside.place.shared.key c.self.inside.place.shared.table_id.slots)
 
 pub returns : goal.returns
-returns g c = (subst (λ (tag : ShardTag). HasTaken tag c.swap_new_seat-found.result.1.me) (ap (λ slot. slot.tag) c.self.view_is) (c.swap_new_seat-found.ensures.1 c.if-found-ne-FREE.false), refl)
+returns g c = (subst (λ (tag : ShardTag). HasTakenShard tag c.swap_new_seat-found.result.1.me) (ap (λ slot. slot.tag) c.self.view_is) (c.swap_new_seat-found.ensures.1 c.if-found-ne-FREE.false), refl)
