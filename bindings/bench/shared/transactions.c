@@ -8,11 +8,10 @@
  *
  * LOAD is
  *
- *   one   a round is a request with a key to write and one to read: it enters, visits both, acquires the first, finishes there
- *   and
- *         leaves. These are the rounds of `lockbench load`: 6 key steps
- *   two   a round is a request with two keys to write: it enters, visits both, acquires both, leaves and finishes both: 8 key
- *   steps
+ *   one   a round is a request with a key to write and one to read: it enters, visits both, acquires the first,
+ *         finishes there and leaves. These are the rounds of `lockbench load`: 6 key steps
+ *   two   a round is a request with two keys to write: it enters, visits both, acquires both, leaves and finishes
+ *         both: 8 key steps
  *
  * Whoever waits sleeps on a word of his own, which his waker raises. Each thread makes ROUNDS rounds, with keys that it draws.
  * Prints the nanoseconds of a round by the clock and of the processor, the waits, and how often a call was busy.
