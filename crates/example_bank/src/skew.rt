@@ -19,7 +19,7 @@ pub struct PairRule {
     pub stays: u64,
 }
 
-/// What the accounts have together, as this session reads it.
+/// What `session` reads in the two accounts together.
 fn read_both<N: Name + ValueName, R: Wait>(
     rt: &R,
     bank: &Bank<N>,

@@ -22,11 +22,6 @@ pub one_more : (of : Opening) (max_steps : ℕ) (vs ws : List View) (v : View) �
 one_more of max_steps vs ws v each grown last =
     subst (ArePlaced of max_steps) (sym grown) (λ s d lt. at_each (IsPlaced of max_steps) vs v (length vs) refl each last s d (omega (arith, lt, length-append vs (v ∷ []))))
 
--- one more slot
-pub tag_more : (of : Opening) (max_steps : ℕ) (xs ys : List SlotState) (x : SlotState) → AreTags of max_steps xs → ys ≡ xs ++ x ∷ [] → IsTag of max_steps (length xs) x.tag → AreTags of max_steps ys
-tag_more of max_steps xs ys x each grown last =
-    subst (AreTags of max_steps) (sym grown) (λ s d lt. at_each (λ (k : ℕ) (slot : SlotState). IsTag of max_steps k slot.tag) xs x (length xs) refl each last s d (omega (arith, lt, length-append xs (x ∷ []))))
-
 -- the shard at an index
 pub placed_at : (of : Opening) (max_steps : ℕ) (vs : List View) (k : ℕ) (v : View) → ArePlaced of max_steps vs → k < length vs → v ≡ get_or vs k v → IsPlaced of max_steps k v
 placed_at of max_steps vs k v placed lt is = subst (IsPlaced of max_steps k) (sym is) (placed k v lt)

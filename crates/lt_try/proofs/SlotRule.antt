@@ -9,7 +9,7 @@ use Rattle.atomic_table.specs.Table.{Me, keeps, takes, gives, put_back, Allows, 
 use Rattle.lt_shard.specs.Shards.{View}
 use Rattle.lt_try.specs.declared.slot.ShardTag.{ShardTag}
 use Rattle.lt_try.specs.Tags.{IsTagged}
-use Rattle.lt_try.specs.Slots.{StandsWhileFree, HoldsShard, HasTakenShard}
+use Rattle.lt_try.specs.Slots.{StandsWhileFree, HoldsShard}
 
 -- the first item of a list that was set
 set_first : {A : Type 0} (xs : List A) (x : A) → length xs ≡ 1 → get_elem? (slice_set xs 0 x) 0 ≡ some x
@@ -17,7 +17,7 @@ set_first [] x long = absurd (omega (arith, long))
 set_first (y ∷ ys) x long = refl
 
 -- Whoever writes 1 where the word was 0 takes the shard; where it was not, nothing changes.
-pub takes_it : (tag : ShardTag) (slots : ℕ) → Arrives (StandsWhileFree tag) slots 0 (λ _. 1) (λ found me. found ≡ 0 → HasTakenShard tag me)
+pub takes_it : (tag : ShardTag) (slots : ℕ) → Arrives (StandsWhileFree tag) slots 0 (λ _. 1) (λ found me. found ≡ 0 → HoldsShard (IsTagged tag) me)
 takes_it tag slots s rule _ _ =
     let long : length (slice_set s.words 0 1) ≡ 1 = length-set s.words 0 1 ∙ rule.0 in
     let one : get_or (slice_set s.words 0 1) 0 0 ≡ 1 = get_or-set_same s.words 0 1 0 (omega (arith, rule.0)) in

@@ -16,10 +16,6 @@ StandsWhileFree tag s = (length s.words ≡ 1) × (slice_index s.words 0 ≡ 0 �
 abbrev pub HoldsShard : (View → Type 0) → Me View ShardTag → Type 0
 HoldsShard is me = (v : View) × (me.1 ≡ (0, v) ∷ []) × is v
 
--- The seat has taken the shard of this tag.
-abbrev pub HasTakenShard : ShardTag → Me View ShardTag → Type 0
-HasTakenShard tag me = HoldsShard (IsTagged tag) me
-
 -- The slot is that of the book's shard with this index, and the seat has taken that shard.
 pub record IsInShard (of : Opening) (max_steps index : ℕ) (slot : SlotState) (me : Me View ShardTag) : Type 0 where
   pub slot_is : IsTag of max_steps index slot.tag

@@ -14,7 +14,7 @@ pub enum TryError {
     /// Another caller is in the shard. Call again.
     #[error("another caller is in the shard")]
     Busy,
-    /// Another value of this shard made a step in the book, or a shard was not in its slot at the close. No table that was
+    /// Another value of this shard made a step in the book, or somebody was in a shard at the close. No table that was
     /// opened has two values of one shard, but no contract knows that: it cannot see what a slot holds.
     #[error("the shard is not the one of its table")]
     Lost,

@@ -5,7 +5,7 @@
 //! which shard stands there. So whoever is in a shard knows its book and its index, and compares nothing.
 ghost use Rattle.std.specs.Prelude.{◌≡◌, IfOk, IfSome};
 ghost use Rattle.lt_try.specs.Tags.{IsTagged};
-ghost use Rattle.lt_try.specs.Slots.{StandsWhileFree, HasTakenShard, HoldsShard};
+ghost use Rattle.lt_try.specs.Slots.{StandsWhileFree, HoldsShard};
 
 use atomic_table::{Play, Refused, Seat, Table, TableRule};
 use lt_rules::KeyTable;
@@ -42,7 +42,7 @@ struct Enters;
 impl<T: KeyTable> Play<Shard<T>, ShardTag> for Enters {
     ghost use Rattle.std.specs.Prelude.{◌≡◌};
 
-    ghost then = { λ _ me found after. found ≡ 0 → HasTakenShard me.0 after };
+    ghost then = { λ _ me found after. found ≡ 0 → HoldsShard (IsTagged me.0) after };
 }
 
 struct Leaves;

@@ -1,6 +1,7 @@
 use Rattle.std.proofs.Common.{arith, ap, refl, subst}
 use Rattle.lt_try.specs.declared.slot.ShardTag.{ShardTag}
-use Rattle.lt_try.specs.Slots.{HasTakenShard}
+use Rattle.lt_try.specs.Tags.{IsTagged}
+use Rattle.lt_try.specs.Slots.{HoldsShard}
 use Rattle.lt_try.proofs.SlotRule.{takes_it}
 use Rattle.lt_try.proofs.slot.ShardSlot.enter.Goals as goal
 
@@ -8,4 +9,4 @@ pub swap_new_seat-found-requires : goal.swap_new_seat-found-requires
 swap_new_seat-found-requires g c = (omega (arith, c.self.invariant.0), takes_it c.self.inside.place.shared.key c.self.inside.place.shared.table_id.slots)
 
 pub returns : goal.returns
-returns g c = (subst (λ (tag : ShardTag). HasTakenShard tag c.swap_new_seat-found.result.1.me) (ap (λ slot. slot.tag) c.self.view_is) (c.swap_new_seat-found.ensures.1 c.if-found-ne-FREE.false), refl)
+returns g c = (subst (λ (tag : ShardTag). HoldsShard (IsTagged tag) c.swap_new_seat-found.result.1.me) (ap (λ slot. slot.tag) c.self.view_is) (c.swap_new_seat-found.ensures.1 c.if-found-ne-FREE.false), refl)

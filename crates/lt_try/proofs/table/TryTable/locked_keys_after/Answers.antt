@@ -1,12 +1,11 @@
 use Rattle.std.proofs.Common.{◌∙◌, ap, sym}
-use Rattle.lt_try.specs.Tags.{IsPlaced}
 use Rattle.lt_try.proofs.Entered.{can_lend, stays_after_look, can_leave}
 use Rattle.lt_try.proofs.table.TryTable.locked_keys_after.Goals as goal
 
 pub slot_mut-entered-requires : goal.slot_mut-entered-requires
 slot_mut-entered-requires g c = let inside = c.in-Some.inside in
-    (inside.of_slot ∙ sym (ap (λ slot. slot.id) c.slot.view_is), can_lend (IsPlaced c.args.self.now.of c.args.self.now.config.max_steps c.args.shard) inside.seat.me c.in-Some.ensures.shard_is)
+    (inside.of_slot ∙ sym (ap (λ slot. slot.id) c.slot.view_is), can_lend c.in-Some.ensures)
 
 pub leave-requires : goal.leave-requires
-leave-requires g c = let inside = c.in-Some.inside in let was = c.slot_mut-entered.result.now in let call = c.locked_keys_after_once-first in
-    can_leave c.args.self.now.of c.args.self.now.config.max_steps c.args.shard inside.slot.now inside.seat.me was call.new.self c.in-Some.ensures c.slot_mut-entered.ensures.value (stays_after_look was call.new.self call.ensures.same)
+leave-requires g c = let call = c.locked_keys_after_once-first in
+    can_leave c.in-Some.ensures c.slot_mut-entered.ensures.value (stays_after_look call.ensures.same)
