@@ -8,9 +8,9 @@ use Rattle.lt_try.specs.declared.slot.ShardTag.{ShardTag}
 use Rattle.lt_words.specs.Row.{Opening}
 use Rattle.lt_try.specs.Tags.{IsPlaced, IsTagged, IsTag, SlotState}
 
--- While the word is 0, the shard stands in its slot and has the tag.
+-- While the word in the middle is 0, the shard stands in its slot and has the tag.
 abbrev pub StandsWhileFree : ShardTag → State View ShardTag → Type 0
-StandsWhileFree tag s = (length s.words ≡ 1) × (slice_index s.words 0 ≡ 0 → (v : View) × (get_elem? s.homes 0 ≡ some (some v)) × IsTagged tag v)
+StandsWhileFree tag s = (length s.words ≡ 16) × (slice_index s.words 8 ≡ 0 → (v : View) × (get_elem? s.homes 0 ≡ some (some v)) × IsTagged tag v)
 
 -- The seat holds one shard, and it is so.
 abbrev pub HoldsShard : (View → Type 0) → Me View ShardTag → Type 0

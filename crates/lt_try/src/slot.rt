@@ -27,6 +27,12 @@ const FREE: u64 = 0;
 
 const TAKEN: u64 = 1;
 
+// A slot has more words than the one that it uses, and that one stands in their middle: so the slot has the line of cache around
+// it to itself, wherever the heap puts the words. Callers of other shards do not slow each other down.
+const WORDS: usize = 16;
+
+const WORD: usize = 8;
+
 /// The rule of a slot: while its word is `FREE`, the shard in it has the slot's tag.
 pub(crate) struct OneCaller;
 
@@ -65,7 +71,7 @@ impl<T: KeyTable> Model for ShardSlot<T> {
 
     ghost view = { λ s. record { tag = s.place.shared.key; id = s.place.shared.table_id } };
 
-    ghost invariant = { λ s. (s.place.shared.table_id.words ≡ 1) × (s.place.shared.table_id.slots ≡ 1) };
+    ghost invariant = { λ s. (s.place.shared.table_id.words ≡ 16) × (s.place.shared.table_id.slots ≡ 1) };
 }
 
 /// The shard that a caller is in. `seat` lends it to him. He has to leave it: there is no other way to be rid of this value.
@@ -87,7 +93,7 @@ impl<T: KeyTable + Drop> ShardSlot<T> {
     {
         let mut shards = Vec::with_capacity(alloc, 1)?;
         shards.push_reserved(shard);
-        match Table::new(alloc, &[FREE], shards, tag) {
+        match Table::new(alloc, &[FREE; WORDS], shards, tag) {
             Ok((place, _seat)) => Ok(ShardSlot { place }),
             Err(Refused { slots: _ }) => Err(AllocError),
         }
@@ -98,7 +104,7 @@ impl<T: KeyTable + Drop> ShardSlot<T> {
     pub(crate) fn enter(&self) -> Option<Inside<'_, T>>
         ensures { IfSome result (λ inside. HoldsShard (IsTagged self.now.tag) inside.seat.me × (inside.slot.now ≡ self.now)) }
     {
-        let (found, seat) = self.place.shared.swap_new_seat::<Enters>(0, TAKEN);
+        let (found, seat) = self.place.shared.swap_new_seat::<Enters>(WORD, TAKEN);
         if found != FREE {
             return None;
         }
@@ -135,6 +141,6 @@ impl<'a, T: KeyTable> Inside<'a, T> {
         requires { HoldsShard (IsTagged self.slot.now.tag) self.seat.me }
     {
         let Inside { slot, mut seat } = self;
-        slot.place.shared.store::<Leaves>(&mut seat, 0, FREE);
+        slot.place.shared.store::<Leaves>(&mut seat, WORD, FREE);
     }
 }
