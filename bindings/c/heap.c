@@ -7,10 +7,16 @@
  *     bytes.
  *   - If there is no memory, `ok` is false. `at` is then any address but null. A failed rattle_realloc keeps the block.
  *   - rattle_realloc keeps the first `kept` bytes of the block.
+ *
+ * Here a new block of more than a line of cache begins and ends at one. The library does not ask for that, but callers of
+ * a shared table are faster on several threads: what one of them writes is in no line that another one needs.
  */
 #include <stdbool.h>
 #include <stddef.h>
+#include <stdint.h>
 #include <stdlib.h>
+
+#define LINE ((size_t)64)
 
 struct rattle_block {
     bool ok;
@@ -24,6 +30,7 @@ static struct rattle_block block_at(void *at) {
 }
 
 struct rattle_block rattle_alloc(size_t size, size_t align) {
+    if (size > LINE && size < SIZE_MAX - LINE) return block_at(aligned_alloc(LINE, (size + LINE - 1) / LINE * LINE));
     return block_at(malloc(size > 0 ? size : align));
 }
 

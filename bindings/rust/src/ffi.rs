@@ -168,6 +168,7 @@ extern "C" {
 
     // The C library's heap, which the standard library links.
     fn malloc(size: usize) -> *mut c_void;
+    fn aligned_alloc(align: usize, size: usize) -> *mut c_void;
     fn realloc(at: *mut c_void, size: usize) -> *mut c_void;
     fn free(at: *mut c_void);
 }
@@ -304,6 +305,10 @@ pub(crate) fn check(text: &[u8], report: &mut RawReport) -> u32 {
     unsafe { lt_check(text.as_ptr(), text.len(), report) }
 }
 
+/// A new block of more than a line of cache begins and ends at one. So what one thread writes is in no line that another
+/// one needs.
+const LINE: usize = 64;
+
 /// What the archive is told of a request for memory. If there is none, `at` is any address but null.
 #[repr(C)]
 pub struct Block {
@@ -317,14 +322,17 @@ fn block_at(at: *mut c_void) -> Block {
 }
 
 // SAFETY: the name is the one by which the archive takes memory, and no other crate of this program defines it. The
-// block is aligned to 16 bytes, which is the most that the archive asks for.
+// block is aligned to 16 bytes or more, and 16 is the most that the archive asks for.
 #[no_mangle]
 unsafe extern "C" fn rattle_alloc(size: usize, align: usize) -> Block {
     #[cfg(test)]
     if scarce::refuses() {
         return block_at(core::ptr::null_mut());
     }
-    block_at(malloc(if size > 0 { size } else { align }))
+    match size.checked_next_multiple_of(LINE) {
+        Some(lines) if size > LINE => block_at(aligned_alloc(LINE, lines)),
+        _ => block_at(malloc(if size > 0 { size } else { align })),
+    }
 }
 
 // SAFETY: as `rattle_alloc`; `at` is a block that one of these two functions gave and that was not freed.

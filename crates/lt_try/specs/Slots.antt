@@ -1,6 +1,6 @@
 -- The rule of a slot, and what whoever is in its shard holds.
 use Rattle.std.specs.Prelude.{ℕ, ◌≡◌, ◌∷◌, [], length, slice_index}
-use mathlib.Core.Option.{some}
+use mathlib.Core.Option.{some, none}
 use lib.ListN.{get_elem?}
 use Rattle.atomic_table.specs.Table.{State, Me}
 use Rattle.lt_shard.specs.Shards.{View}
@@ -8,9 +8,11 @@ use Rattle.lt_try.specs.declared.slot.ShardTag.{ShardTag}
 use Rattle.lt_words.specs.Row.{Opening}
 use Rattle.lt_try.specs.Tags.{IsPlaced, IsTagged, IsTag, SlotState}
 
--- While the word in the middle is 0, the shard stands in its slot and has the tag.
+-- While the word in the middle is 0, and only then, the shard stands in its slot. It has the tag.
 abbrev pub StandsWhileFree : ShardTag → State View ShardTag → Type 0
-StandsWhileFree tag s = (length s.words ≡ 16) × (slice_index s.words 8 ≡ 0 → (v : View) × (get_elem? s.homes 0 ≡ some (some v)) × IsTagged tag v)
+StandsWhileFree tag s = (length s.words ≡ 16)
+    × (slice_index s.words 8 ≡ 0 → (v : View) × (get_elem? s.homes 0 ≡ some (some v)) × IsTagged tag v)
+    × (¬ (slice_index s.words 8 ≡ 0) → get_elem? s.homes 0 ≡ some none)
 
 -- The seat holds one shard, and it is so.
 abbrev pub HoldsShard : (View → Type 0) → Me View ShardTag → Type 0

@@ -33,7 +33,7 @@ const WORDS: usize = 16;
 
 const WORD: usize = 8;
 
-/// The rule of a slot: while its word is `FREE`, the shard in it has the slot's tag.
+/// The rule of a slot: the shard stands there while the word is `FREE`, and only then. It has the slot's tag.
 pub(crate) struct OneCaller;
 
 impl<T: KeyTable> TableRule<Shard<T>, ShardTag, ShardTag> for OneCaller {
@@ -51,10 +51,13 @@ impl<T: KeyTable> Play<Shard<T>, ShardTag> for Enters {
     ghost then = { λ _ me found after. found ≡ 0 → HoldsShard (IsTagged me.0) after };
 }
 
+/// Whoever writes `FREE` has given the shard back.
 struct Leaves;
 
 impl<T: KeyTable> Play<Shard<T>, ShardTag> for Leaves {
-    ghost then = { λ _ _ _ _. Unit {0} };
+    ghost use Rattle.std.specs.Prelude.{◌≡◌, []};
+
+    ghost then = { λ _ _ _ after. after.1 ≡ [] };
 }
 
 /// Where a shard stands. In a contract, it is its tag and its identity.
