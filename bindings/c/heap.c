@@ -8,8 +8,8 @@
  *   - If there is no memory, `ok` is false. `at` is then any address but null. A failed rattle_realloc keeps the block.
  *   - rattle_realloc keeps the first `kept` bytes of the block.
  *
- * Here a new block of more than a line of cache begins and ends at one. The library does not ask for that, but callers of
- * a shared table are faster on several threads: what one of them writes is in no line that another one needs.
+ * Here a new block of more than a line of cache takes whole lines, so two such blocks share none. The library does not ask
+ * for that, but a shared table is faster so on several threads.
  */
 #include <stdbool.h>
 #include <stddef.h>

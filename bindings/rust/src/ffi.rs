@@ -305,8 +305,8 @@ pub(crate) fn check(text: &[u8], report: &mut RawReport) -> u32 {
     unsafe { lt_check(text.as_ptr(), text.len(), report) }
 }
 
-/// A new block of more than a line of cache begins and ends at one. So what one thread writes is in no line that another
-/// one needs.
+/// The bytes of a line of cache. A new block of more than one line takes whole lines, so two such blocks share none. The
+/// archive does not ask for that, but a shared table is faster so on several threads.
 const LINE: usize = 64;
 
 /// What the archive is told of a request for memory. If there is none, `at` is any address but null.
