@@ -1,6 +1,7 @@
 //! How is the bank opened, used by threads and closed? [`serve`] does all of it for the table that `N` names.
 ghost use Rattle.std.specs.Arc.{arc_value};
 ghost use Rattle.std.specs.Prelude.{◌≡◌, ◌≢◌, IfOk, IfSome, length};
+ghost use Rattle.std.specs.List.{All};
 ghost use Rattle.example_cells.specs.Committing.{all_commits};
 ghost use Rattle.example_bank.specs.Run.{WentInOne};
 
@@ -16,7 +17,7 @@ use example_store::{ClosedStore, Store, StoreSession, sessions_of};
 use example_values::{ValueBook, ValueName};
 use lt_entry::Entry;
 use lt_table::{Config, Keeping, MAX_REQUEST, MAX_WAIT, Ready, Rest, Rests, random_start};
-use lt_words::Name;
+use lt_words::{Name, Pass};
 use std::alloc::{AllocError, Global};
 use std::mem;
 use std::random::RandomSource;
@@ -78,6 +79,13 @@ struct SessionPair<N: Name + ValueName> {
 struct BankCrew<N: Name + ValueName> {
     tellers: Vec<Teller<N>>,
     taker: Option<TraceTaker<N>>,
+}
+
+/// The sessions of this thread, and those who work on threads of their own.
+#[derive(Drop)]
+struct BankStaff<N: Name + ValueName> {
+    pair: SessionPair<N>,
+    crew: BankCrew<N>,
 }
 
 /// An open bank, and those who work at it.
@@ -168,7 +176,36 @@ fn crew_of<N: Name + ValueName>(
     Ok(BankCrew { tellers, taker })
 }
 
-/// Opens the bank, with two accounts more than the plan says, each with its first balance.
+/// All who use the bank, each with one of these passes.
+fn staff_of<N: Name + ValueName>(
+    alloc: Global,
+    passes: Vec<Pass>,
+    plan: &BankPlan,
+) -> anyhow::Result<BankStaff<N>>
+    requires of { All (λ p. p.of ≡ N.of) passes.items }
+    requires shards { N.of.shards ≡ SHARDS }
+    requires keeping { N.of.keeping ≢ Keeping.Whole }
+{
+    let mut sessions = sessions_of::<N>(alloc, passes)?;
+    let pair = pair_of(&mut sessions)?;
+    let crew = crew_of(alloc, sessions, plan)?;
+    Ok(BankStaff { pair, crew })
+}
+
+/// A bank over this store, with two accounts more than the plan says, each with its first balance.
+fn filled_bank<N: Name + ValueName, R: Wait>(
+    rt: &R,
+    alloc: Global,
+    store: Store<N>,
+    session: &mut StoreSession<N>,
+    plan: &BankPlan,
+) -> anyhow::Result<Bank<N>> {
+    let bank = Bank::new(alloc, store, (plan.accounts as usize).saturating_add(2))?;
+    bank.fill(rt, session, BALANCE)?;
+    Ok(bank)
+}
+
+/// Opens the bank.
 fn open_bank<N: Name + ValueName, R: Wait>(
     rt: &R,
     alloc: Global,
@@ -183,11 +220,8 @@ fn open_bank<N: Name + ValueName, R: Wait>(
     requires keeping { ready.of.keeping ≢ Keeping.Whole }
 {
     let (store, passes) = Store::<N>::open(alloc, ready, start, values)?;
-    let mut sessions = sessions_of::<N>(alloc, passes)?;
-    let mut pair = pair_of(&mut sessions)?;
-    let crew = crew_of(alloc, sessions, plan)?;
-    let bank = Bank::new(alloc, store, (plan.accounts as usize).saturating_add(2))?;
-    bank.fill(rt, &mut pair.first, BALANCE)?;
+    let BankStaff { mut pair, crew } = staff_of(alloc, passes, plan)?;
+    let bank = filled_bank(rt, alloc, store, &mut pair.first, plan)?;
     Ok(OpenBank { bank, pair, crew })
 }
 
@@ -341,21 +375,30 @@ fn sessions_back<N: Name + ValueName>(
     Ok(sessions)
 }
 
+/// These sessions and that of the taker, and what it took. An error if it has lost steps.
+fn with_taker<N: Name + ValueName>(
+    mut sessions: Vec<StoreSession<N>>,
+    taker: TraceTaker<N>,
+) -> anyhow::Result<(Vec<StoreSession<N>>, Option<Vec<ShardTrace<N>>>)> {
+    if !taker.is_whole {
+        bail!("steps of the trace were lost");
+    }
+    sessions.push(taker.session)?;
+    Ok((sessions, Some(taker.shards)))
+}
+
 /// All sessions, and what the taker took, if there is one. An error if it has lost steps.
 fn dismissed<N: Name + ValueName>(
     alloc: Global,
     pair: SessionPair<N>,
     crew: BankCrew<N>,
 ) -> anyhow::Result<(Vec<StoreSession<N>>, Option<Vec<ShardTrace<N>>>)> {
-    let mut sessions = sessions_back(alloc, pair, crew.tellers)?;
-    let Some(taker) = crew.taker else {
-        return Ok((sessions, None));
-    };
-    sessions.push(taker.session)?;
-    if !taker.is_whole {
-        bail!("steps of the trace were lost");
+    let BankCrew { tellers, taker } = crew;
+    let sessions = sessions_back(alloc, pair, tellers)?;
+    match taker {
+        Some(taker) => with_taker(sessions, taker),
+        None => Ok((sessions, None)),
     }
-    Ok((sessions, Some(taker.shards)))
 }
 
 /// The histories of the shards: what was taken, and what the close has left. `None` if there was no taker.

@@ -79,6 +79,24 @@ fn differ(passes: &[Pass]) -> bool
     }
 }
 
+/// The passes of these sessions, which have different numbers, and their logs. After an error the passes are given up.
+fn different_parts_of<N: Name + ValueName>(
+    alloc: Global,
+    sessions: Vec<StoreSession<N>>,
+) -> Result<(Vec<Pass>, Vec<CommitLog<N>>), CloseFault>
+    ensures of { IfOk result (λ r. All (λ p. p.of ≡ N.of) r.0.items) }
+    ensures each { IfOk result (λ r. AllZip IsLogOf r.0.items r.1.items) }
+    ensures logs { IfOk result (λ r. r.1.items ≡ map (λ s. s.log) sessions.items) }
+    ensures differ { IfOk result (λ r. PassNumbersDiffer r.0.items) }
+{
+    let (passes, logs) = all_parts_of(alloc, sessions)?;
+    if differ(passes.as_slice()) {
+        return Ok((passes, logs));
+    }
+    abandon_all(passes);
+    Err(CloseFault::SamePass)
+}
+
 impl<N: Name + ValueName> Store<N> {
     /// Closes the store's table with the passes of all sessions. After an error they are given up.
     pub fn close<R: Wait>(
@@ -90,11 +108,7 @@ impl<N: Name + ValueName> Store<N> {
         ensures in_order { IfOk result (λ c. (passes : List PassState) × ClosedInOrder N.of passes c.rests c.logs.items) }
     {
         let Store { alloc, cells, .. } = self;
-        let (passes, logs) = all_parts_of(alloc, sessions)?;
-        if !differ(passes.as_slice()) {
-            abandon_all(passes);
-            return Err(CloseFault::SamePass);
-        }
+        let (passes, logs) = different_parts_of(alloc, sessions)?;
         commits_went_in_order(&logs);
         match cells
             .into_table()

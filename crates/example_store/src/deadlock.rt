@@ -23,7 +23,7 @@ use crate::error::StoreError;
 use crate::graph::{WaitEdge, victim_of};
 use crate::store::Store;
 use example_values::ValueName;
-use lt_ids::Timestamp;
+use lt_ids::{Key, Timestamp};
 use lt_rules::QueuedRequest;
 use lt_table::{Guard, KeyState, Poll};
 use lt_words::{Name, Pass};
@@ -158,7 +158,7 @@ impl<N: Name + ValueName> Store<N> {
 
     /// Looks at the keys that have a record, one after the other, and chooses whose request has to give way. `None` if there
     /// is no deadlock.
-    #[tactic(auto, using(crate::proofs::Passes::same_self, crate::proofs::Passes::same_on, crate::proofs::Passes::same_of_more, crate::proofs::Passes::same_of_stays))]
+    #[tactic(auto, using(crate::proofs::Passes::same_self, crate::proofs::Passes::same_on))]
     fn deadlocked<R: Wait>(
         &self,
         rt: &R,
@@ -181,8 +181,24 @@ impl<N: Name + ValueName> Store<N> {
         }
     }
 
+    /// Adds the requests that wait at this key.
+    #[tactic(auto, using(crate::proofs::Passes::same_of_more))]
+    fn add_key<R: Wait>(
+        &self,
+        rt: &R,
+        pass: &mut Pass,
+        key: &Key,
+        waits: &mut Waits,
+    ) -> Result<(), AllocError>
+        requires of { pass.old.of ≡ N.of }
+        ensures same { IsSamePass pass.old pass.new }
+    {
+        let state = self.cells.table.inspect(rt, pass, key)?;
+        add_waits(waits, &state)
+    }
+
     /// Adds the requests that wait at the keys of this shard.
-    #[tactic(auto, using(crate::proofs::Passes::same_self, crate::proofs::Passes::same_on, crate::proofs::Passes::same_of_more, crate::proofs::Passes::same_of_stays))]
+    #[tactic(auto, using(crate::proofs::Passes::same_on, crate::proofs::Passes::same_of_more))]
     fn add_shard<R: Wait>(
         &self,
         rt: &R,
@@ -196,8 +212,7 @@ impl<N: Name + ValueName> Store<N> {
     {
         let keys = self.cells.table.locked_keys(rt, pass, shard)?;
         for key in &keys {
-            let state = self.cells.table.inspect(rt, pass, key)?;
-            add_waits(waits, &state)?;
+            self.add_key(rt, pass, key, waits)?;
         }
         Ok(())
     }

@@ -73,23 +73,27 @@ fn put_rules(
     Ok(())
 }
 
+/// Appends what stands where a word has to be.
+fn put_found_word(out: &mut Vec<u8>, bad: &BadWord) -> Result<(), AllocError> {
+    let (before, after) = match bad.word {
+        None => ("it ends before word", ", which has to be:\n"),
+        Some([]) => (
+            "one space separates two words, so word",
+            " is empty. It has to be:\n",
+        ),
+        Some(_) => ("word", " is:\n"),
+    };
+    out.extend_from_slice(before.as_bytes())?;
+    put_number_word(out, bad.number as u64)?;
+    out.extend_from_slice(after.as_bytes())
+}
+
 /// Appends which word cannot stand in its place, and what has to stand there.
 fn put_bad_word(out: &mut Vec<u8>, bad: &BadWord) -> Result<(), AllocError> {
+    put_found_word(out, bad)?;
     match bad.word {
-        None => {
-            out.extend_from_slice(b"it ends before word")?;
-            put_number_word(out, bad.number as u64)?;
-            out.extend_from_slice(b", which has to be:\n")?;
-        }
-        Some([]) => {
-            out.extend_from_slice(b"one space separates two words, so word")?;
-            put_number_word(out, bad.number as u64)?;
-            out.extend_from_slice(b" is empty. It has to be:\n")?;
-        }
+        None | Some([]) => {}
         Some(word) => {
-            out.extend_from_slice(b"word")?;
-            put_number_word(out, bad.number as u64)?;
-            out.extend_from_slice(b" is:\n")?;
             put_shown_bytes(out, word)?;
             out.extend_from_slice(b"and has to be:\n")?;
         }
@@ -200,7 +204,18 @@ fn explain_header<R: BufRead>(
     Ok(true)
 }
 
-/// Appends the explanation of a later line. Returns `false` if it does not have this fault.
+/// Appends the explanation of a line. Returns `false` if the line does not have this fault.
+fn put_same(out: &mut Vec<u8>, explained: &Explained, fault: &str) -> Result<bool, AllocError> {
+    match explained.fault() {
+        Some(found) if found.name() == fault => {
+            put_explanation(out, explained)?;
+            Ok(true)
+        }
+        _ => Ok(false),
+    }
+}
+
+/// Appends the explanation of a later line of the text. Returns `false` if it does not have this fault.
 fn explain_step<R: BufRead>(
     alloc: Global,
     reader: &mut R,
@@ -208,13 +223,22 @@ fn explain_step<R: BufRead>(
     faulty: &FaultyLine,
 ) -> Result<bool, AuditError> {
     let explained = explain(alloc, reader, faulty.line as usize)?;
-    match explained.fault() {
-        Some(fault) if fault.name() == faulty.fault => {
-            put_explanation(out, &explained)?;
-            Ok(true)
-        }
-        _ => Ok(false),
-    }
+    Ok(put_same(out, &explained, faulty.fault)?)
+}
+
+/// The explanation of the faulty line. `None` if the text has another fault, or none.
+fn explanation<R: BufRead>(
+    alloc: Global,
+    reader: &mut R,
+    faulty: &FaultyLine,
+) -> Result<Option<Vec<u8>>, AuditError> {
+    let mut text = Vec::new(alloc);
+    let is_found = if faulty.line == 1 {
+        explain_header(alloc, reader, &mut text)?
+    } else {
+        explain_step(alloc, reader, &mut text, faulty)?
+    };
+    Ok(if is_found { Some(text) } else { None })
 }
 
 /// Appends the explanation of the line, or why there is none.
@@ -233,14 +257,8 @@ fn put_second_reading<F: Files>(
         Err(TraceFailure::Memory) => return Err(AllocError),
         Err(_) => return out.extend_from_slice(HAS_CHANGED),
     };
-    let mut text = Vec::new(alloc);
-    let found = if faulty.line == 1 {
-        explain_header(alloc, &mut reader, &mut text)
-    } else {
-        explain_step(alloc, &mut reader, &mut text, faulty)
-    };
-    match found {
-        Ok(true) => out.extend_from_slice(&text),
+    match explanation(alloc, &mut reader, faulty) {
+        Ok(Some(text)) => out.extend_from_slice(&text),
         Err(AuditError::Check(CheckError::Memory)) => Err(AllocError),
         _ => out.extend_from_slice(HAS_CHANGED),
     }
@@ -260,6 +278,30 @@ fn explain_verdict<F: Files, W: Write>(
     write_text(output, &text)
 }
 
+/// Checks a text, and writes the summary of a legal one.
+fn check_text<R: BufRead, W: Write>(
+    alloc: Global,
+    reader: &mut R,
+    output: &mut W,
+) -> Result<(), TraceFailure> {
+    let mut gatherer = Gatherer::new(alloc);
+    match follow_steps(alloc, reader, output, &mut gatherer) {
+        Ok(report) => write_text(output, &gatherer.text(&report)?),
+        Err(failure) => Err(failure),
+    }
+}
+
+/// Checks a file, and writes the summary of a legal text.
+fn check_file<F: Files, W: Write>(
+    files: &F,
+    alloc: Global,
+    name: &str,
+    output: &mut W,
+) -> Result<(), TraceFailure> {
+    let mut reader = open_reader(files, alloc, name)?;
+    check_text(alloc, &mut reader, output)
+}
+
 /// Checks the file. Writes the summary of a legal text, or the verdict on another one and the explanation of its first
 /// faulty line, and ends with that verdict.
 pub fn explain_file<F: Files, W: Write>(
@@ -268,14 +310,11 @@ pub fn explain_file<F: Files, W: Write>(
     name: &str,
     output: &mut W,
 ) -> Result<(), TraceFailure> {
-    let mut reader = open_reader(files, alloc, name)?;
-    let mut gatherer = Gatherer::new(alloc);
-    match follow_steps(alloc, &mut reader, output, &mut gatherer) {
-        Ok(report) => write_text(output, &gatherer.text(&report)?),
+    match check_file(files, alloc, name, output) {
         Err(TraceFailure::Refused { line, name: fault }) => {
             explain_verdict(files, alloc, name, output, &FaultyLine { line, fault })?;
             Err(TraceFailure::Refused { line, name: fault })
         }
-        Err(failure) => Err(failure),
+        ending => ending,
     }
 }

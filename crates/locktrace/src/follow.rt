@@ -54,6 +54,44 @@ fn end(alloc: Global, checker: Checker, rest: &[u8]) -> Result<Report, TraceFail
     }
 }
 
+/// Reads the first line of a text into this one, and begins a check with it.
+fn begin<R: BufRead>(reader: &mut R, line: &mut Vec<u8>) -> Result<Checker, TraceFailure> {
+    append_line(reader, line)?;
+    match Checker::begin(line) {
+        Some((checker, _)) => Ok(checker),
+        None => Err(TraceFailure::Refused {
+            line: 1,
+            name: Fault::Header.name(),
+        }),
+    }
+}
+
+/// Reads the next line into this one. Returns whether it has a line end.
+fn read_line<R: BufRead>(reader: &mut R, line: &mut Vec<u8>) -> Result<bool, TraceFailure> {
+    line.clear();
+    append_line(reader, line)?;
+    Ok(line.last() == Some(&b'\n'))
+}
+
+/// Gives all lines that have a line end to the checker, and their steps to the taker. What follows the last of them is then in
+/// `line`.
+fn follow_lines<R: BufRead, W: Write, T: StepTaker>(
+    alloc: Global,
+    checker: &mut Checker,
+    line: &mut Vec<u8>,
+    reader: &mut R,
+    output: &mut W,
+    taker: &mut T,
+) -> Result<(), TraceFailure> {
+    for _ in 0..u64::MAX {
+        if !read_line(reader, line)? {
+            return Ok(());
+        }
+        follow_line(alloc, checker, line, output, taker)?;
+    }
+    Err(TraceFailure::TooLong)
+}
+
 /// Reads a text of histories and checks it, gives its steps to the taker, and writes what the taker returns. It stops at
 /// the first fault.
 pub fn follow_steps<R: BufRead, W: Write, T: StepTaker>(
@@ -63,20 +101,9 @@ pub fn follow_steps<R: BufRead, W: Write, T: StepTaker>(
     taker: &mut T,
 ) -> Result<Report, TraceFailure> {
     let mut line = Vec::new(alloc);
-    append_line(reader, &mut line)?;
-    let Some((mut checker, _)) = Checker::begin(&line) else {
-        return Err(TraceFailure::Refused {
-            line: 1,
-            name: Fault::Header.name(),
-        });
-    };
-    for _ in 0..u64::MAX {
-        line.clear();
-        append_line(reader, &mut line)?;
-        if line.last() != Some(&b'\n') {
-            return end(alloc, checker, &line);
-        }
-        follow_line(alloc, &mut checker, &line, output, taker)?;
+    let mut checker = begin(reader, &mut line)?;
+    match follow_lines(alloc, &mut checker, &mut line, reader, output, taker) {
+        Ok(()) => end(alloc, checker, &line),
+        Err(failure) => Err(failure),
     }
-    Err(TraceFailure::TooLong)
 }

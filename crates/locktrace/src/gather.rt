@@ -117,6 +117,14 @@ fn put_summary(out: &mut Vec<u8>, summary: &TextSummary) -> Result<(), AllocErro
     put_hottest(out, &summary.hottest)
 }
 
+/// The line with the numbers of a report, and the summary below it.
+fn text_of(alloc: Global, report: &Report, summary: &TextSummary) -> Result<Vec<u8>, AllocError> {
+    let line = format!(in alloc; "ok {} keys {} steps\n", report.keys, report.steps)?;
+    let mut out = Vec::from_slice(alloc, line.as_bytes())?;
+    put_summary(&mut out, summary)?;
+    Ok(out)
+}
+
 impl Gatherer {
     pub fn new(alloc: Global) -> Gatherer {
         Gatherer {
@@ -129,9 +137,6 @@ impl Gatherer {
     pub fn text(self, report: &Report) -> Result<Vec<u8>, AllocError> {
         let Gatherer { alloc, statistics } = self;
         let summary = statistics.finish()?;
-        let line = format!(in alloc; "ok {} keys {} steps\n", report.keys, report.steps)?;
-        let mut out = Vec::from_slice(alloc, line.as_bytes())?;
-        put_summary(&mut out, &summary)?;
-        Ok(out)
+        text_of(alloc, report, &summary)
     }
 }

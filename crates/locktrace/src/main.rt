@@ -122,16 +122,27 @@ fn tell_words(rt: &HostRuntime, why: &str) -> u8 {
     status(&Err(TraceFailure::Words))
 }
 
-/// Reads the words, does what they ask for, and tells how that ended. Returns the exit status.
-fn run<H: Threads + Sync>(threads: &H, rt: &HostRuntime) -> Result<u8, TraceFailure> {
-    let words = words_of(rt)?;
-    let texts: Vec<&str> = words.iter().map(|word| word.as_str()).collect(rt.alloc())?;
-    match read_task(rt.alloc(), &terminal_of(rt)?, texts.as_slice()) {
+/// Does what these words ask for, and tells how that ended. Returns the exit status.
+fn run_words<H: Threads + Sync>(
+    threads: &H,
+    rt: &HostRuntime,
+    terminal: &Terminal,
+    words: &[&str],
+) -> Result<u8, TraceFailure> {
+    match read_task(rt.alloc(), terminal, words) {
         Ok(task) => Ok(tell(rt, &do_task(threads, rt, &task), &names_of(&task))),
         Err(TaskError::Help(text)) => Ok(tell(rt, &print_help(rt, text.as_str()), &STREAMS)),
         Err(TaskError::Refused(why)) => Ok(tell_words(rt, why.as_str())),
         Err(TaskError::Memory) => Err(TraceFailure::Memory),
     }
+}
+
+/// Reads the words, does what they ask for, and tells how that ended. Returns the exit status.
+fn run<H: Threads + Sync>(threads: &H, rt: &HostRuntime) -> Result<u8, TraceFailure> {
+    let words = words_of(rt)?;
+    let texts: Vec<&str> = words.iter().map(|word| word.as_str()).collect(rt.alloc())?;
+    let terminal = terminal_of(rt)?;
+    run_words(threads, rt, &terminal, texts.as_slice())
 }
 
 fn main(rt: HostRuntime) -> ExitCode {

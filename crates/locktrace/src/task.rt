@@ -16,7 +16,7 @@ use lt_trace_picture::{
     Layout, MOST_QUEUED, PageRows, ShownRange, ShownStep, html, picture, put_heading, put_key,
     put_shown,
 };
-use std::alloc::Global;
+use std::alloc::{AllocError, Global};
 use std::fs::{File, Files};
 use std::io::{BufRead, BufWriter, Read, Write};
 
@@ -68,26 +68,38 @@ struct Shower<'a> {
     key: Option<Key>,
 }
 
+impl<'a> Shower<'a> {
+    /// Appends the head of a table, if the key is not that of the latest step.
+    fn put_head(&mut self, text: &mut Vec<u8>, key: Key) -> Result<(), AllocError> {
+        if let Some(latest) = &self.key
+            && *latest == key
+        {
+            return Ok(());
+        }
+        put_key(text, self.layout, &key)?;
+        put_heading(text, self.layout)?;
+        self.key = Some(key);
+        Ok(())
+    }
+
+    /// The lines of the table for this step.
+    fn lines(&mut self, key: Key, step: &ShownStep) -> Result<Vec<u8>, AllocError> {
+        // Most lines of the table fit into this.
+        let mut text = Vec::with_capacity(self.alloc, self.layout.width().saturating_add(1))?;
+        self.put_head(&mut text, key)?;
+        put_shown(&mut text, self.layout, step)?;
+        Ok(text)
+    }
+}
+
 impl<'a> StepTaker for Shower<'a> {
     fn take(&mut self, checker: &Checker, line: Line) -> Result<Vec<u8>, TraceFailure> {
         if !is_in_range(&self.wanted, &line) {
             return Ok(Vec::new(self.alloc));
         }
-        // Most lines of the table fit into this.
-        let mut text = Vec::with_capacity(self.alloc, self.layout.width().saturating_add(1))?;
         let state = checker.front(self.alloc, MOST_QUEUED)?;
         let (key, step) = shown_step(line, state);
-        let is_new = match &self.key {
-            Some(latest) => *latest != key,
-            None => true,
-        };
-        if is_new {
-            put_key(&mut text, self.layout, &key)?;
-            put_heading(&mut text, self.layout)?;
-            self.key = Some(key);
-        }
-        put_shown(&mut text, self.layout, &step)?;
-        Ok(text)
+        Ok(self.lines(key, &step)?)
     }
 }
 
@@ -104,6 +116,21 @@ struct Collector<'a> {
 }
 
 impl<'a> Collector<'a> {
+    /// A collector of these steps. Makes the rows of a page too, if one is wanted.
+    fn new(alloc: Global, wanted: WantedSteps<'a>, has_page: bool) -> Collector<'a> {
+        Collector {
+            alloc,
+            wanted,
+            key: None,
+            range: ShownRange::new(alloc, KeyState::empty(alloc)),
+            rows: if has_page {
+                Some(PageRows::new(alloc))
+            } else {
+                None
+            },
+        }
+    }
+
     /// Whether the step is wanted. The step before the first wanted one is wanted for the state after it.
     fn wants(&mut self, line: &Line) -> bool {
         let index = line.step.index;
@@ -118,24 +145,33 @@ impl<'a> Collector<'a> {
         }
         self.wanted.from <= index.saturating_add(1)
     }
+
+    /// Adds a step, also to the rows of the page.
+    fn add(&mut self, step: ShownStep) -> Result<(), AllocError> {
+        if let Some(rows) = &mut self.rows {
+            rows.push(&step)?;
+        }
+        self.range.push(step)
+    }
+
+    /// Collects a wanted step, or of the step before the first one the state.
+    fn collect(&mut self, checker: &Checker, line: Line) -> Result<(), AllocError> {
+        let state = checker.state_before(self.alloc, &line.key)?;
+        if line.step.index < self.wanted.from {
+            self.range = ShownRange::new(self.alloc, state);
+            return Ok(());
+        }
+        let (key, step) = shown_step(line, state);
+        self.key = Some(key);
+        self.add(step)
+    }
 }
 
 impl<'a> StepTaker for Collector<'a> {
     fn take(&mut self, checker: &Checker, line: Line) -> Result<Vec<u8>, TraceFailure> {
-        if !self.wants(&line) {
-            return Ok(Vec::new(self.alloc));
+        if self.wants(&line) {
+            self.collect(checker, line)?;
         }
-        let state = checker.state_before(self.alloc, &line.key)?;
-        if line.step.index < self.wanted.from {
-            self.range = ShownRange::new(self.alloc, state);
-            return Ok(Vec::new(self.alloc));
-        }
-        let (key, step) = shown_step(line, state);
-        if let Some(rows) = &mut self.rows {
-            rows.push(&step)?;
-        }
-        self.range.push(step)?;
-        self.key = Some(key);
         Ok(Vec::new(self.alloc))
     }
 }
@@ -192,6 +228,17 @@ fn write_picture<F: Files, W: Write>(
     }
 }
 
+/// Collects the steps of a text, and draws them.
+fn collected<R: BufRead, W: Write>(
+    alloc: Global,
+    reader: &mut R,
+    output: &mut W,
+    collector: &mut Collector,
+) -> Result<Vec<u8>, TraceFailure> {
+    follow_steps(alloc, reader, output, collector)?;
+    drawn(alloc, collector)
+}
+
 /// Draws the wanted steps of a key, and writes the picture to its file or to the output.
 fn draw<F: Files, R: BufRead, W: Write>(
     files: &F,
@@ -201,20 +248,11 @@ fn draw<F: Files, R: BufRead, W: Write>(
     wanted: &WantedSteps,
     picture: &PictureWords,
 ) -> Result<(), TraceFailure> {
-    let mut collector = Collector {
-        alloc,
-        wanted: *wanted,
-        key: None,
-        range: ShownRange::new(alloc, KeyState::empty(alloc)),
-        rows: if picture.html {
-            Some(PageRows::new(alloc))
-        } else {
-            None
-        },
-    };
-    follow_steps(alloc, reader, output, &mut collector)?;
-    let text = drawn(alloc, &collector)?;
-    write_picture(files, output, picture.out, &text)
+    let mut collector = Collector::new(alloc, *wanted, picture.html);
+    match collected(alloc, reader, output, &mut collector) {
+        Ok(text) => write_picture(files, output, picture.out, &text),
+        Err(failure) => Err(failure),
+    }
 }
 
 /// Sorts the trace, and writes the text of histories.

@@ -1,6 +1,5 @@
-use Rattle.std.proofs.Common.{rules, map, refl, subst}
+use Rattle.std.proofs.Common.{map, refl}
 use Rattle.lt_walk.specs.Closed.{passes_of}
-use Rattle.example_store.specs.Closing.{PassNumbersDiffer}
 use Rattle.example_store.proofs.Passes.{closed_in_order}
 use Rattle.example_store.proofs.store.Store.close.Goals as goal
 
@@ -10,7 +9,7 @@ returns-in-Ok-clause-in_order g c =
     let all = passes_of own c.new.result.items in (
       all,
       closed_in_order g.N.Name.of own all c.in-Ok.rests c.in_ok-passes.logs.items c.in_ok-passes.ensures.each
-          (subst PassNumbersDiffer c.as_slice.ensures.value (c.differ.ensures (search rules)))
+          c.in_ok-passes.ensures.differ
           (map (λ guard. guard.pass) c.new.result.items, refl)
           c.in-Ok.ensures.closed c.commits_went_in_order.ensures,
     )
