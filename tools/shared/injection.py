@@ -1,6 +1,7 @@
 """Runs a program with one request refused or its requests counted, and reports what was tried. tools/hand/hostile,
 tools/hand/hostile_traces and tools/gate/count_requests use it."""
 
+import fcntl
 import os
 import subprocess
 
@@ -17,6 +18,16 @@ def built(crate, tests=False):
     return os.path.join(TOP, 'crates', crate, 'out', crate + ('_tests' if tests else ''))
 
 
+def filled_pipe(text):
+    """The end of a pipe to read from. The pipe has the whole text from the start, so how often a program reads from it does not
+    depend on when the text comes."""
+    reading, writing = os.pipe()
+    fcntl.fcntl(writing, fcntl.F_SETPIPE_SZ, max(len(text), 1))
+    os.write(writing, text)
+    os.close(writing)
+    return reading
+
+
 class Shim:
     """Runs programs with one request refused, or with their requests counted."""
 
@@ -29,11 +40,13 @@ class Shim:
         """Returns the status, standard output, standard error, and the numbers that the library told."""
         read_end, write_end = os.pipe()
         settings = {'LD_PRELOAD': self.library, 'TELL': str(write_end), **settings}
-        process = subprocess.Popen(words, env={**os.environ, **settings}, pass_fds=[write_end], stdin=subprocess.PIPE,
+        stdin = filled_pipe(text)
+        process = subprocess.Popen(words, env={**os.environ, **settings}, pass_fds=[write_end], stdin=stdin,
                                    stdout=subprocess.PIPE, stderr=subprocess.PIPE)
         os.close(write_end)
+        os.close(stdin)
         try:
-            out, err = process.communicate(text, timeout=120)
+            out, err = process.communicate(timeout=120)
         except subprocess.TimeoutExpired:
             process.kill()
             out, err = process.communicate()
