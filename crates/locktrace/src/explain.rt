@@ -204,8 +204,8 @@ fn explain_header<R: BufRead>(
     Ok(true)
 }
 
-/// Appends the explanation of a line. Returns `false` if the line does not have this fault.
-fn put_same(out: &mut Vec<u8>, explained: &Explained, fault: &str) -> Result<bool, AllocError> {
+/// Appends the explanation of a line, if the line has this fault. Returns whether it has.
+fn put_if_same(out: &mut Vec<u8>, explained: &Explained, fault: &str) -> Result<bool, AllocError> {
     match explained.fault() {
         Some(found) if found.name() == fault => {
             put_explanation(out, explained)?;
@@ -223,7 +223,7 @@ fn explain_step<R: BufRead>(
     faulty: &FaultyLine,
 ) -> Result<bool, AuditError> {
     let explained = explain(alloc, reader, faulty.line as usize)?;
-    Ok(put_same(out, &explained, faulty.fault)?)
+    Ok(put_if_same(out, &explained, faulty.fault)?)
 }
 
 /// The explanation of the faulty line. `None` if the text has another fault, or none.
@@ -279,7 +279,7 @@ fn explain_verdict<F: Files, W: Write>(
 }
 
 /// Checks a text, and writes the summary of a legal one.
-fn check_text<R: BufRead, W: Write>(
+fn summarize_text<R: BufRead, W: Write>(
     alloc: Global,
     reader: &mut R,
     output: &mut W,
@@ -292,14 +292,14 @@ fn check_text<R: BufRead, W: Write>(
 }
 
 /// Checks a file, and writes the summary of a legal text.
-fn check_file<F: Files, W: Write>(
+fn summarize_file<F: Files, W: Write>(
     files: &F,
     alloc: Global,
     name: &str,
     output: &mut W,
 ) -> Result<(), TraceFailure> {
     let mut reader = open_reader(files, alloc, name)?;
-    check_text(alloc, &mut reader, output)
+    summarize_text(alloc, &mut reader, output)
 }
 
 /// Checks the file. Writes the summary of a legal text, or the verdict on another one and the explanation of its first
@@ -310,7 +310,7 @@ pub fn explain_file<F: Files, W: Write>(
     name: &str,
     output: &mut W,
 ) -> Result<(), TraceFailure> {
-    match check_file(files, alloc, name, output) {
+    match summarize_file(files, alloc, name, output) {
         Err(TraceFailure::Refused { line, name: fault }) => {
             explain_verdict(files, alloc, name, output, &FaultyLine { line, fault })?;
             Err(TraceFailure::Refused { line, name: fault })
