@@ -12,7 +12,7 @@ use lt_text::put::{put_number_word, put_reply};
 use lt_trace_check::{
     AuditError, BadWord, Explained, LineReason, bad_word, explain, read_first_line, rule_of,
 };
-use lt_trace_picture::{put_printable, put_state};
+use lt_trace_show::{put_printable, put_state};
 use std::alloc::{AllocError, Global};
 use std::fs::Files;
 use std::io::{BufRead, Write};

@@ -5,7 +5,7 @@ ghost use Rattle.locktrace.specs.declared.failure.TraceFailure.TheVariants.{Memo
 use lt_checker::CheckError;
 use lt_trace::{SortError, TraceFault};
 use lt_trace_check::AuditError;
-use lt_trace_picture::PictureError;
+use lt_trace_show::PictureError;
 use std::alloc::{AllocError, AllocFailed};
 use std::io::ErrorKind;
 use thiserror::Error;

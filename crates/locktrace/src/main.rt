@@ -8,8 +8,8 @@
 //! - `locktrace picture [FILE] --key KEY` draws the steps of a key.
 //!
 //! Every function here is proved to be safe. What the commands promise beyond that, the libraries promise: `lt_trace`
-//! sorts, `lt_trace_check` and `lt_checker` check, `lt_trace_waits` judges waits, `lt_trace_statistics` counts, and
-//! `lt_trace_picture` draws.
+//! sorts, `lt_trace_check` and `lt_checker` check, `lt_trace_waits` judges waits, `lt_trace_statistics` counts,
+//! `lt_trace_show` makes tables, and `lt_trace_picture` draws.
 //!
 //! Read next: `src/task.rt` for what each command does, `locktrace_words` for the command line.
 #![tactic(auto)]
@@ -30,7 +30,7 @@ use crate::failure::{TraceFailure, fault_of, status};
 use crate::progress_line::ProgressLine;
 use crate::task::{STREAMS, TaskNames, names_of, perform};
 use locktrace_words::{Task, TaskError, read_task, width_of};
-use lt_trace_picture::Terminal;
+use lt_trace_show::Terminal;
 use std::env::{self, VarError};
 use std::io::{ErrorKind, IsTerminal};
 use std::process::ExitCode;

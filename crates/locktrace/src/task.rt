@@ -12,9 +12,9 @@ use lt_checker::{Checker, Line};
 use lt_ids::Key;
 use lt_rules::KeyState;
 use lt_trace::{SortOptions, TraceForm, sort_trace};
-use lt_trace_picture::{
-    Layout, MOST_QUEUED, PageRows, ShownRange, ShownStep, html, picture, put_heading, put_key,
-    put_shown,
+use lt_trace_picture::{PageRows, html, picture};
+use lt_trace_show::{
+    Layout, MOST_QUEUED, MOST_STEPS, ShownRange, ShownStep, put_heading, put_key, put_shown,
 };
 use std::alloc::{AllocError, Global};
 use std::fs::{File, Files};
@@ -134,9 +134,7 @@ impl<'a> Collector<'a> {
     /// Whether the step is wanted. The step before the first wanted one is wanted for the state after it.
     fn wants(&mut self, line: &Line) -> bool {
         let index = line.step.index;
-        if !is_of_key(&self.wanted, &line.key)
-            || lt_trace_picture::MOST_STEPS < self.range.steps.len()
-        {
+        if !is_of_key(&self.wanted, &line.key) || MOST_STEPS < self.range.steps.len() {
             return false;
         }
         if self.wanted.to < index {

@@ -3,7 +3,7 @@
 ghost use Rattle.std.specs.Prelude.{◌≤◌, IfSome};
 
 use lt_text::number::number;
-use lt_trace_picture::{ColourChoice, Layout, Terminal};
+use lt_trace_show::{ColourChoice, Layout, Terminal};
 
 /// The least width of a table.
 const LEAST_WIDTH: u16 = 40;

@@ -8,7 +8,7 @@ use crate::layout::{choice_of, layout_of, width_of};
 use clap::error::ErrorKind;
 use clap::{Arg, ArgAction, ArgMatches, Command, Error};
 use lt_text::number::number;
-use lt_trace_picture::{ColourChoice, Layout, Terminal};
+use lt_trace_show::{ColourChoice, Layout, Terminal};
 use std::alloc::{AllocError, Global};
 
 /// Which steps of a text are wanted.

@@ -1,10 +1,7 @@
 //! Where does each part of the picture lie, in pixels? The numbers saturate: they are far below the limits of a `u64`
 //! for any picture that can be looked at.
-use crate::drawn::DrawnStep;
-use crate::lanes::Lanes;
-use crate::timeline::Lane;
-use crate::whose::Claim;
 use itoa::Buffer;
+use lt_trace_show::{Claim, DrawnStep, Lane, Lanes};
 
 /// The height of a lane.
 const LANE: u64 = 38;

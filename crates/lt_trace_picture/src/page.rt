@@ -2,16 +2,13 @@
 //! without a script, and it loads nothing. A pointer over the picture shows the words of a step or of a bar.
 ghost use Rattle.std.specs.Prelude.{◌≡◌, ◌<◌, ◌↔◌, Err, length};
 
-use crate::columns::COLUMNS;
 use crate::drawing::put;
-use crate::drawn::ShownRange;
-use crate::error::PictureError;
-use crate::escape::put_escaped;
-use crate::lanes::lanes_of;
-use crate::step::ShownStep;
 use crate::svg::{has_earlier, put_picture, put_range};
-use crate::words::{put_column, put_column_before, put_column_name};
 use lt_ids::Key;
+use lt_trace_show::{
+    COLUMNS, PictureError, ShownRange, ShownStep, lanes_of, put_column, put_column_before,
+    put_column_name, put_escaped,
+};
 use std::alloc::{AllocError, Global};
 
 /// The styles of the page.

@@ -7,18 +7,15 @@ use crate::drawing::{
     Area, RectColumn, column_start, end_text, end_titled_rect, put, put_marker, put_rect,
     put_torn_end, put_vertical, put_with_number, start_in_column, start_text, start_titled_rect,
 };
-use crate::drawn::{DrawnStep, ShownRange};
-use crate::error::PictureError;
-use crate::escape::put_escaped;
 use crate::grid::{BAR, Grid};
-use crate::lanes::{Arrow, Bar, Lanes, index_of, lanes_of};
 use crate::legend::put_legend;
-use crate::timeline::{Lane, Phase, lane_of};
-use crate::whose::{Claim, owners_of};
-use crate::words::{put_state, put_step_words};
 use lt_ids::{Access, Key};
 use lt_rules::Call;
 use lt_text::put::put_number;
+use lt_trace_show::{
+    Arrow, Bar, Claim, DrawnStep, Lane, Lanes, Phase, PictureError, ShownRange, index_of, lane_of,
+    lanes_of, owners_of, put_escaped, put_state, put_step_words,
+};
 use std::alloc::{AllocError, Global};
 
 /// How many bytes of a key fit into the narrowest picture, however wide its letters are.

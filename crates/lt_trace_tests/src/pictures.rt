@@ -7,9 +7,10 @@
 use lt_ids::{Access, IdError, Key, Ticket, Timestamp, TxnId};
 use lt_plain::PlainTable;
 use lt_rules::{Call, KeyState, KeyTable, Reply};
-use lt_trace_picture::{
-    Arrow, Bar, ColourChoice, Lane, Layout, PageRows, Phase, PictureError, ShownRange, ShownStep,
-    Terminal, html, lanes_of, picture, put_escaped, put_heading, put_key, put_printable, put_shown,
+use lt_trace_picture::{PageRows, html, picture};
+use lt_trace_show::{
+    Arrow, Bar, ColourChoice, Lane, Layout, Phase, PictureError, ShownRange, ShownStep, Terminal,
+    lanes_of, put_escaped, put_heading, put_key, put_printable, put_shown,
 };
 use std::alloc::{AllocError, Global};
 use std::process::Abort;

@@ -1,7 +1,0 @@
-use Rattle.std.proofs.Common.{◌≡◌, ◌++◌, take}
-use Rattle.std.specs.List.{flat_map}
-use Rattle.lt_trace_picture.specs.Escape.{printable_byte}
-use Rattle.lt_trace_picture.proofs.escape.put_each_printable.Given as goal
-
-abbrev pub invariant-loop-b : goal.invariant-loop-b
-invariant-loop-b l = l.out.items ≡ l.initial.out.items ++ flat_map printable_byte (take l.b-index l.bytes)

@@ -1,6 +1,0 @@
-use Rattle.std.proofs.Common.{All, length}
-use Rattle.lt_trace_picture.specs.Bars.{IsArrowWithin}
-use Rattle.lt_trace_picture.proofs.lanes.arrows_of.Given as goal
-
-abbrev pub invariant-loop-index : goal.invariant-loop-index
-invariant-loop-index l = All (IsArrowWithin (length l.steps) (length l.lanes)) l.arrows.items

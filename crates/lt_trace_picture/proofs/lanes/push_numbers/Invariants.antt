@@ -1,7 +1,0 @@
-use Rattle.std.proofs.Common.{◌≡◌, ◌++◌, take}
-use Rattle.std.specs.Prelude.{map}
-use Rattle.lt_trace_picture.specs.declared.timeline.Lane.TheVariants.{Request}
-use Rattle.lt_trace_picture.proofs.lanes.push_numbers.Given as goal
-
-abbrev pub invariant-loop-number : goal.invariant-loop-number
-invariant-loop-number l = l.lanes.items ≡ l.initial.lanes.items ++ map Request (take l.number-index l.numbers)

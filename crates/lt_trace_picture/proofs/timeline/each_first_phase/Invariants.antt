@@ -1,7 +1,0 @@
-use Rattle.std.proofs.Common.{◌≡◌, take}
-use Rattle.std.specs.Prelude.{map}
-use Rattle.lt_trace_picture.specs.Phases.{phase_of}
-use Rattle.lt_trace_picture.proofs.timeline.each_first_phase.Given as goal
-
-abbrev pub invariant-loop-index : goal.invariant-loop-index
-invariant-loop-index l = l.phases.items ≡ map (λ x. phase_of x l.state) (take l.index l.lanes)

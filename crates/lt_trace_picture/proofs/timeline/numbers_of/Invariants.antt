@@ -1,7 +1,0 @@
-use Rattle.std.proofs.Common.{◌≡◌, take}
-use Rattle.std.specs.Prelude.{map}
-use Rattle.lt_trace_picture.specs.Phases.{number_of_lane}
-use Rattle.lt_trace_picture.proofs.timeline.numbers_of.Given as goal
-
-abbrev pub invariant-loop-lane : goal.invariant-loop-lane
-invariant-loop-lane l = l.numbers.items ≡ map number_of_lane (take l.lane-index l.lanes)

@@ -1,6 +1,0 @@
-use Rattle.std.proofs.Common.{drop}
-use Rattle.lt_trace_picture.proofs.Followed.{Reaches}
-use Rattle.lt_trace_picture.proofs.timeline.timeline.Given as goal
-
-abbrev pub invariant-loop-step : goal.invariant-loop-step
-invariant-loop-step l = Reaches l.lane l.fn.first l.steps l.phases.items l.latest (drop l.step-index l.steps)
