@@ -2,20 +2,16 @@
 //! arguments the program prints its help.
 //!
 //! - `load` times rounds of a store's transactions, on one thread or many. The table keeps its history whole,
-//!   streams it, or records none, and may hold further locks meanwhile. Read [`load`] and then [`drivers`].
-//! - `hand-over` times how a lock goes from transaction to transaction while requests wait for it. Read `lockbench_parts`.
+//!   streams it, or records none, and may hold further locks meanwhile. Read `lockbench_load`.
+//! - `hand-over` times how a lock goes from transaction to transaction while requests wait for it. Read
+//!   `lockbench_hand_over`.
 //! - `soak --seconds N` plays random requests on threads for N seconds and checks the histories. Read
-//!   `lockbench_parts`.
+//!   `lockbench_soak`.
 #![tactic(auto)]
 
-mod drivers;
-mod holding;
-mod key_names;
-mod load;
 mod words;
 
 use crate::words::BenchJob;
-use lockbench_parts::{hand_over, soak};
 use std::env;
 use std::sync::Wait;
 use std::thread::Threads;
@@ -29,12 +25,12 @@ fn run<H: Threads + Wait + Clock + CpuClock + Sync>(
 ) -> anyhow::Result<()> {
     let alloc = rt.alloc();
     match words::asked(alloc, words)? {
-        BenchJob::Soak(soak) => soak::report(threads, rt, alloc, &soak),
+        BenchJob::Soak(soak) => lockbench_soak::report(threads, rt, alloc, &soak),
         BenchJob::Load(load, trace) => {
             let name = trace.as_ref().map(|name| name.as_str());
-            load::report(threads, rt, alloc, &load, name)
+            lockbench_load::report(threads, rt, alloc, &load, name)
         }
-        BenchJob::HandOver(load) => hand_over::report(threads, rt, alloc, &load),
+        BenchJob::HandOver(load) => lockbench_hand_over::report(threads, rt, alloc, &load),
         BenchJob::Help(text) => {
             print!(rt; "{text}")?;
             Ok(())

@@ -2,12 +2,12 @@
 //! fault.
 //!
 //! The defaults and ranges of the options are in [`load_of`], [`hand_over_of`] and [`soak_of`]; their help texts are with the options.
-use crate::load::Load;
 use anyhow::bail;
 use clap::error::ErrorKind;
 use clap::{Arg, ArgAction, ArgMatches, Command, Error};
-use lockbench_parts::hand_over::HandOver;
-use lockbench_parts::soak::Soak;
+use lockbench_hand_over::HandOver;
+use lockbench_load::Load;
+use lockbench_soak::Soak;
 use lt_table::{Keeping, MAX_KEY_BYTES, MAX_PASS, MAX_SHARDS};
 use std::alloc::{AllocError, Global};
 

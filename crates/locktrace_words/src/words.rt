@@ -4,11 +4,10 @@
 //! half turns clap's matches into a [`Task`]. [`read_task`] combines the two. Read next: `task.rt` of `locktrace`, which
 //! performs a task.
 use crate::help;
-use crate::layout::{choice_of, layout_of, width_of};
 use clap::error::ErrorKind;
 use clap::{Arg, ArgAction, ArgMatches, Command, Error};
 use lt_text::number::number;
-use lt_trace_show::{ColourChoice, Layout, Terminal};
+use lt_trace_show::{ColourChoice, Layout, Terminal, choice_of, layout_of, width_of};
 use std::alloc::{AllocError, Global};
 
 /// Which steps of a text are wanted.

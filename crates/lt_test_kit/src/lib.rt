@@ -5,8 +5,8 @@
 //!   asks a running table for the state of a key or the keys of a shard. [`key`] maps a byte to a key. [`run`]
 //!   plays a list of commands and then closes the table.
 //! - **One request.** [`request`] has a lock held, and a request come and go.
-//! - **Small parts.** [`replay`] repeats the steps of a history, [`plain`] makes the plain tables of a table's
-//!   shards, and [`random`] is a pseudorandom stream that is the same in each run.
+//! - **Small parts.** [`replay`] repeats the steps of a history, and [`plain`] makes the plain tables of a table's
+//!   shards.
 #![tactic(auto)]
 
 pub mod asking;
@@ -15,7 +15,6 @@ pub mod holds;
 pub mod key;
 pub mod plain;
 pub mod play;
-pub mod random;
 pub mod replay;
 pub mod request;
 pub mod run;

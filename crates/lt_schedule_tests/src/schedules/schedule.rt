@@ -8,11 +8,11 @@ use crate::schedules::cases::ScheduleCaseCounts;
 use crate::schedules::standing::ExpectedAnswer;
 use crate::schedules::table::SecondTable;
 use lt_ids::Access;
+use lt_random::Random;
 use lt_table::Config;
 use lt_test_kit::asking::Question;
 use lt_test_kit::command::{CommandRow, TableCommand};
 use lt_test_kit::play::PlayedCommand;
-use lt_test_kit::random::Random;
 use std::alloc::Global;
 
 /// How many commands a schedule has.
