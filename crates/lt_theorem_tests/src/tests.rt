@@ -4,13 +4,13 @@ ghost use Rattle.std.specs.List.{All};
 ghost use Rattle.std.specs.FinMap as finmap;
 ghost use Rattle.lt_words.specs.Row.{fresh_passes};
 
-use crate::notes::Notes;
-use crate::run::{NotedClose, run_at_once, run_in_turn};
 use lt_plain::PlainTable;
 use lt_rules::Reply;
 use lt_table_core::{
     Config, Keeping, PrepareError, Ready, Table, empty_tables, open_with, prepare_with,
 };
+use lt_theorem_callers::notes::Notes;
+use lt_theorem_callers::run::{NotedClose, run_at_once, run_in_turn};
 use lt_words::{Name, Pass};
 use std::alloc::Global;
 use std::marker::Brand;
