@@ -1,4 +1,2 @@
-pub mod Cycles
 pub mod Held
 pub mod Passes
-pub mod Walks

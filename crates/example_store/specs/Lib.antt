@@ -1,4 +1,3 @@
-pub mod Graph
 pub mod Sessions
 pub mod Closing
 pub mod Locks

@@ -20,8 +20,8 @@ ghost use Rattle.std.specs.Prelude.{◌≡◌, ◌<◌};
 ghost use Rattle.lt_walk.specs.Reported.{IsSamePass};
 
 use crate::error::StoreError;
-use crate::graph::{WaitEdge, victim_of};
 use crate::store::Store;
+use example_graph::{WaitEdge, victim_of};
 use example_values::ValueName;
 use lt_ids::{Key, Timestamp};
 use lt_rules::QueuedRequest;
@@ -95,7 +95,7 @@ fn request_of(requests: &[QueuedRequest], ts: u64) -> Option<QueuedRequest> {
 impl<N: Name + ValueName> Store<N> {
     /// Waits until the request is let through. Returns at once if it does not wait. Refused if its transaction has to
     /// give way.
-    #[tactic(auto, using(crate::proofs::Passes::same_self, crate::proofs::Passes::same_on, crate::proofs::Passes::same_of_more, crate::proofs::Passes::same_of_stays))]
+    #[tactic(auto, using(crate::proofs::Passes::same_self, crate::proofs::Passes::same_on))]
     pub(crate) fn wait<R: Wait + Clock>(&self, rt: &R, guard: &mut Guard) -> Result<(), StoreError>
         requires of { guard.old.pass.of ≡ N.of }
         ensures same { IsSamePass guard.old.pass guard.new.pass }
@@ -122,7 +122,7 @@ impl<N: Name + ValueName> Store<N> {
 
     /// Sleeps until the request is let through or interrupted, but for at most [`PATIENCE`] unless a look for a
     /// deadlock has found none.
-    #[tactic(auto, using(crate::proofs::Passes::same_self, crate::proofs::Passes::same_on, crate::proofs::Passes::same_of_more, crate::proofs::Passes::same_of_stays))]
+    #[tactic(auto, using(crate::proofs::Passes::same_self, crate::proofs::Passes::same_of_stays))]
     fn wait_once<R: Wait + Clock>(
         &self,
         rt: &R,
@@ -141,7 +141,7 @@ impl<N: Name + ValueName> Store<N> {
 
     /// Looks for a deadlock. If there is one, also on a second look, its victim is told to give way, which may be this
     /// request itself. Returns whether the first look found none.
-    #[tactic(auto, using(crate::proofs::Passes::same_self, crate::proofs::Passes::same_on))]
+    #[tactic(auto, using(crate::proofs::Passes::same_on))]
     fn push<R: Wait>(&self, rt: &R, pass: &mut Pass) -> Result<bool, AllocError>
         requires of { pass.old.of ≡ N.of }
         ensures same { IsSamePass pass.old pass.new }

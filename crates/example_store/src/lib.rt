@@ -6,7 +6,7 @@
 //!
 //! 1. `src/store.rt`: how a store is opened, how a transaction begins, and the isolation.
 //! 2. `src/access.rt`: reads and writes. `src/request.rt`: the way of one request through the table.
-//! 3. `src/deadlock.rt` and `src/graph.rt`: who waits for whom, and who gives way.
+//! 3. `src/deadlock.rt`, and `example_graph` below it: who waits for whom, and who gives way.
 //! 4. `src/ending.rt`: commits and aborts. `src/closing.rt`: what the close says of all transactions.
 //! 5. `src/session.rt`: how a pass goes to a thread.
 //!
@@ -38,7 +38,8 @@
 //!   [`Store::commit`]), and says one value of a step. So if the reading says so and that tenure ended with a commit that put a
 //!   value, the read returns this value.
 //! - **An abort that says Ok** leaves each value as it is (`leaves` of [`Store::abort`]).
-//! - [`victim_of`] chooses the greatest number of some cycle, and chooses nobody only if there is no cycle.
+//! - Who gives way has the greatest number of some cycle, and nobody does only if there is no cycle (`victim_of` of
+//!   `example_graph`).
 //!
 //! # What is not proved
 //!
@@ -56,13 +57,11 @@ mod closing;
 mod deadlock;
 mod ending;
 mod error;
-mod graph;
 mod request;
 mod session;
 mod store;
 
 pub use closing::ClosedStore;
 pub use error::{CloseFault, StoreError};
-pub use graph::{WaitEdge, victim_of};
 pub use session::{PassSlot, StoreSession, sessions_of};
 pub use store::Store;

@@ -42,7 +42,7 @@ fn error_of(error: EnterError) -> StoreError
 impl<N: Name + ValueName> Store<N> {
     /// Takes the key's lock for this transaction, by a request that enters through the pass and leaves again. The pass comes
     /// back.
-    #[tactic(auto, using(crate::proofs::Passes::same_self, crate::proofs::Passes::same_on, crate::proofs::Passes::same_of_more, crate::proofs::Passes::same_of_stays))]
+    #[tactic(auto, using(crate::proofs::Passes::same_on))]
     pub(crate) fn request<R: Wait + Clock>(
         &self,
         rt: &R,
@@ -65,7 +65,7 @@ impl<N: Name + ValueName> Store<N> {
     }
 
     /// Enters a request to write the key.
-    #[tactic(auto, using(crate::proofs::Passes::same_self, crate::proofs::Passes::same_on, crate::proofs::Passes::same_of_more, crate::proofs::Passes::same_of_stays))]
+    #[tactic(auto, using(crate::proofs::Passes::same_self, crate::proofs::Passes::same_of_more))]
     fn enter(&self, pass: Pass, key: &Key, txn: TxnId, ts: Timestamp) -> Result<Guard, Refused>
         requires of { pass.of ≡ N.of }
         ensures entered { IfOk result (λ g. IsSamePass pass g.pass) }
@@ -93,7 +93,7 @@ impl<N: Name + ValueName> Store<N> {
     }
 
     /// Scans until the request has the lock, and waits in between.
-    #[tactic(auto, using(crate::proofs::Passes::same_self, crate::proofs::Passes::same_on, crate::proofs::Passes::same_of_more, crate::proofs::Passes::same_of_stays))]
+    #[tactic(auto, using(crate::proofs::Passes::same_self, crate::proofs::Passes::same_on))]
     fn reach<R: Wait + Clock>(
         &self,
         rt: &R,
@@ -115,7 +115,7 @@ impl<N: Name + ValueName> Store<N> {
     }
 
     /// Scans once, and waits if the request has to. `None` if the request has to scan again.
-    #[tactic(auto, using(crate::proofs::Passes::same_self, crate::proofs::Passes::same_on, crate::proofs::Passes::same_of_more, crate::proofs::Passes::same_of_stays))]
+    #[tactic(auto, using(crate::proofs::Passes::same_on, crate::proofs::Passes::same_of_stays))]
     fn scan<R: Wait + Clock>(
         &self,
         rt: &R,
@@ -147,7 +147,7 @@ impl<N: Name + ValueName> Store<N> {
     }
 
     /// Takes the lock of a request that proceeds. `None` if another transaction holds it, or the key's shard is full.
-    #[tactic(auto, using(crate::proofs::Passes::same_self, crate::proofs::Passes::same_on, crate::proofs::Passes::same_of_more, crate::proofs::Passes::same_of_stays))]
+    #[tactic(auto, using(crate::proofs::Passes::same_self))]
     fn take<R: Wait>(
         &self,
         rt: &R,
@@ -172,7 +172,7 @@ impl<N: Name + ValueName> Store<N> {
     }
 
     /// Leaves, and tries again while the table refuses.
-    #[tactic(auto, using(crate::proofs::Passes::same_self, crate::proofs::Passes::same_on, crate::proofs::Passes::same_of_more, crate::proofs::Passes::same_of_stays))]
+    #[tactic(auto, using(crate::proofs::Passes::same_self, crate::proofs::Passes::same_on, crate::proofs::Passes::same_of_stays))]
     fn leave<R: Wait>(&self, rt: &R, guard: Guard) -> Pass
         requires of { guard.pass.of ≡ N.of }
         ensures same { IsSamePass guard.pass result }

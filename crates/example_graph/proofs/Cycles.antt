@@ -3,8 +3,8 @@ use Rattle.std.specs.Prelude.{ℕ, ◌≡◌, ◌<◌, ◌≤◌, suc, zero, Boo
 use Rattle.std.proofs.Common.{arith, rules, refl, ap, cond, ◌∙◌}
 use Rattle.std.proofs.lemmas.List.Elements.{filter_passes, All-contains}
 use Rattle.std.proofs.lemmas.List.Folds.{list_any_at}
-use Rattle.example_store.specs.declared.graph.WaitEdge.{WaitEdge}
-use Rattle.example_store.specs.Graph.{Waits, IsChain, IsCycle, waits, pruned, KeepsCycles, AllLeadOn, HasNoCycle, edge_of}
+use Rattle.example_graph.specs.declared.graph.WaitEdge.{WaitEdge}
+use Rattle.example_graph.specs.Graph.{Waits, IsChain, IsCycle, waits, pruned, KeepsCycles, AllLeadOn, HasNoCycle, edge_of}
 
 Contains-head : {X : Type 0} (y : X) (xs : List X) (x : X) → y ≡ x → Contains (y ∷ xs) x
 Contains-head y xs x same = (0, omega arith, same)

@@ -1,6 +1,6 @@
 use Rattle.std.proofs.Common.{length}
-use Rattle.example_store.specs.Graph.{KeepsCycles}
-use Rattle.example_store.proofs.graph.core_of.Given as goal
+use Rattle.example_graph.specs.Graph.{KeepsCycles}
+use Rattle.example_graph.proofs.graph.core_of.Given as goal
 
 abbrev pub invariant-loop-left : goal.invariant-loop-left
 invariant-loop-left l = KeepsCycles l.fn.edges.items l.left.items

@@ -2,8 +2,8 @@
 use Rattle.std.specs.Prelude.{ℕ, ◌≡◌, ◌<◌, ◌≤◌, suc, zero, Bool, true, false, not, ◌||◌, List, [], ◌∷◌, ◌++◌, Contains, filter, length, drop}
 use Rattle.std.proofs.Common.{arith, rules, refl, ap, cond, get_or, ◌∙◌}
 use Rattle.std.proofs.lemmas.List.Folds.{list_any-append}
-use Rattle.example_store.specs.declared.graph.WaitEdge.{WaitEdge}
-use Rattle.example_store.specs.Graph.{Waits, IsChain, IsCycle, waits, is_among, IsOnPathAt, AllLeadOn, edge_of}
+use Rattle.example_graph.specs.declared.graph.WaitEdge.{WaitEdge}
+use Rattle.example_graph.specs.Graph.{Waits, IsChain, IsCycle, waits, is_among, IsOnPathAt, AllLeadOn, edge_of}
 
 -- the edges of transactions that were not visited
 abbrev pub unvisited : List ℕ → List WaitEdge → List WaitEdge

@@ -1,8 +1,8 @@
 use Rattle.std.proofs.Common.{◌≡◌, drop}
 use Rattle.std.proofs.lemmas.Result.{IfOk-weaker}
-use Rattle.example_store.specs.Graph.{IsCycle, IsOnPathAt}
-use Rattle.example_store.proofs.Walks.{IsOnWay-pushed, unvisited-pushed, IsCycle-pushed}
-use Rattle.example_store.proofs.graph.walk.Goals as goal
+use Rattle.example_graph.specs.Graph.{IsCycle, IsOnPathAt}
+use Rattle.example_graph.proofs.Walks.{IsOnWay-pushed, unvisited-pushed, IsCycle-pushed}
+use Rattle.example_graph.proofs.graph.walk.Goals as goal
 
 pub loop-next-smaller : goal.loop-next-smaller
 loop-next-smaller c =

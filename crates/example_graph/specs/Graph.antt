@@ -1,7 +1,7 @@
 -- Who waits for whom, and what a cycle is.
 use Rattle.std.specs.Prelude.{ℕ, ◌≡◌, Bool, true, nat_eq, List, [], ◌∷◌, ◌++◌, Contains, filter, length, slice_index, ◌<◌, ◌≤◌}
 use Rattle.std.specs.List.{list_any, All}
-use Rattle.example_store.specs.declared.graph.WaitEdge.{WaitEdge}
+use Rattle.example_graph.specs.declared.graph.WaitEdge.{WaitEdge}
 
 abbrev pub edge_of : ℕ → ℕ → WaitEdge
 edge_of a b = record { waiter = a; holder = b }

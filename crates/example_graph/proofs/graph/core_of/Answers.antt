@@ -1,7 +1,7 @@
 use Rattle.std.proofs.Common.{◌≡◌, ◌∙◌, ap, arith, length}
-use Rattle.example_store.specs.Graph.{pruned}
-use Rattle.example_store.proofs.Cycles.{KeepsCycles-fewer, AllLeadOn-fewer, length-fewer}
-use Rattle.example_store.proofs.graph.core_of.Goals as goal
+use Rattle.example_graph.specs.Graph.{pruned}
+use Rattle.example_graph.proofs.Cycles.{KeepsCycles-fewer, AllLeadOn-fewer, length-fewer}
+use Rattle.example_graph.proofs.graph.core_of.Goals as goal
 
 pub returns-then-len-clause-kept : goal.returns-then-len-clause-kept
 returns-then-len-clause-kept c =

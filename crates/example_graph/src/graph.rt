@@ -1,13 +1,13 @@
 //! Which transactions wait for each other in a circle? [`cycle_of`] finds such a circle, a *cycle*, among
 //! the edges "who waits for whom", exactly if there is one, and [`victim_of`] chooses who gives way. Both are pure
-//! functions; `src/deadlock.rt` collects the edges from the table.
+//! functions; `src/deadlock.rt` of `example_store` collects the edges from the table.
 //!
 //! It works in two stages. A transaction that waits for nobody is in no cycle, so the edges that lead to it can be
 //! removed, again and again ([`core_of`]). If an edge is left, each edge that is left leads to a transaction that
 //! waits. A walk along these edges ([`walk`]) never ends, so it comes to some transaction a second time.
 ghost use Rattle.std.specs.Prelude.{◌≡◌, [], true, false, Ok, None, IfOk, IfSome, IfNone};
-ghost use Rattle.example_store.specs.Graph.{Waits, IsCycle, HasNoCycle, waits, pruned, is_among};
-ghost use Rattle.example_store.specs.Graph.{IsOnPathAt, IsGreatest, IsVictim, KeepsCycles, AllLeadOn};
+ghost use Rattle.example_graph.specs.Graph.{Waits, IsCycle, HasNoCycle, waits, pruned, is_among};
+ghost use Rattle.example_graph.specs.Graph.{IsOnPathAt, IsGreatest, IsVictim, KeepsCycles, AllLeadOn};
 
 use std::alloc::{AllocError, Global};
 

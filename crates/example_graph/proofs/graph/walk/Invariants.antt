@@ -1,6 +1,6 @@
 use Rattle.std.proofs.Common.{length}
-use Rattle.example_store.proofs.Walks.{IsOnWay, unvisited}
-use Rattle.example_store.proofs.graph.walk.Given as goal
+use Rattle.example_graph.proofs.Walks.{IsOnWay, unvisited}
+use Rattle.example_graph.proofs.graph.walk.Given as goal
 
 abbrev pub invariant-loop-next : goal.invariant-loop-next
 invariant-loop-next l = IsOnWay l.edges l.path.items l.txn

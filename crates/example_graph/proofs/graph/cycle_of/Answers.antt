@@ -1,7 +1,7 @@
 use Rattle.std.proofs.Common.{◌∙◌, sym}
-use Rattle.example_store.specs.Graph.{IsCycle}
-use Rattle.example_store.proofs.Cycles.{HasNoCycle-from_none, IsCycle-among, none_from_first}
-use Rattle.example_store.proofs.graph.cycle_of.Goals as goal
+use Rattle.example_graph.specs.Graph.{IsCycle}
+use Rattle.example_graph.proofs.Cycles.{HasNoCycle-from_none, IsCycle-among, none_from_first}
+use Rattle.example_graph.proofs.graph.cycle_of.Goals as goal
 
 pub returns-in-None-clause-none : goal.returns-in-None-clause-none
 returns-in-None-clause-none c =
