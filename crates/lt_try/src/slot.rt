@@ -28,7 +28,7 @@ const FREE: u64 = 0;
 const TAKEN: u64 = 1;
 
 // A slot has more words than the one that it uses, and that one stands in their middle: so the slot has the line of cache around
-// it to itself, wherever the heap puts the words. Callers of other shards do not slow each other down.
+// it to itself, wherever the heap puts the words. An exchange in another slot does not take this line away.
 const WORDS: usize = 16;
 
 const WORD: usize = 8;
