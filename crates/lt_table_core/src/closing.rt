@@ -19,7 +19,7 @@ use lt_rules::KeyTable;
 use lt_shard::Rest;
 use lt_walk::{
     CloseError, ClosedTable, Guard, Histories, Rests, Wanted, abandon_guards, all_passes,
-    each_into, into_histories, is_counted, learn_all,
+    into_histories, is_counted, learn_all,
 };
 use lt_words::{Book, Keeping, Name, Pass, Waker, abandon_all};
 use std::alloc::{AllocError, Global};
@@ -107,6 +107,21 @@ fn end_shards<N: Name, T: KeyTable + Drop, V: ShardValue + Drop, R: Wait>(
         rests.push_reserved(rest);
     }
     rests
+}
+
+/// The shards of these slots, in order. `shards` is empty and has room for them.
+fn shards_of<N: Name, T: KeyTable + Drop, V: ShardValue + Drop>(
+    slots: Vec<Slot<N, T, V>>,
+    mut shards: Vec<Named<N, T, V>>,
+) -> Vec<Named<N, T, V>>
+    requires empty { shards.items ≡ [] }
+    requires room { length slots.items ≤ vec_capacity shards }
+    ensures { length result.items ≡ length slots.items }
+{
+    for slot in slots {
+        shards.push_reserved(slot.into_shard());
+    }
+    shards
 }
 
 /// Puts each shard back behind a lock, in order. `slots` is empty and has room for them.
@@ -248,7 +263,7 @@ impl<N: Name, T: KeyTable + Drop, W: Waker + Drop, V: ShardValue + Drop> Table<N
             shards,
             waker,
         } = self;
-        let shards = each_into(shards, room.shards, |slot| slot.into_shard());
+        let shards = shards_of(shards, room.shards);
         let wanted = Wanted {
             whole: only_whole,
             max_steps: config.max_steps,

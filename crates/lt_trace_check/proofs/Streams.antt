@@ -1,6 +1,6 @@
 -- A stream is read line by line and given to a checker.
 use Rattle.std.proofs.Common.{◌≡◌, ℕ, ◌+◌, ◌≤◌, ◌⊎◌, Bool, true, false, cond, eqb, List, [], ◌∷◌, ◌++◌, length, drop, Option, Some, None, Result, Ok, Err, refl, sym, ap, subst, ◌∙◌, inl, inr, append_assoc, arith, length-append}
-use Rattle.std.specs.Prelude.{IfSome, IfOk, IfErr}
+use Rattle.std.specs.Prelude.{IfSome, IfOk, IfErr, OnOk}
 use Rattle.std.specs.Io.{StartsWith}
 use Rattle.std.specs.Io.BufRead.{take_through, drop_through, DropsThrough}
 use Rattle.std.specs.Io.KnownBytes.{Consumes, IsAtEnd, Keeps}
@@ -232,6 +232,17 @@ no_verdict source errors.NoSuchLine h = tt
 no_verdict source errors.TooLong h = tt
 no_verdict source (errors.Check checks.Memory) h = tt
 no_verdict source (errors.Check (checks.Refused line fault)) h = absurd h
+
+-- A line was read, and the checker took it or refused it.
+pub takes_next : (first now : Option (List ℕ)) (old new : Checker) (start pending rest : List ℕ) (n : ℕ) (r : Result (Unit {0}) AuditError)
+    → IsLineRead first now start pending n → IfOk r (λ _. TakesLines old pending new rest) → OnOk r ((source : Option (List ℕ)) → IsReading source first old start → IsReading source now new rest)
+takes_next first now old new start pending rest n (Ok x) l t = λ source h. takes_pending source now old new pending rest (reads_line source first now old start pending n h l) t
+takes_next first now old new start pending rest n (Err e) l t = tt
+
+pub refuses_next : (first now : Option (List ℕ)) (old : Checker) (start pending : List ℕ) (n : ℕ) (r : Result (Unit {0}) AuditError)
+    → IsLineRead first now start pending n → IfErr r (RefusesPending old pending) → IfErr r (EndsReadingAs first old start)
+refuses_next first now old start pending n (Ok x) l k = tt
+refuses_next first now old start pending n (Err e) l k = λ source h. refused_pending source now old pending e (reads_line source first now old start pending n h l) k
 
 pub rest_accepted : (first mid now : Option (List ℕ)) (old c : Checker) (start pending new shown : List ℕ) (n : ℕ) (r : Result Report AuditError)
     → ((source : Option (List ℕ)) → IsReading source first old start → IsReading source mid c pending) → IsLineRead mid now pending new n → n ≡ 0 → shown ≡ new

@@ -3,9 +3,9 @@
 //! [`explain`] reads a text up to a line that a check refused. It says why the check refused it, or what the rules give
 //! for its call, and gives the key's latest lines. [`read_first_line`] reads the first line of a text. Read next:
 //! `reason.rt`, `shape.rt` for the words of a line, and `rule.rt`, which names the row of docs/RULES.md that applies.
-ghost use Rattle.std.specs.Prelude.{◌≡◌, IfOk, IfErr, IfSome, IfNone};
+ghost use Rattle.std.specs.Prelude.{◌≡◌, ℕ, List, Option, OnOk, IfOk, IfErr, IfSome, IfNone};
 ghost use Rattle.lt_checker.specs.Pieces.{TakesLines};
-ghost use Rattle.lt_trace_check.specs.Audit.{IsReading, IsAuditedAs, IsExplained, IsFirstLine, IsSplit, RefusesPending, SaysOfLine, IsNoVerdict, out_of_memory};
+ghost use Rattle.lt_trace_check.specs.Audit.{IsLineRead, StopsAtLineEnd, IsReading, EndsReadingAs, IsAuditedAs, IsExplained, IsFirstLine, IsSplit, RefusesPending, SaysOfLine, IsNoVerdict, out_of_memory};
 
 use crate::error::AuditError;
 use crate::reason::{LineReason, asked, reason_for};
@@ -103,6 +103,34 @@ fn check_line(
     Ok(())
 }
 
+/// Appends the next line to these bytes. `NoSuchLine` if there is none.
+fn read_next<R: BufRead>(reader: &mut R, pending: &mut Vec<u8>) -> Result<(), AuditError>
+    ensures ok { OnOk result ((n : ℕ) × IsLineRead (R.remaining reader.old) (R.remaining reader.new) pending.old.items pending.new.items n) }
+    ensures stops { OnOk result (StopsAtLineEnd (R.remaining reader.old) (R.remaining reader.new) pending.new.items) }
+    ensures err { IfErr result IsNoVerdict }
+{
+    if read_line(reader, pending)? == 0 {
+        return Err(AuditError::NoSuchLine);
+    }
+    Ok(())
+}
+
+/// Gives the next line to the checker, and keeps it among the latest ones.
+fn take_line<R: BufRead>(
+    alloc: Global,
+    reader: &mut R,
+    checker: &mut Checker,
+    pending: &mut Vec<u8>,
+    recent: &mut Vec<Vec<u8>>,
+) -> Result<(), AuditError>
+    ensures ok { OnOk result ((source : Option (List ℕ)) → IsReading source (R.remaining reader.old) checker.old pending.old.items →
+        IsReading source (R.remaining reader.new) checker.new pending.new.items) }
+    ensures err { IfErr result (EndsReadingAs (R.remaining reader.old) checker.old pending.old.items) }
+{
+    read_next(reader, pending)?;
+    check_line(alloc, checker, pending, recent)
+}
+
 /// What is to be said of this line, which comes after those that the checker has taken. `before` are the latest of them.
 fn explain_line(
     alloc: Global,
@@ -148,16 +176,11 @@ pub fn explain<R: BufRead>(
     };
     let mut recent = Vec::new(alloc);
     for _ in 2..number {
-        if read_line(reader, &mut pending)? == 0 {
-            return Err(AuditError::NoSuchLine);
-        }
-        if let Err(error) = check_line(alloc, &mut checker, &mut pending, &mut recent) {
+        if let Err(error) = take_line(alloc, reader, &mut checker, &mut pending, &mut recent) {
             return Err(error);
         }
     }
-    if read_line(reader, &mut pending)? == 0 {
-        return Err(AuditError::NoSuchLine);
-    }
+    read_next(reader, &mut pending)?;
     // The checker has counted the lines too.
     if checker.report().steps != number - 2 {
         return Err(AuditError::NoSuchLine);

@@ -5,7 +5,7 @@
 //! from its beginning on is checked again in turn. So the first fault is the one that
 //! [`check_stream`](crate::check_stream) finds. Read next: `specs/Parallel.antt`, `cuts.rt`, and `stream.rt` for the
 //! check in turn.
-ghost use Rattle.std.specs.Prelude.{◌≡◌, ◌+◌, ◌-◌, ◌<◌, ◌≤◌, All, Option, List, ℕ, IfOk, IfErr, IfSome, Ok};
+ghost use Rattle.std.specs.Prelude.{◌≡◌, ◌+◌, ◌-◌, ◌<◌, ◌≤◌, [], true, All, Option, List, ℕ, IfOk, IfErr, IfSome, Ok};
 ghost use Rattle.lt_checker.specs.Version.{IsVersion};
 ghost use Rattle.lt_trace_check.specs.Audit.{IsAudited, IsAuditedAs, IsNoVerdict};
 ghost use Rattle.lt_trace_check.specs.Parallel.{TakesAll, KeepsPrefix, IsCheckedPrefix, IsCheckedPiece};
@@ -41,6 +41,32 @@ pub(crate) struct CheckedPrefix {
     pub checker: Checker,
 }
 
+/// Gives all lines of the reader to the checker, in chunks. False if a line is refused, the last line has no end, a read
+/// fails, or memory runs out.
+fn takes_chunks<R: Read>(
+    alloc: Global,
+    reader: &mut R,
+    checker: &mut Checker,
+    pending: &mut Vec<u8>,
+    chunk: &mut Vec<u8>,
+) -> bool
+    requires none { pending.old.items ≡ [] }
+    ensures all { result ≡ true → TakesAll (R.remaining reader.old) checker.old checker.new }
+{
+    for _ in 0..u64::MAX {
+        let Ok(n) = read_chunk(reader, chunk, pending) else {
+            return false;
+        };
+        if n == 0 {
+            return pending.is_empty();
+        }
+        let Ok(()) = take_after(alloc, checker, pending, &chunk[..n]) else {
+            return false;
+        };
+    }
+    false
+}
+
 /// The checker after all lines of the reader. `None` if a line is refused, the last line has no end, a read fails, or
 /// memory runs out.
 fn take_all<R: Read>(alloc: Global, reader: &mut R, checker: Checker) -> Option<Checker>
@@ -49,21 +75,11 @@ fn take_all<R: Read>(alloc: Global, reader: &mut R, checker: Checker) -> Option<
     let mut checker = checker;
     let mut pending = Vec::new(alloc);
     let mut chunk = chunk_buffer(alloc).ok()?;
-    for _ in 0..u64::MAX {
-        let Ok(n) = read_chunk(reader, &mut chunk, &mut pending) else {
-            return None;
-        };
-        if n == 0 {
-            if pending.is_empty() {
-                return Some(checker);
-            }
-            return None;
-        }
-        let Ok(()) = take_after(alloc, &mut checker, &mut pending, &chunk[..n]) else {
-            return None;
-        };
+    if takes_chunks(alloc, reader, &mut checker, &mut pending, &mut chunk) {
+        Some(checker)
+    } else {
+        None
     }
-    None
 }
 
 /// Checks the piece between these offsets of a text of this version. `None` if a line is refused, the last line has no

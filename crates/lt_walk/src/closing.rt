@@ -233,23 +233,6 @@ pub fn all_passes(mut passes: Vec<Pass>, guards: Vec<Guard>) -> Vec<Pass>
     passes
 }
 
-/// What `make` gives for each item, in order. `made` is empty and has room for the results.
-pub fn each_into<A: Drop, B: Drop, F: Fn(A) -> B>(
-    items: Vec<A>,
-    mut made: Vec<B>,
-    make: F,
-) -> Vec<B>
-    requires callable { F.IsAlwaysCallable make }
-    requires empty { made.items ≡ [] }
-    requires room { length items.items ≤ vec_capacity made }
-    ensures { length result.items ≡ length items.items }
-{
-    for item in items {
-        made.push_reserved(make(item));
-    }
-    made
-}
-
 /// What is left of a closed table, and room for its histories.
 #[derive(Drop)]
 pub struct ClosedTable {

@@ -30,7 +30,7 @@ mod walk_progress;
 
 pub use closing::{
     CloseError, ClosedTable, Histories, PassCount, Rests, Wanted, abandon_guards, all_passes,
-    each_into, into_histories, is_counted, learn_all,
+    into_histories, is_counted, learn_all,
 };
 pub use config::{Config, PrepareError, Ready, ReadyParts, parts_of, prepare, prepare_with};
 pub use entering::{EnterRefused, Terms, enter_on};
