@@ -1,7 +1,8 @@
 //! Which job does the command line ask for? [`asked`] reads it with clap and returns the job, or an error with the
 //! fault.
 //!
-//! The defaults and ranges of the options are in [`load_of`], [`hand_over_of`] and [`soak_of`]; their help texts are with the options.
+//! The first half of the file builds the command line for clap from [`COMMANDS`], a row for each command. The defaults and
+//! ranges of the options are in [`load_of`], [`hand_over_of`] and [`soak_of`].
 use anyhow::bail;
 use clap::error::ErrorKind;
 use clap::{Arg, ArgAction, ArgMatches, Command, Error};
@@ -22,112 +23,152 @@ pub enum BenchJob {
     Help(String),
 }
 
-/// An option with a number as its value.
-fn number<'a>(alloc: Global, name: &'a str, help: &'a str) -> Arg<'a> {
-    Arg::new(alloc, name).long(name).value_name("N").help(help)
+/// An option of a command.
+#[derive(Clone, Copy)]
+struct BenchOption<'a> {
+    name: &'a str,
+    /// What its value is called. A flag has none.
+    value: Option<&'a str>,
+    help: &'a str,
 }
 
-/// The option that says how a table keeps its steps.
-fn history<'a>(alloc: Global) -> Arg<'a> {
-    Arg::new(alloc, "history")
-        .long("history")
-        .value_name("WAY")
-        .help("How the table keeps its steps: whole, streamed or unrecorded; whole if left out")
+/// A command: its name, and its options in the order of the help.
+#[derive(Clone, Copy)]
+struct BenchCommand<'a> {
+    name: &'a str,
+    about: &'a str,
+    options: &'a [BenchOption<'a>],
 }
 
-/// An option without a value.
-fn flag<'a>(alloc: Global, name: &'a str, help: &'a str) -> Arg<'a> {
-    Arg::new(alloc, name)
-        .long(name)
-        .action(ArgAction::SetTrue)
-        .help(help)
+const COMMANDS: [BenchCommand; 3] = [
+    BenchCommand {
+        name: "load",
+        about: "Times rounds of enter, scan, acquire, finish and leave on a table",
+        options: &[
+            BenchOption {
+                name: "passes",
+                value: Some("N"),
+                help: "Callers, 1 to 1024; 4 if left out",
+            },
+            BenchOption {
+                name: "keys",
+                value: Some("N"),
+                help: "Keys, 1 to 10000000; 1000 if left out",
+            },
+            BenchOption {
+                name: "key-bytes",
+                value: Some("N"),
+                help: "Bytes of each key, 8 to 64; as few as its number takes if left out",
+            },
+            BenchOption {
+                name: "steps",
+                value: Some("N"),
+                help: "Key steps of each pass, about; 1000000 if left out",
+            },
+            BenchOption {
+                name: "shards",
+                value: Some("N"),
+                help: "Shards of the table, 1 to 64; 4 if left out",
+            },
+            BenchOption {
+                name: "held",
+                value: Some("N"),
+                help: "Locks that a further pass holds meanwhile, 0 to 1000000; 0 if left out. Then --passes is at most 1023",
+            },
+            BenchOption {
+                name: "threads",
+                value: None,
+                help: "Run each pass on a thread of its own",
+            },
+            BenchOption {
+                name: "wait",
+                value: None,
+                help: "With --threads: sleep until let through, in place of polling",
+            },
+            BenchOption {
+                name: "history",
+                value: Some("WAY"),
+                help: "How the table keeps its steps: whole, streamed or unrecorded; whole if left out",
+            },
+            BenchOption {
+                name: "trace",
+                value: Some("FILE"),
+                help: "With --history streamed: keep what is taken, and write the histories here at the end",
+            },
+        ],
+    },
+    BenchCommand {
+        name: "hand-over",
+        about: "Times how a lock goes from transaction to transaction while requests wait for it",
+        options: &[
+            BenchOption {
+                name: "waiters",
+                value: Some("N"),
+                help: "Requests that wait to write the key, 1 to 1000; 64 if left out",
+            },
+            BenchOption {
+                name: "rounds",
+                value: Some("N"),
+                help: "Hand-overs, 1 to 100000000; 200000 if left out",
+            },
+            BenchOption {
+                name: "history",
+                value: Some("WAY"),
+                help: "How the table keeps its steps: whole or unrecorded; whole if left out",
+            },
+        ],
+    },
+    BenchCommand {
+        name: "soak",
+        about: "Plays random requests on threads, and checks the histories",
+        options: &[
+            BenchOption {
+                name: "seconds",
+                value: Some("N"),
+                help: "For so long; 60 if left out",
+            },
+            BenchOption {
+                name: "history",
+                value: Some("WAY"),
+                help: "How the table keeps its steps: whole, streamed or unrecorded; whole if left out",
+            },
+        ],
+    },
+];
+
+/// The argument of a row.
+fn argument<'a>(alloc: Global, row: &BenchOption<'a>) -> Arg<'a> {
+    let named = Arg::new(alloc, row.name).long(row.name).help(row.help);
+    match row.value {
+        Some(value) => named.value_name(value),
+        None => named.action(ArgAction::SetTrue),
+    }
 }
 
-fn soak<'a>(alloc: Global) -> Result<Command<'a>, AllocError> {
-    Command::new(alloc, "soak")
-        .about("Plays random requests on threads, and checks the histories")
-        .arg(number(alloc, "seconds", "For so long; 60 if left out"))?
-        .arg(history(alloc))
+/// The command of a row.
+fn subcommand<'a>(alloc: Global, row: &BenchCommand<'a>) -> Result<Command<'a>, AllocError> {
+    let mut command = Command::new(alloc, row.name).about(row.about);
+    for row in row.options {
+        command = command.arg(argument(alloc, row))?;
+    }
+    Ok(command)
 }
 
-fn hand_over<'a>(alloc: Global) -> Result<Command<'a>, AllocError> {
-    let history = Arg::new(alloc, "history")
-        .long("history")
-        .value_name("WAY")
-        .help("How the table keeps its steps: whole or unrecorded; whole if left out");
-    Command::new(alloc, "hand-over")
-        .about("Times how a lock goes from transaction to transaction while requests wait for it")
-        .arg(number(
-            alloc,
-            "waiters",
-            "Requests that wait to write the key, 1 to 1000; 64 if left out",
-        ))?
-        .arg(number(
-            alloc,
-            "rounds",
-            "Hand-overs, 1 to 100000000; 200000 if left out",
-        ))?
-        .arg(history)
-}
-
-/// The option with the name of the file for a trace.
-fn trace<'a>(alloc: Global) -> Arg<'a> {
-    Arg::new(alloc, "trace")
-        .long("trace")
-        .value_name("FILE")
-        .help(
-            "With --history streamed: keep what is taken, and write the histories here at the end",
-        )
-}
-
-/// The option that says how many further locks are held.
-fn held<'a>(alloc: Global) -> Arg<'a> {
-    number(
-        alloc,
-        "held",
-        "Locks that a further pass holds meanwhile, 0 to 1000000; 0 if left out. Then --passes is at most 1023",
-    )
-}
-
-fn load<'a>(alloc: Global) -> Result<Command<'a>, AllocError> {
-    Command::new(alloc, "load")
-        .about("Times rounds of enter, scan, acquire, finish and leave on a table")
-        .arg(number(alloc, "passes", "Callers, 1 to 1024; 4 if left out"))?
-        .arg(number(alloc, "keys", "Keys, 1 to 10000000; 1000 if left out"))?
-        .arg(number(
-            alloc,
-            "key-bytes",
-            "Bytes of each key, 8 to 64; as few as its number takes if left out",
-        ))?
-        .arg(number(
-            alloc,
-            "steps",
-            "Key steps of each pass, about; 1000000 if left out",
-        ))?
-        .arg(number(
-            alloc,
-            "shards",
-            "Shards of the table, 1 to 64; 4 if left out",
-        ))?
-        .arg(held(alloc))?
-        .arg(flag(alloc, "threads", "Run each pass on a thread of its own"))?
-        .arg(flag(
-            alloc,
-            "wait",
-            "With --threads: sleep until let through, in place of polling",
-        ))?
-        .arg(history(alloc))?
-        .arg(trace(alloc))
-}
-
-fn command<'a>(alloc: Global) -> Result<Command<'a>, AllocError> {
+/// The command line of the program, without its commands.
+fn program<'a>(alloc: Global) -> Result<Command<'a>, AllocError> {
     Command::new(alloc, "lockbench")
         .no_binary_name(true)
         .about("Times the lock table, and plays at it by chance")
-        .bin_name("lockbench")?
-        .subcommand(load(alloc)?)?
-        .subcommand(hand_over(alloc)?)?
-        .subcommand(soak(alloc)?)
+        .bin_name("lockbench")
+}
+
+/// The command line of the program.
+fn command<'a>(alloc: Global) -> Result<Command<'a>, AllocError> {
+    let mut command = program(alloc)?;
+    for row in &COMMANDS {
+        command = command.subcommand(subcommand(alloc, row)?)?;
+    }
+    Ok(command)
 }
 
 /// The number of an option, from `least` to `most`. None if the option is left out. An error if the value is not such
