@@ -1,4 +1,4 @@
-use Rattle.lt_theorem_callers.proofs.tests.run.Given as goal
+use Rattle.lt_theorem_tests.proofs.tests.run.Given as goal
 
 -- the name of the book that was just opened
 abbrev pub ghosts-run_named : goal.ghosts-run_named

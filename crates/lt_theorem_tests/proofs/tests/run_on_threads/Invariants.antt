@@ -1,4 +1,4 @@
-use Rattle.lt_theorem_callers.proofs.tests.run_on_threads.Given as goal
+use Rattle.lt_theorem_tests.proofs.tests.run_on_threads.Given as goal
 
 -- the name of the book that was just opened
 abbrev pub ghosts-threads_named : goal.ghosts-threads_named
