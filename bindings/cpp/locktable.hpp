@@ -74,6 +74,7 @@
 #include <string_view>
 #include <thread>
 #include <unordered_map>
+#include <unordered_set>
 #include <utility>
 #include <vector>
 
@@ -357,6 +358,20 @@ struct Options {
 
 namespace detail {
 
+/// What different threads write to has lines of the cache of its own, so that neighbours do not slow one another down. Processors
+/// fetch lines of 64 bytes in pairs.
+constexpr std::size_t line = 128;
+
+/// When this time is over, or nothing if the clock cannot tell that moment.
+template <class Rep, class Period> std::optional<Clock::time_point> deadline_after(std::chrono::duration<Rep, Period> time) {
+    using Seconds = std::chrono::duration<long double>;
+    const Clock::time_point now = Clock::now();
+    if (!(time > time.zero())) return now;
+    // A second less than the clock has left, so that no rounding is beyond its end.
+    if (Seconds(time) > Seconds(Clock::time_point::max() - now) - Seconds(1)) return std::nullopt;
+    return now + std::chrono::ceil<Clock::duration>(time);
+}
+
 inline std::uint64_t random_word() {
     std::random_device device;
     return static_cast<std::uint64_t>(device()) << 32 | device();
@@ -528,7 +543,7 @@ struct Woken {
 };
 
 /// The table of a shard, who waits in it, and whom its steps let through. The caller holds the shard's mutex.
-class Shard {
+class alignas(line) Shard {
 public:
     Shard(std::size_t index, StepSink sink) : index_(index), sink_(std::move(sink)) {
         if (lt_table_open(&table_, random_word()) != LT_DONE) throw std::bad_alloc();
@@ -697,7 +712,7 @@ private:
 };
 
 struct Inner {
-    struct Live {
+    struct alignas(line) Live {
         std::mutex mutex;
         std::unordered_map<std::uint64_t, std::shared_ptr<Waiter>> waiters;
     };
@@ -742,7 +757,7 @@ struct Inner {
     std::vector<std::unique_ptr<Shard>> shards;
     /// The waiters of the transactions that have not ended.
     std::vector<Live> live;
-    std::atomic<std::uint64_t> begun{0};
+    alignas(line) std::atomic<std::uint64_t> begun{0};
 };
 
 } // namespace detail
@@ -772,8 +787,10 @@ public:
     /// Locks the key, or gives up at the deadline. It tries once even if the deadline is over.
     Status lock_until(std::string_view key, Clock::time_point deadline) { return lock_by(key, deadline); }
 
+    /// Locks the key, or gives up after this time, of any unit. A time beyond what the clock can tell, some 292 years, has no
+    /// end, and a time that is over tries once.
     template <class Rep, class Period> Status lock_for(std::string_view key, std::chrono::duration<Rep, Period> time) {
-        return lock_by(key, Clock::now() + time);
+        return lock_by(key, detail::deadline_after(time));
     }
 
     /// Locks the key if that takes no waiting. It does not overtake: if the lock is reserved for a transaction that began
@@ -929,7 +946,24 @@ private:
 
     /// The transaction may be queued at the key, or have its reservation, from now on.
     void note_visit(const std::string &name) {
-        if (std::find(visited_.begin(), visited_.end(), name) == visited_.end()) visited_.push_back(name);
+        constexpr std::size_t few = 16;
+        if (visited_.size() < few && visited_set_.empty()) {
+            if (std::find(visited_.begin(), visited_.end(), name) == visited_.end()) visited_.push_back(name);
+            return;
+        }
+        if (visited_set_.empty()) visited_set_ = std::unordered_set<std::string>(visited_.begin(), visited_.end());
+        if (!visited_set_.insert(name).second) return;
+        try {
+            visited_.push_back(name);
+        } catch (...) {
+            visited_set_.erase(name);
+            throw;
+        }
+    }
+
+    void forget_visits() {
+        visited_.clear();
+        visited_set_.clear();
     }
 
     Progress note(const std::string &name, std::uint32_t code) {
@@ -957,7 +991,7 @@ private:
                 if (waiter_->is_doomed()) return given_up(Status::doomed);
                 switch (job()) {
                 case Progress::done:
-                    visited_.clear();
+                    forget_visits();
                     return Status::locked;
                 case Progress::queue_full: return given_up(Status::queue_full);
                 case Progress::must_wait: break;
@@ -994,6 +1028,7 @@ private:
             insist_at(visited_.back(), [this](detail::Shard &shard, const std::string &name) {
                 return shard.leave(name, pass(), id_);
             });
+            visited_set_.erase(visited_.back());
             visited_.pop_back();
         }
     }
@@ -1040,6 +1075,8 @@ private:
     std::string waiting_;
     std::uint64_t waited_for_ = 0;
     std::vector<std::string> visited_;
+    /// The same keys, once there are more than a few.
+    std::unordered_set<std::string> visited_set_;
     std::vector<std::string> held_;
 };
 

@@ -45,6 +45,14 @@ static bool fails() {
 }
 [[gnu::noinline]] void operator delete(void *at) noexcept { std::free(at); }
 [[gnu::noinline]] void operator delete(void *at, std::size_t) noexcept { std::free(at); }
+[[gnu::noinline]] void *operator new(std::size_t size, std::align_val_t align) {
+    const auto unit = static_cast<std::size_t>(align);
+    void *at = fails() ? nullptr : std::aligned_alloc(unit, (size + unit - 1) / unit * unit);
+    if (at == nullptr) throw std::bad_alloc();
+    return at;
+}
+[[gnu::noinline]] void operator delete(void *at, std::align_val_t) noexcept { std::free(at); }
+[[gnu::noinline]] void operator delete(void *at, std::size_t, std::align_val_t) noexcept { std::free(at); }
 
 extern "C" {
 struct rattle_block {
@@ -155,6 +163,45 @@ static void rows() {
     Txn second = locks.begin();
     expect(second.lock_all({{"0", Access::write}, {"a", Access::write}}, Clock::now()) == Status::timed_out, "lock_all", "several keys");
     expect(second.locked().empty() && locks.begin().try_lock("0"), "nothing is kept", "several keys");
+    /* A search of all keys at each key would take more than a minute under a sanitizer. */
+    std::vector<std::string> names;
+    for (int at = 0; at < 20000; at++) names.push_back("n" + std::to_string(at));
+    std::vector<Wanted> wanted;
+    for (const std::string &key : names) wanted.push_back({key, Access::write});
+    const auto began = Clock::now();
+    expect(second.lock_all(wanted) == Status::locked && second.locked().size() == wanted.size(), "lock_all", "20,000 keys");
+    expect(Clock::now() - began < std::chrono::seconds(20), "the time is in proportion to the keys", "20,000 keys");
+}
+
+static_assert(alignof(detail::Shard) == 128 && alignof(detail::Inner) == 128 && sizeof(detail::Inner::Live) % 128 == 0,
+              "what threads write to shares no line of the cache");
+
+/* ---- how long a call waits */
+
+static void times() {
+    Locks locks;
+    Txn holder = locks.begin();
+    expect(holder.lock("a") == Status::locked, "it is free", "times");
+    Txn late = locks.begin();
+    expect(late.lock_for("a", std::chrono::hours::min()) == Status::timed_out, "a time that is over", "times");
+    expect(late.lock_for("a", std::chrono::duration<double>(0.001)) == Status::timed_out, "a part of a second", "times");
+    expect(late.lock_for("a", std::chrono::duration<float, std::milli>(1.5F)) == Status::timed_out, "milliseconds", "times");
+    for (int row = 0; row < 4; row++) {
+        Txn waits = locks.begin();
+        Status status = Status::timed_out;
+        std::thread thread([&] {
+            status = row == 0   ? waits.lock_for("a", std::chrono::hours::max())
+                     : row == 1 ? waits.lock_for("a", std::chrono::hours(24) * 1000000)
+                     : row == 2 ? waits.lock_for("a", Clock::duration::max())
+                                : waits.lock_for("a", std::chrono::duration<double>(1e300));
+        });
+        while (locks.edges().empty()) std::this_thread::sleep_for(milliseconds(1));
+        holder.restart();
+        thread.join();
+        expect(status == Status::locked, "a time without an end", "times");
+        waits.release();
+        expect(holder.lock("a") == Status::locked, "it is free again", "times");
+    }
 }
 
 /* ---- waits that are counted */
@@ -442,6 +489,7 @@ static void stress(const Mode &mode, milliseconds time) {
 int main(int argc, char **argv) {
     const milliseconds time(argc > 1 ? std::atol(argv[1]) : 500);
     rows();
+    times();
     statistics();
     deadlocks();
     memory();

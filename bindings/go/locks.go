@@ -101,10 +101,25 @@ type Locks struct {
 	longest uint32
 	start   start
 	shards  []shard
+	live    [16]liveWaiters
 	begun   atomic.Uint64
-	mu      sync.Mutex
-	live    map[uint64]*waiter // those of transactions that have not ended; nil once the table is closed
+	_       line
 }
+
+// liveWaiters are those of some of the transactions that have not ended, so that those that begin and end at once mostly have
+// different mutexes.
+type liveWaiters struct {
+	mu      sync.Mutex
+	waiters map[uint64]*waiter // nil once the table is closed
+	_       line
+}
+
+// A line is behind what goroutines write to, so that neighbours share no line of the cache and do not slow one another down.
+// Processors fetch lines of 64 bytes in pairs.
+type line [128]byte
+
+// liveOf is where the waiter of a transaction is.
+func (l *Locks) liveOf(txn uint64) *liveWaiters { return &l.live[txn%uint64(len(l.live))] }
 
 // A shard is a table, who waits in it, and whom its steps let through. All of it is used under the mutex.
 type shard struct {
@@ -114,6 +129,7 @@ type shard struct {
 	sink    func(Step)
 	waiting map[uint64]waiting // by transaction: it waits at one key at a time
 	woken   []waiting
+	_       line
 }
 
 type waiting struct {
@@ -133,7 +149,10 @@ func Open(options Options) (*Locks, error) {
 	if err != nil {
 		return nil, err
 	}
-	l := &Locks{longest: options.Longest, start: start, shards: make([]shard, many), live: map[uint64]*waiter{}}
+	l := &Locks{longest: options.Longest, start: start, shards: make([]shard, many)}
+	for i := range l.live {
+		l.live[i].waiters = map[uint64]*waiter{}
+	}
 	for i := range l.shards {
 		s := &l.shards[i]
 		s.index, s.sink, s.waiting = i, options.Sink, map[uint64]waiting{}
@@ -152,15 +171,18 @@ func Open(options Options) (*Locks, error) {
 // Close closes the table and frees its memory, also if keys are locked. Whoever waits gets ErrClosed, and so does each later
 // call that answers an error; the other calls then do nothing.
 func (l *Locks) Close() error {
-	l.mu.Lock()
-	waiters := l.live
-	l.live = nil
-	l.mu.Unlock()
-	if waiters == nil {
-		return ErrClosed
-	}
-	for _, w := range waiters {
-		w.close()
+	for i := range l.live {
+		live := &l.live[i]
+		live.mu.Lock()
+		waiters := live.waiters
+		live.waiters = nil
+		live.mu.Unlock()
+		if waiters == nil {
+			return ErrClosed
+		}
+		for _, w := range waiters {
+			w.close()
+		}
 	}
 	for i := range l.shards {
 		s := &l.shards[i]
@@ -180,21 +202,23 @@ func (l *Locks) Begin(ts Timestamp) (*Txn, error) {
 		return nil, ErrNumbersOut
 	}
 	t := &Txn{locks: l, id: id, ts: ts, waiter: newWaiter()}
-	l.mu.Lock()
-	defer l.mu.Unlock()
-	if l.live == nil {
+	live := l.liveOf(id)
+	live.mu.Lock()
+	defer live.mu.Unlock()
+	if live.waiters == nil {
 		return nil, ErrClosed
 	}
-	l.live[id] = t.waiter
+	live.waiters[id] = t.waiter
 	return t, nil
 }
 
 // Doom dooms a transaction: its wait ends with ErrDoomed, and so does each later call by which it would lock or read, until
 // Txn.Restart. It keeps its locks until then, or until it is released. It answers whether there is such a transaction.
 func (l *Locks) Doom(txn uint64) bool {
-	l.mu.Lock()
-	w := l.live[txn]
-	l.mu.Unlock()
+	live := l.liveOf(txn)
+	live.mu.Lock()
+	w := live.waiters[txn]
+	live.mu.Unlock()
 	if w != nil {
 		w.doom()
 	}

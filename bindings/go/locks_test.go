@@ -12,6 +12,7 @@ import (
 	"sync/atomic"
 	"testing"
 	"time"
+	"unsafe"
 )
 
 var forEver = context.Background()
@@ -323,6 +324,45 @@ func TestSeveralKeysAreLockedTogetherOrNotAtAll(t *testing.T) {
 	}
 	if got, err := third.TryLock("0"); !got || err != nil {
 		t.Fatal(got, err)
+	}
+}
+
+func TestWhatGoroutinesWriteToSharesNoLine(t *testing.T) {
+	var s shard
+	var part liveWaiters
+	var l Locks
+	for what, room := range map[string]uintptr{
+		"shards":       unsafe.Sizeof(s) - unsafe.Offsetof(s.woken) - unsafe.Sizeof(s.woken),
+		"live waiters": unsafe.Sizeof(part) - unsafe.Offsetof(part.waiters) - unsafe.Sizeof(part.waiters),
+		"the number":   unsafe.Sizeof(l) - unsafe.Offsetof(l.begun) - unsafe.Sizeof(l.begun),
+	} {
+		if room < 128 {
+			t.Error(what, room)
+		}
+	}
+}
+
+// 20,000 keys take a second under the race detector, where a search of all keys at each key takes a minute.
+func TestARequestOverManyKeysIsLinear(t *testing.T) {
+	locks, err := Open(Options{})
+	if err != nil {
+		t.Fatal(err)
+	}
+	defer locks.Close()
+	keys := make([]Access, 20000)
+	for i := range keys {
+		keys[i] = Access{fmt.Sprint("key/", i), true}
+	}
+	txn, began := begin(t, locks, 1), time.Now()
+	if err := txn.LockAll(forEver, keys); err != nil || len(txn.Locked()) != len(keys) {
+		t.Fatal(err, len(txn.Locked()))
+	}
+	if took := time.Since(began); took > 20*time.Second {
+		t.Error(took)
+	}
+	txn.Release()
+	if left, err := locks.Keys(); len(left) != 0 || err != nil {
+		t.Error(len(left), err)
 	}
 }
 

@@ -13,9 +13,10 @@ type Txn struct {
 	id        uint64
 	ts        Timestamp
 	waiter    *waiter
-	waits     uint32   // how many waits it has begun
-	waitingAt string   // where its latest wait is
-	visited   []string // the keys of the table at which it may be queued, or have the reservation
+	waits     uint32          // how many waits it has begun
+	waitingAt string          // where its latest wait is
+	visited   []string        // the keys of the table at which it may be queued, or have the reservation
+	isVisited map[string]bool // the same keys, if there are more than a few
 	held      []string
 	released  bool
 }
@@ -140,9 +141,10 @@ func (t *Txn) Restart() {
 func (t *Txn) Release() {
 	t.Restart()
 	t.released = true
-	t.locks.mu.Lock()
-	defer t.locks.mu.Unlock()
-	delete(t.locks.live, t.id)
+	live := t.locks.liveOf(t.id)
+	live.mu.Lock()
+	defer live.mu.Unlock()
+	delete(live.waiters, t.id)
 }
 
 // visit visits the key. Like the next, it answers whether the transaction has to wait.
@@ -178,13 +180,30 @@ func (t *Txn) visitAnd(key string, writes, acquires bool) (bool, error) {
 
 // noteVisit notes that the transaction may be queued at the key, or have its reservation, from now on.
 func (t *Txn) noteVisit(name string) {
-	for _, it := range t.visited {
-		if it == name {
+	const few = 16
+	if len(t.visited) < few {
+		for _, it := range t.visited {
+			if it == name {
+				return
+			}
+		}
+	} else {
+		if t.isVisited == nil {
+			t.isVisited = make(map[string]bool, 2*few)
+			for _, it := range t.visited {
+				t.isVisited[it] = true
+			}
+		}
+		if t.isVisited[name] {
 			return
 		}
+		t.isVisited[name] = true
 	}
 	t.visited = append(t.visited, name)
 }
+
+// forgetVisits forgets where the transaction may be queued: it has what it wanted, or has left.
+func (t *Txn) forgetVisits() { t.visited, t.isVisited = t.visited[:0], nil }
 
 // drive works at a job until it is done, fails, or the context is done. Whoever fails leaves.
 func (t *Txn) drive(ctx context.Context, work job) error {
@@ -195,7 +214,7 @@ func (t *Txn) drive(ctx context.Context, work job) error {
 	if err != nil {
 		t.leave()
 	}
-	t.visited = t.visited[:0]
+	t.forgetVisits()
 	return err
 }
 
@@ -233,7 +252,7 @@ func (t *Txn) leave() {
 	for _, name := range t.visited {
 		t.insist(name, leave)
 	}
-	t.visited = t.visited[:0]
+	t.forgetVisits()
 }
 
 // freeAfter frees what it has locked after the first so many.

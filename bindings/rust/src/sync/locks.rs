@@ -62,15 +62,20 @@ impl Default for Options {
 /// The waiters of transactions, by number.
 type Waiters = HashMap<u64, Arc<Waiter>>;
 
+/// A value on lines of the cache of its own: threads that write to neighbours do not slow one another down. Processors fetch lines
+/// of 64 bytes in pairs.
+#[repr(align(128))]
+struct Line<T>(T);
+
 struct Inner {
-    shards: Box<[Mutex<Shard>]>,
+    shards: Box<[Line<Mutex<Shard>>]>,
     /// Those of the transactions that have not ended. Number `n` is in part `n % live.len()`.
-    live: Box<[Mutex<Waiters>]>,
+    live: Box<[Line<Mutex<Waiters>>]>,
     /// Decides in which shard a key is, and how a long key is hashed.
     start: RandomState,
-    /// How many transactions were begun.
-    begun: AtomicU64,
     longest: u32,
+    /// How many transactions were begun.
+    begun: Line<AtomicU64>,
 }
 
 /// A lock table that threads and tasks share. A clone is the same table.
@@ -102,9 +107,10 @@ impl Locks {
 
     fn open_with(options: &Options, sink: Option<Arc<dyn StepSink>>) -> Result<Locks, Refused> {
         let shards = 0..options.shards.get();
-        let live = shards.clone().map(|_| Mutex::default()).collect();
-        let shards = shards.map(|index| Ok(Mutex::new(Shard::open(index, sink.clone())?))).collect::<Result<_, _>>()?;
-        let (start, begun) = (RandomState::new(), AtomicU64::new(0));
+        let live = shards.clone().map(|_| Line(Mutex::default())).collect();
+        let shards =
+            shards.map(|index| Ok(Line(Mutex::new(Shard::open(index, sink.clone())?)))).collect::<Result<_, _>>()?;
+        let (start, begun) = (RandomState::new(), Line(AtomicU64::new(0)));
         Ok(Locks { inner: Arc::new(Inner { shards, live, start, begun, longest: options.longest }) })
     }
 
@@ -115,7 +121,7 @@ impl Locks {
     ///
     /// [`NumbersOut`] after 2^40 - 1 transactions.
     pub fn begin(&self, ts: Timestamp) -> Result<Txn, NumbersOut> {
-        let id = TxnId::MIN.saturating_add(self.inner.begun.fetch_add(1, Ordering::Relaxed));
+        let id = TxnId::MIN.saturating_add(self.inner.begun.0.fetch_add(1, Ordering::Relaxed));
         if id.get() > LAST_NUMBER {
             return Err(NumbersOut);
         }
@@ -236,7 +242,7 @@ impl Locks {
 
     /// Makes a critical section of the key's shard. Whomever its steps let through is woken once the mutex is free.
     pub(super) fn at<R>(&self, key: &TableKey, section: impl FnOnce(&mut Shard) -> R) -> R {
-        critical_section(&self.inner.shards[self.shard_of(key)], section)
+        critical_section(&self.inner.shards[self.shard_of(key)].0, section)
     }
 
     fn shard_of(&self, key: &TableKey) -> usize {
@@ -250,11 +256,11 @@ impl Locks {
 
     fn live(&self, txn: TxnId) -> MutexGuard<'_, Waiters> {
         let part = txn.get() as usize % self.inner.live.len();
-        self.inner.live[part].lock().unwrap_or_else(PoisonError::into_inner)
+        self.inner.live[part].0.lock().unwrap_or_else(PoisonError::into_inner)
     }
 
     fn for_each(&self, mut section: impl FnMut(&mut Shard) -> Result<(), Refused>) -> Result<(), Refused> {
-        self.inner.shards.iter().try_for_each(|shard| critical_section(shard, &mut section))
+        self.inner.shards.iter().try_for_each(|shard| critical_section(&shard.0, &mut section))
     }
 }
 
@@ -291,9 +297,24 @@ mod tests {
     }
 
     #[test]
+    fn what_threads_write_to_shares_no_line() {
+        let locks = Locks::open(Options::new()).unwrap();
+        let Inner { shards, live, begun, .. } = &*locks.inner;
+        let places = [
+            std::ptr::from_ref(&shards[0]) as usize,
+            std::ptr::from_ref(&shards[1]) as usize,
+            std::ptr::from_ref(&live[0]) as usize,
+            std::ptr::from_ref(&live[1]) as usize,
+            std::ptr::from_ref(begun) as usize,
+            std::ptr::from_ref(begun) as usize + std::mem::size_of_val(begun),
+        ];
+        assert!(places.iter().all(|place| place % 128 == 0), "{places:?}");
+    }
+
+    #[test]
     fn the_last_number_is_given() {
         let locks = Locks::open(Options::new()).unwrap();
-        locks.inner.begun.store(LAST_NUMBER - 1, Ordering::Relaxed);
+        locks.inner.begun.0.store(LAST_NUMBER - 1, Ordering::Relaxed);
         let mut last = locks.begin(Timestamp::default()).unwrap();
         assert_eq!(last.id().get(), LAST_NUMBER);
         last.lock(b"a").unwrap();

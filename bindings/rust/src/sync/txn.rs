@@ -7,6 +7,7 @@ use super::locks::Locks;
 use super::table_key::TableKey;
 use super::waiter::{WaitEnd, Waiter};
 use crate::names::{Access, Refused, Reply, Request, Ticket, Timestamp, TxnId};
+use std::collections::HashSet;
 use std::fmt;
 use std::sync::Arc;
 use std::task::Poll;
@@ -33,14 +34,14 @@ pub struct Txn {
     /// The wait that has not ended: where, and its number.
     waiting: Option<(TableKey, u32)>,
     /// The keys at which it may be queued, or have the reservation.
-    visited: Vec<TableKey>,
+    visited: Visited,
     /// What it has locked.
     held: Vec<Box<[u8]>>,
 }
 
 impl Txn {
     pub(super) fn new(locks: Locks, id: TxnId, ts: Timestamp, waiter: Arc<Waiter>) -> Txn {
-        Txn { locks, id, ts, waiter, waits: 0, waiting: None, visited: Vec::new(), held: Vec::new() }
+        Txn { locks, id, ts, waiter, waits: 0, waiting: None, visited: Visited::default(), held: Vec::new() }
     }
 
     /// Its number, which is also that of its requests: a transaction that began earlier has a smaller one.
@@ -242,8 +243,8 @@ impl Txn {
     /// Takes note of what a visit came to, so that the transaction waits, or can leave. A call that was refused may come
     /// after a visit that gave it the reservation.
     fn note(&mut self, key: TableKey, reply: Result<Reply, Refused>) -> Result<Progress, LockError> {
-        if matches!(reply, Err(_) | Ok(Reply::Passed | Reply::MustWait)) && !self.visited.contains(&key) {
-            self.visited.push(key);
+        if matches!(reply, Err(_) | Ok(Reply::Passed | Reply::MustWait)) {
+            self.visited.note(key);
         }
         match reply? {
             Reply::Passed | Reply::Taken | Reply::Kept | Reply::Raised => Ok(Progress::Done),
@@ -310,7 +311,7 @@ impl Txn {
     /// Leaves each key at which it may be queued or have the reservation. Those behind it go on.
     pub(super) fn leave(&mut self) {
         self.waiting = None;
-        for key in std::mem::take(&mut self.visited) {
+        for key in std::mem::take(&mut self.visited).keys {
             insist(|| self.locks.at(&key, |shard| shard.leave(&key, pass_of(self.id), self.id.get())));
         }
     }
@@ -321,6 +322,38 @@ impl Txn {
             let key = self.locks.table_key(&key);
             insist(|| self.locks.at(&key, |shard| shard.finish(&key, pass_of(self.id), self.id)));
         }
+    }
+}
+
+/// Keys, each once, in the order in which they were noted first.
+#[derive(Default)]
+struct Visited {
+    keys: Vec<TableKey>,
+    /// The same keys, if there are more than [`Visited::FEW`].
+    set: HashSet<TableKey>,
+}
+
+impl Visited {
+    /// Up to so many keys are searched one by one.
+    const FEW: usize = 16;
+
+    fn note(&mut self, key: TableKey) {
+        let is_new = if self.keys.len() < Self::FEW {
+            !self.keys.contains(&key)
+        } else {
+            if self.set.is_empty() {
+                self.set.extend(&self.keys);
+            }
+            self.set.insert(key)
+        };
+        if is_new {
+            self.keys.push(key);
+        }
+    }
+
+    fn clear(&mut self) {
+        self.keys.clear();
+        self.set.clear();
     }
 }
 
