@@ -1,16 +1,12 @@
 //! Where is the archive? In the folder that `LOCKTABLE_LIB` names, or else in `lib` beside this file, where a release has
-//! it. In the repository, where neither is there, `rt lib` builds it from `crates/lt_c`. That proves `lt_c` and every crate
-//! below it, which takes long. `crates.txt` says which crates these are, and after a change in any of them the archive is
-//! built again.
+//! it. In the repository, where neither is there, `tools/hand/quick_build` compiles it without proofs, and a warning says
+//! so. `./test` leaves the proved one in `crates/lt_c/out`.
 
 use std::collections::BTreeSet;
 use std::fmt::Display;
 use std::fs;
 use std::path::{Path, PathBuf};
 use std::process::{exit, Command};
-
-/// The folders of a crate that go into its library.
-const PARTS: [&str; 3] = ["src", "specs", "proofs"];
 
 /// Ends the build, and says why.
 fn stop(why: &dyn Display) -> ! {
@@ -34,17 +30,16 @@ fn built() -> PathBuf {
     let text = fs::read_to_string(&list).unwrap_or_else(|error| stop(&format!("{}: {error}", list.display())));
     let mut crates = BTreeSet::new();
     with_those_below("lt_c", &text, &mut crates);
-    let parts = crates.iter().flat_map(|name| PARTS.map(|part| top.join("crates").join(name).join(part)));
-    for watched in parts.filter(|part| part.is_dir()).chain([list]) {
+    let sources = crates.iter().map(|name| top.join("crates").join(name).join("src"));
+    for watched in sources.filter(|part| part.is_dir()).chain([list]) {
         println!("cargo:rerun-if-changed={}", watched.display());
     }
-    println!("cargo:warning=rt lib has proved lt_c and all below it. LOCKTABLE_LIB=FOLDER takes an archive instead");
-    eprintln!("locktable: rt lib proves {}", crates.into_iter().collect::<Vec<_>>().join(", "));
-    let source = top.join("crates/lt_c");
-    match Command::new("rt").arg("lib").current_dir(&source).status() {
-        Ok(status) if status.success() => source.join("out"),
-        Ok(status) => stop(&format!("rt lib in {}: {status}", source.display())),
-        Err(error) => stop(&format!("rt lib: {error}")),
+    println!("cargo:warning=the archive is compiled without proofs; LOCKTABLE_LIB=FOLDER takes a proved one");
+    let tool = top.join("tools/hand/quick_build");
+    match Command::new(&tool).arg("lt_c").output() {
+        Ok(ran) if ran.status.success() => PathBuf::from(String::from_utf8_lossy(&ran.stdout).trim()),
+        Ok(ran) => stop(&format!("{}: {}", tool.display(), String::from_utf8_lossy(&ran.stderr))),
+        Err(error) => stop(&format!("{}: {error}", tool.display())),
     }
 }
 

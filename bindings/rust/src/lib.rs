@@ -30,7 +30,7 @@
 //! ```
 //!
 //! The crate links the archive `liblt_c.a`. Its build takes it from the folder that the environment variable
-//! `LOCKTABLE_LIB` names, or builds it with `rt lib`.
+//! `LOCKTABLE_LIB` names, or from `lib` beside it; in the repository, it compiles one without proofs.
 
 #![deny(missing_docs)]
 #![deny(unsafe_code)]

@@ -100,26 +100,23 @@ fn runner<'a>(alloc: Global) -> Result<Command<'a>, AllocError>
     ensures reads { IfOk result (λ c. app_of c ≡ runner) }
     ensures alone { IfOk result (λ c. (out-Command c).has_globals ≡ false) }
 {
-    let shards = number_option(
-        alloc,
-        "shards",
-        "The number of shards of the table: 1 to 64, default 4",
-    );
-    let steps = number_option(
-        alloc,
-        "steps",
-        "The number of key steps that each shard can hold: 1 to 4294967296, default 1000000",
-    );
-    let turns = number_option(
-        alloc,
-        "turns",
-        "The number of polls that one `await` makes at most, with threads: 1 to 1000000000, default 1000000",
-    );
     script_reader(alloc)?
-        .arg(shards)?
-        .arg(steps)?
+        .arg(number_option(
+            alloc,
+            "shards",
+            "The number of shards of the table: 1 to 64, default 4",
+        ))?
+        .arg(number_option(
+            alloc,
+            "steps",
+            "The number of key steps that each shard can hold: 1 to 4294967296, default 1000000",
+        ))?
         .arg(threads_option(alloc))?
-        .arg(turns)
+        .arg(number_option(
+            alloc,
+            "turns",
+            "The number of polls that one `await` makes at most, with threads: 1 to 1000000000, default 1000000",
+        ))
 }
 
 /// What the program's help shows below its options.
@@ -196,13 +193,10 @@ fn upgrader<'a>(alloc: Global) -> Result<Command<'a>, AllocError>
 fn command<'a>(alloc: Global) -> Result<Command<'a>, AllocError>
     ensures { IfOk result (λ c. app_of c ≡ lockrun) }
 {
-    let run = runner(alloc)?;
-    let check = checker(alloc)?;
-    let upgrade = upgrader(alloc)?;
     program(alloc)?
-        .subcommand(run)?
-        .subcommand(check)?
-        .subcommand(upgrade)
+        .subcommand(runner(alloc)?)?
+        .subcommand(checker(alloc)?)?
+        .subcommand(upgrader(alloc)?)
 }
 
 /// The number that an option's word spells, if it is from 1 to `most`; the default if there is no word.

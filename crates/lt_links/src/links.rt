@@ -1,6 +1,6 @@
 //! What can a caller do with the linked queues? [`Links`] has the calls; its contracts see three maps, which
 //! `specs/Maps.antt` defines. Read `ends.rt` next, which changes the links of a list.
-ghost use Rattle.std.specs.Prelude.{◌≡◌, length};
+ghost use Rattle.std.specs.Prelude.{◌≡◌, ◌↔◌, IsTrue, length};
 
 use crate::ends::{join, link};
 use crate::hashing::KeyHashing;
@@ -14,9 +14,6 @@ use slab::Slab;
 use std::alloc::{AllocError, Global};
 use std::collections::HashMap;
 use std::marker::Model;
-
-#[cfg(test)]
-mod tests;
 
 /// The nodes of all queues. Each node is in one queue and, by its number, in the list of that number.
 #[derive(Drop)]
@@ -84,6 +81,22 @@ impl Links {
         ensures sound { IsSound self.new }
     {
         self.heads.remove(id.key());
+    }
+
+    /// Whether these links have the record: it was added and not dropped.
+    pub fn contains_record(&self, id: RecordId) -> bool
+        ensures contains { IsTrue result ↔ (has_record self.now id ≡ true) }
+        ensures sound { IsSound self.now }
+    {
+        self.heads.contains(id.key())
+    }
+
+    /// Whether these links have the node: it was put into a queue and not removed.
+    pub fn contains_node(&self, node: NodeId) -> bool
+        ensures contains { IsTrue result ↔ HasNode self.now node }
+        ensures sound { IsSound self.now }
+    {
+        self.nodes.contains(node.key())
     }
 
     /// How many nodes a queue has. Takes constant time.

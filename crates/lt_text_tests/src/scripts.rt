@@ -1,11 +1,9 @@
-//! Is a script read as its commands, or refused with its first faulty line and that line's first fault?
+//! Is a script read as its commands?
 //! A row is a text and what `read_script` gives for it. A call that runs out of memory is made again. Read next
-//! `docs/FORMATS.md`, which has the lines and the order of the faults.
+//! `docs/FORMATS.md`, which has the lines and the order of the faults; tools/gate/compare_runs has scripts with each fault.
 use lt_ids::{Access, Key, Timestamp, TxnId};
-use lt_script::{
-    Accesses, Action, Command, Script, ScriptError, ScriptFault, ScriptPass, read_script,
-};
-use std::alloc::{AllocError, Global};
+use lt_script::{Accesses, Action, Command, Script, ScriptError, ScriptPass, read_script};
+use std::alloc::Global;
 use std::test::*;
 
 const MIXED: &str =
@@ -83,29 +81,6 @@ fn lines_are_counted_and_words_are_cut(rt: HostRuntime) -> Result<(), Fail> {
     Ok(())
 }
 
-/// A script of 5,000 lines.
-fn many_lines(alloc: Global) -> Result<Vec<u8>, AllocError> {
-    let mut text = Vec::with_capacity(alloc, 35_000)?;
-    for _ in 0..5000 {
-        text.extend_from_slice(b"1 scan\n")?;
-    }
-    Ok(text)
-}
-
-/// The number of lines in a script is not limited.
-#[test]
-fn a_script_of_5000_lines_is_read_whole(rt: HostRuntime) -> Result<(), Fail> {
-    let text = match many_lines(rt.alloc()) {
-        Ok(text) => text,
-        Err(_) => many_lines(rt.alloc())?,
-    };
-    let script = read_bytes(&rt, &text)?;
-    let commands = script.as_slice();
-    assert_eq!(rt; commands.len(), 5000);
-    assert_eq!(rt; commands.last().map(|command| command.line), Some(5000));
-    Ok(())
-}
-
 /// The accesses of the first line, if it opens a request.
 fn opened(script: &Script) -> Option<&[(Key, Access)]> {
     match &script.as_slice().first()?.action {
@@ -170,85 +145,4 @@ fn a_bound_precedes_the_keys(rt: HostRuntime) -> Result<(), Fail> {
         assert_eq!(rt; named(&script, 0), Some((key, access)), "{text}");
     }
     Ok(())
-}
-
-fn first_fault(read: Result<Script, ScriptError>) -> Option<(usize, ScriptFault)> {
-    match read {
-        Err(ScriptError::Fault { line, fault }) => Some((line, fault)),
-        _ => None,
-    }
-}
-
-/// Each row is a text, its first faulty line, and the first fault of that line in the order of the faults.
-#[test]
-fn each_fault_is_reported_with_its_line(rt: HostRuntime) {
-    for (text, line, fault) in [
-        ("0 scan", 1, ScriptFault::BadPass),
-        ("65 scan", 1, ScriptFault::BadPass),
-        ("01 scan", 1, ScriptFault::BadPass),
-        ("\t1 scan", 1, ScriptFault::BadPass),
-        (" # no comment", 1, ScriptFault::BadPass),
-        ("1 jump", 1, ScriptFault::BadCall),
-        ("1", 1, ScriptFault::BadCall),
-        ("1 scan\r", 1, ScriptFault::BadCall),
-        ("1 scan now", 1, ScriptFault::BadWords),
-        ("1 open", 1, ScriptFault::BadWords),
-        ("1 open 0", 1, ScriptFault::BadWords),
-        ("1 open 0 1.0", 1, ScriptFault::BadTxn),
-        ("1 open 0 01.0 a b", 1, ScriptFault::BadTxn),
-        ("1 open 7 a:r b:r", 1, ScriptFault::BadTime),
-        ("1 open - 01.0 max=0 a", 1, ScriptFault::BadTime),
-        ("1 open -- 1.0 a:r", 1, ScriptFault::BadTxn),
-        ("1 open 0 1.0 max=0 a", 1, ScriptFault::BadTxn),
-        ("1 acquire - 1.0 a", 1, ScriptFault::BadTxn),
-        ("1 update - 1.0 a", 1, ScriptFault::BadTxn),
-        ("1 finish - a", 1, ScriptFault::BadTxn),
-        ("1 open 7 1.0 max=0 a:r", 1, ScriptFault::BadMax),
-        ("1 open 7 1.0 max=0 a", 1, ScriptFault::BadMax),
-        ("1 open 7 1.0 max=01 a:r", 1, ScriptFault::BadMax),
-        ("1 open 7 1.0 max=4294967296 a:r", 1, ScriptFault::BadMax),
-        ("1 open 7 1.0 max=", 1, ScriptFault::BadMax),
-        ("1 open 7 1.0 max=+5", 1, ScriptFault::BadMax),
-        ("1 open 7 1.0 max=5: a:r", 1, ScriptFault::BadMax),
-        ("1 open 7 1.0 max=5:x", 1, ScriptFault::BadMax),
-        ("1 open 7 1.0 max=5 max=5", 1, ScriptFault::BadAccess),
-        ("1 open 7 1.0 a:r max=5", 1, ScriptFault::BadAccess),
-        ("1 open 7 1.0 max", 1, ScriptFault::BadAccess),
-        ("1 open 7 1.0 max5 a:r", 1, ScriptFault::BadAccess),
-        ("1 open 7 1.0 MAX=5 a:r", 1, ScriptFault::BadAccess),
-        ("1 open 7 1.0 max=5 :r", 1, ScriptFault::BadKey),
-        ("1 open 7 1.0 a:r b", 1, ScriptFault::BadAccess),
-        ("1 open 7 1.0 a:r :w", 1, ScriptFault::BadKey),
-        ("1 open 7 1.0 a:r b:x :r", 1, ScriptFault::BadAccess),
-        ("1 open 7 1.0 a:r :r b:x", 1, ScriptFault::BadKey),
-        ("1 acquire 7 01.0 a", 1, ScriptFault::BadTime),
-        ("1 acquire 7 1.4294967296 a", 1, ScriptFault::BadTime),
-        ("1 open 7 1.0 :r", 1, ScriptFault::BadKey),
-        ("1 open 7 1.0 a", 1, ScriptFault::BadAccess),
-        ("1 finish 18446744073709551616 k", 1, ScriptFault::BadTxn),
-        ("1 acq", 1, ScriptFault::BadCall),
-        ("1 acquire 7 20", 1, ScriptFault::BadWords),
-        (
-            "1 acquire 7 20.0 a\n2 open 8 19.4294967295 a",
-            2,
-            ScriptFault::BadAccess,
-        ),
-        (
-            "1 acquire 7 20.0 a\n2 open 8 19.4294967295 a:",
-            2,
-            ScriptFault::BadAccess,
-        ),
-        (
-            "1 open 1 1.0 kkkkkkkkkkkkkkkkkkkkkkkkkkkkkkkkkkkkkkkkkkkkkkkkkkkkkkkkkkkkkkkkk:r",
-            1,
-            ScriptFault::BadKey,
-        ),
-        (
-            "# 0\n\n1 leave\r\n1 look \x7f\n0 scan",
-            4,
-            ScriptFault::BadKey,
-        ),
-    ] {
-        assert_eq!(rt; first_fault(read(&rt, text)), Some((line, fault)), "{text}");
-    }
 }

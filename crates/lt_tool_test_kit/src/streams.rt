@@ -1,6 +1,5 @@
 //! Which readers and writers do the tests run on?
-//! [`Torn`] and [`Paper`] read and write few bytes at a time and fail once. [`LineEnds`] and [`Expecting`] read
-//! and write long texts without storing them.
+//! [`Torn`] and [`Paper`] read and write few bytes at a time and fail once.
 ghost use Rattle.std.specs.Prelude.{◌≤◌};
 
 use std::io;
@@ -80,57 +79,6 @@ impl Write for Paper {
 
     fn flush(&mut self) -> io::Result<()> {
         Ok(())
-    }
-}
-
-/// A writer that takes everything, and compares it with the expected bytes as they come.
-#[derive(Drop)]
-pub struct Expecting<'a> {
-    rest: &'a [u8],
-    is_other: bool,
-}
-
-impl<'a> Expecting<'a> {
-    /// A writer that has received nothing yet.
-    pub fn new(expected: &'a [u8]) -> Self {
-        Expecting {
-            rest: expected,
-            is_other: false,
-        }
-    }
-
-    /// Whether it received exactly the expected bytes.
-    pub fn has_all(&self) -> bool {
-        !self.is_other && self.rest.is_empty()
-    }
-}
-
-impl Write for Expecting<'_> {
-    fn write(&mut self, buf: &[u8]) -> io::Result<usize> {
-        match self.rest.strip_prefix(buf) {
-            Some(rest) => self.rest = rest,
-            None => self.is_other = true,
-        }
-        Ok(buf.len())
-    }
-
-    fn flush(&mut self) -> io::Result<()> {
-        Ok(())
-    }
-}
-
-/// A reader that gives `left` line ends.
-#[derive(Drop)]
-pub struct LineEnds {
-    pub left: usize,
-}
-
-impl Read for LineEnds {
-    fn read(&mut self, buf: &mut [u8]) -> io::Result<usize> {
-        let n = buf.len().min(self.left);
-        buf[..n].fill(b'\n');
-        self.left -= n;
-        Ok(n)
     }
 }
 

@@ -1,10 +1,10 @@
-//! What do the check and the upgrade of a history write, and how do they end if a stream fails or the text is cut?
+//! What do the check and the upgrade of a history write, and how do they end if a stream fails?
 //! A row of `WORKS` is a job, the version of its text, the text, and what is written for it. The tests play each
-//! row with readers and writers that fail, and with prefixes of the text. Read next `streams` of
-//! `lt_tool_test_kit`, and `histories` for the verdicts on other texts.
-use lt_history::{CheckError, Fault, Report};
+//! row with readers and writers that fail. Read next `streams` of `lt_tool_test_kit`; tools/gate/compare_runs has the verdicts on
+//! other texts.
+use lt_history::{CheckError, Report};
 use lt_tool::{CheckTextError, check_text, upgrade_text};
-use lt_tool_test_kit::streams::{FAULTS_OF_READS, FAULTS_OF_WRITES, LineEnds, Paper, Torn, blank};
+use lt_tool_test_kit::streams::{FAULTS_OF_READS, FAULTS_OF_WRITES, Paper, Torn, blank};
 use std::io::{ErrorKind, Read};
 use std::test::*;
 
@@ -119,93 +119,6 @@ fn writes_that_fail(rt: HostRuntime) {
                     }
                 );
                 assert_eq!(rt; Some(writer.written()), told.as_bytes().get(..held));
-            }
-        }
-    }
-}
-
-/// The longest text that is read, and texts that are too long.
-#[test]
-fn long_texts(rt: HostRuntime) {
-    let header = CheckError::Refused {
-        line: 1,
-        fault: Fault::Header,
-    };
-    for work in [TextJob::Check, TextJob::Upgrade] {
-        for (left, error) in [
-            (16_777_216, CheckTextError::Check(header)),
-            (16_777_217, CheckTextError::TooLong),
-            (usize::MAX, CheckTextError::TooLong),
-        ] {
-            let mut writer = blank(1024, 1024);
-            let readers = [LineEnds { left }, LineEnds { left }];
-            let ended = done(&rt, work, readers, &mut writer);
-            assert_eq!(rt; ended, Err(error));
-            assert_eq!(rt; writer.written(), b"".as_slice());
-        }
-    }
-}
-
-/// The expected result for a prefix of `len` bytes, with `ends` line ends. `is_whole` says whether it ends with a
-/// line end.
-fn ending_of_cut(version: u8, len: usize, ends: usize, is_whole: bool) -> CheckEnding {
-    if len < 8 {
-        return Err(CheckTextError::Check(CheckError::Refused {
-            line: 1,
-            fault: Fault::Header,
-        }));
-    }
-    if is_whole {
-        let steps = ends.saturating_sub(1);
-        return Ok(Report {
-            version,
-            keys: steps.min(1),
-            steps,
-        });
-    }
-    Err(CheckTextError::Check(CheckError::Refused {
-        line: ends.saturating_add(1),
-        fault: Fault::Shape,
-    }))
-}
-
-/// What is written for a prefix of `ends` whole lines, the first line included.
-fn told_of_cut(work: TextJob, prefix: &str, ends: usize) -> &str {
-    match (work, ends) {
-        (TextJob::Upgrade, _) => prefix,
-        (TextJob::Check, 1) => "ok 0 keys 0 steps\n",
-        (TextJob::Check, 2) => "ok 1 keys 1 steps\n",
-        (TextJob::Check, 3) => "ok 1 keys 2 steps\n",
-        (TextJob::Check, _) => LINE,
-    }
-}
-
-/// A text cut inside its first line has a faulty header. A text cut inside a later line has a faulty line there. A
-/// text cut after a line is legal, with the steps so far, and is upgraded that far.
-#[test]
-fn cut_texts(rt: HostRuntime) {
-    for (work, version, text, _) in WORKS {
-        let mut ends: usize = 0;
-        let mut is_whole = false;
-        for len in 0..98 {
-            let mut writer = blank(1024, 1024);
-            let prefix = text.get(..len).unwrap_or("");
-            let ended = done(
-                &rt,
-                work,
-                [prefix.as_bytes(), prefix.as_bytes()],
-                &mut writer,
-            );
-            assert_eq!(rt; ended, ending_of_cut(version, len, ends, is_whole));
-            let written = if is_whole {
-                told_of_cut(work, THREE_STEPS.get(..len).unwrap_or(""), ends)
-            } else {
-                ""
-            };
-            assert_eq!(rt; writer.written(), written.as_bytes());
-            is_whole = text.as_bytes().get(len) == Some(&b'\n');
-            if is_whole {
-                ends = ends.saturating_add(1);
             }
         }
     }

@@ -1,15 +1,14 @@
 //! What does the run of a script write, and how does it end?
-//! Each row of `RUNS` is what the run shows, a script and its whole output; `OTHERWISE` adds options and how the
-//! run ends. Other tables have what a gate is asked and told (`NOTED`) and the prefixes of a script (`FRONTS`).
-//! Read next `gates` and `streams`; `docs/FORMATS.md` explains the texts.
+//! Each row of `RUNS` is what the run shows, a script and its whole output; `NOTED` has what a gate is asked and told.
+//! Read next `gates` and `streams`; `docs/FORMATS.md` explains the texts. tools/gate/compare_runs has other options,
+//! scripts that are cut, and long ones.
 ghost use Rattle.lockrun_words.specs.Options.{AreInRange};
 
-use lt_script::ScriptFault;
 use lt_tool::{Finish, Gate, Options, RunError, run_script, run_script_with};
 use lt_tool_test_kit::gates::{Between, Crossed, GateNotes, GateTold, Late};
 use lt_tool_test_kit::options::options;
-use lt_tool_test_kit::streams::{FAULTS_OF_READS, FAULTS_OF_WRITES, LineEnds, Paper, Torn, blank};
-use std::alloc::{AllocError, Global};
+use lt_tool_test_kit::streams::{FAULTS_OF_READS, FAULTS_OF_WRITES, Paper, Torn, blank};
+use std::alloc::Global;
 use std::io::{ErrorKind, Read};
 use std::process::Abort;
 use std::random::RandomSource;
@@ -178,64 +177,6 @@ const RUNS: [(&'static str, &'static str, &'static str); 32] = [
     ),
 ];
 
-/// What each run shows, its script and its output; its shards, steps, threads and turns; and how it ends.
-const OTHERWISE: [(
-    (&'static str, &'static str, &'static str),
-    (usize, u64, bool, u64),
-    Finish,
-); 6] = [
-    (
-        (
-            "a full history refuses steps, and a refused leave stays on its way",
-            "1 acquire 7 20.0 a\n1 update 7 21.0 a\n1 finish 7 a\n2 open 8 1.0 a:w\n2 leave\n2 scan\n2 open 8 1.0 a:w\n",
-            "1 1 taken\n1 2 raised\n1 3 refused HistoryFull\n2 4 request 1\n2 5 refused HistoryFull\n2 6 refused Leaving\n2 7 busy\nlocks 2\na 1 1 acquire 7 20.0 = taken\na 2 1 update 7 21.0 = raised\n",
-        ),
-        (1, 2, false, 1000000),
-        Finish::Done,
-    ),
-    (
-        (
-            "a history that fills in the middle of a scan",
-            "1 open 5 1.0 a:w b:w c:w d:w\n1 scan\n1 scan\n1 await\n1 leave\n",
-            "1 1 request 1\n1 2 refused HistoryFull\n1 3 refused HistoryFull\n1 4 idle\n1 5 refused HistoryFull\nlocks 2\na 1 1 visit 1.1 5 1.0 w = pass\nb 1 1 visit 1.1 5 1.0 w = pass\nc 1 1 visit 1.1 5 1.0 w = pass\n",
-        ),
-        (1, 3, false, 1000000),
-        Finish::Done,
-    ),
-    (
-        (
-            "a history that is full in the middle of a leave",
-            "1 acquire 7 1.0 b\n2 open 8 1.0 a:w b:w\n2 leave\n2 leave\n2 scan\n2 await\n",
-            "1 1 taken\n2 2 request 1\n2 3 refused HistoryFull\n2 4 refused HistoryFull\n2 5 refused Leaving\n2 6 idle\nlocks 2\na 1 2 leave 1 = absent\nb 1 1 acquire 7 1.0 = taken\n",
-        ),
-        (2, 1, false, 1000000),
-        Finish::Done,
-    ),
-    (
-        (
-            "each shard has room of its own",
-            "1 acquire 7 1.0 a\n1 acquire 7 1.0 b\n1 finish 7 a\n1 finish 7 c\n",
-            "1 1 taken\n1 2 taken\n1 3 refused HistoryFull\n1 4 refused HistoryFull\nlocks 2\na 1 1 acquire 7 1.0 = taken\nb 1 1 acquire 7 1.0 = taken\n",
-        ),
-        (2, 1, false, 1000000),
-        Finish::Done,
-    ),
-    (
-        ("threads at keys of their own", TWO_KEYS, TWO_KEYS_ANSWERED),
-        (4, 1000000, true, 1000000),
-        Finish::Done,
-    ),
-    (
-        (
-            "turns that are used up end a pass",
-            "1 acquire 7 1.0 a\n1 open 8 1.0 a:w\n1 scan\n1 await\n1 leave\n",
-            "1 1 taken\n1 2 request 1\n1 3 waiting a\n1 4 turns\nlocks 2\na 1 1 acquire 7 1.0 = taken\na 2 1 visit 1.1 8 1.0 w = wait\n",
-        ),
-        (4, 1000000, true, 10),
-        Finish::TurnsOut,
-    ),
-];
-
 /// Two passes, each with a key of its own.
 const TWO_KEYS: &str = "1 acquire 7 20.0 a\n2 acquire 8 20.0 b\n1 finish 7 a\n2 finish 8 b\n";
 
@@ -305,43 +246,6 @@ fn scripts_give_their_answers_and_their_steps(rt: HostRuntime) {
             let options = options(shards, 1000000, false, 1000000);
             expect_output(&rt, rt.alloc(), run, at_once, &options, Finish::Done);
         }
-    }
-}
-
-/// The same with other options.
-#[test]
-fn options_are_kept(rt: HostRuntime) {
-    for (run, (shards, steps, threads, turns), finish) in &OTHERWISE {
-        let options = options(*shards, *steps, *threads, *turns);
-        expect_output(&rt, rt.alloc(), run, 1024, &options, *finish);
-    }
-}
-
-/// A script of one line that opens a request with `count` accesses of one key.
-fn many_accesses(alloc: Global, count: usize) -> Result<Vec<u8>, AllocError> {
-    let mut script = Vec::from_slice(alloc, b"1 open 1 1.0")?;
-    for _ in 0..count {
-        script.extend_from_slice(b" a:r")?;
-    }
-    Ok(script)
-}
-
-/// A request has at most 256 accesses, even if they name fewer keys.
-#[test]
-fn a_request_has_up_to_256_accesses(rt: HostRuntime) {
-    for (count, answer) in [
-        (256, "1 1 request 1\nlocks 2\n"),
-        (257, "1 1 refused TooManyKeys\nlocks 2\n"),
-    ] {
-        let mut script = many_accesses(rt.alloc(), count).unwrap_or(Vec::new(rt.alloc()));
-        if script.is_empty() {
-            script = many_accesses(rt.alloc(), count).unwrap_or(Vec::new(rt.alloc()));
-        }
-        let mut writer = blank(1024, 1024);
-        let readers = [script.as_slice(), script.as_slice()];
-        let ended = run_of(&rt, rt.alloc(), readers, &mut writer);
-        assert_eq!(rt; ended, Ok(Finish::Done));
-        assert_eq!(rt; writer.written(), answer.as_bytes());
     }
 }
 
@@ -618,121 +522,6 @@ fn writes_that_fail(rt: HostRuntime) {
                 }
             );
             assert_eq!(rt; Some(writer.written()), ANSWERED.as_bytes().get(..stops_at));
-        }
-    }
-}
-
-/// The longest script that is read, all of whose lines are empty, and scripts that are too long.
-#[test]
-fn long_scripts(rt: HostRuntime) {
-    for (left, ending, written) in [
-        (16_777_216, Ok(Finish::Done), "locks 2\n"),
-        (16_777_217, Err(RunError::TooLong), ""),
-        (usize::MAX, Err(RunError::TooLong), ""),
-    ] {
-        let mut writer = blank(1024, 1024);
-        let ended = run_of(
-            &rt,
-            rt.alloc(),
-            [LineEnds { left }, LineEnds { left }],
-            &mut writer,
-        );
-        assert_eq!(rt; ended, ending);
-        assert_eq!(rt; writer.written(), written.as_bytes());
-    }
-}
-
-/// A reader below the time of a lock, a reader above it, and the finish of the lock.
-const TWO_READERS: &str =
-    "1 acquire 7 20.0 a\n2 open 8 19.4294967295 a:r\n2 scan\n3 open 9 20.1 a:r\n3 scan\n1 finish 7 a\n";
-
-/// The prefixes of `TWO_READERS`: from which length on and before which length they have this fault, or else this
-/// output. The last line of a prefix may lack its line end.
-const FRONTS: [(usize, usize, Option<(usize, ScriptFault)>, &str); 23] = [
-    (0, 1, None, "locks 2\n"),
-    (1, 9, Some((1, ScriptFault::BadCall)), ""),
-    (9, 18, Some((1, ScriptFault::BadWords)), ""),
-    (
-        18,
-        20,
-        None,
-        "1 1 taken\nlocks 2\na 1 1 acquire 7 20.0 = taken\n",
-    ),
-    (20, 25, Some((2, ScriptFault::BadCall)), ""),
-    (25, 29, Some((2, ScriptFault::BadWords)), ""),
-    (29, 32, Some((2, ScriptFault::BadTime)), ""),
-    (
-        32,
-        43,
-        None,
-        "1 1 taken\n2 2 refused NoKeys\nlocks 2\na 1 1 acquire 7 20.0 = taken\n",
-    ),
-    (43, 45, Some((2, ScriptFault::BadAccess)), ""),
-    (
-        45,
-        47,
-        None,
-        "1 1 taken\n2 2 request 1\nlocks 2\na 1 1 acquire 7 20.0 = taken\n",
-    ),
-    (47, 52, Some((3, ScriptFault::BadCall)), ""),
-    (
-        52,
-        54,
-        None,
-        "1 1 taken\n2 2 request 1\n2 3 proceed\nlocks 2\na 1 1 acquire 7 20.0 = taken\na 2 2 visit 1.1 8 19.4294967295 r = pass\n",
-    ),
-    (54, 59, Some((4, ScriptFault::BadCall)), ""),
-    (59, 63, Some((4, ScriptFault::BadWords)), ""),
-    (63, 66, Some((4, ScriptFault::BadTime)), ""),
-    (
-        66,
-        68,
-        None,
-        "1 1 taken\n2 2 request 1\n2 3 proceed\n3 4 refused NoKeys\nlocks 2\na 1 1 acquire 7 20.0 = taken\na 2 2 visit 1.1 8 19.4294967295 r = pass\n",
-    ),
-    (68, 70, Some((4, ScriptFault::BadAccess)), ""),
-    (
-        70,
-        72,
-        None,
-        "1 1 taken\n2 2 request 1\n2 3 proceed\n3 4 request 2\nlocks 2\na 1 1 acquire 7 20.0 = taken\na 2 2 visit 1.1 8 19.4294967295 r = pass\n",
-    ),
-    (72, 77, Some((5, ScriptFault::BadCall)), ""),
-    (
-        77,
-        79,
-        None,
-        "1 1 taken\n2 2 request 1\n2 3 proceed\n3 4 request 2\n3 5 waiting a\nlocks 2\na 1 1 acquire 7 20.0 = taken\na 2 2 visit 1.1 8 19.4294967295 r = pass\na 3 3 visit 2.1 9 20.1 r = wait\n",
-    ),
-    (79, 86, Some((6, ScriptFault::BadCall)), ""),
-    (86, 90, Some((6, ScriptFault::BadWords)), ""),
-    (
-        90,
-        92,
-        None,
-        "1 1 taken\n1 6 freed\n2 2 request 1\n2 3 proceed\n3 4 request 2\n3 5 waiting a\nlocks 2\na 1 1 acquire 7 20.0 = taken\na 2 2 visit 1.1 8 19.4294967295 r = pass\na 3 3 visit 2.1 9 20.1 r = wait\na 4 1 finish 7 = freed let 2.1\n",
-    ),
-];
-
-fn ending_of(fault: Option<(usize, ScriptFault)>) -> RunEnding {
-    match fault {
-        None => Ok(Finish::Done),
-        Some((line, fault)) => Err(RunError::Script { line, fault }),
-    }
-}
-
-/// A script cut inside a line has the fault of the words that are left of that line, or none.
-#[test]
-fn cut_scripts(rt: HostRuntime) {
-    assert_eq!(rt; TWO_READERS.len(), 91);
-    for (first, end, fault, written) in &FRONTS {
-        for len in *first..*end {
-            let mut writer = blank(1024, 1024);
-            let prefix = TWO_READERS.get(..len).unwrap_or("?");
-            let readers = [prefix.as_bytes(), prefix.as_bytes()];
-            let ended = run_of(&rt, rt.alloc(), readers, &mut writer);
-            assert_eq!(rt; ended, ending_of(*fault));
-            assert_eq!(rt; writer.written(), written.as_bytes());
         }
     }
 }
