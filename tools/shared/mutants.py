@@ -2,14 +2,14 @@
 
 A mutant is a file NAME.edit: a line `file: src/..`, and then pairs of lines `old: TEXT` and `new: TEXT`, where the file has each old
 text once. The mutants of crates/CRATE/must-fail are tried by `rt ci`. Those of crates/CRATE/mutants stand by record: the file `refused`
-there has a line for each, with the function whose contract refused it, the clause, and a sum over both and what that verdict depends on:
+there has a line for each, with the function whose contract refused it, the clause, and a sum over both and what the contract means by:
 
 - the mutant itself;
 - the crate's sources and definitions, and the statements of its lemmas. A proof of a lemma is left out: the meaning of a contract
   does not depend on how it is proved;
 - of each crate below it the definitions, and the sources without the bodies of functions: types and contracts.
 
-Comments that have lines of their own are left out everywhere.
+Comments that have lines of their own are left out everywhere, and so is the toolchain.
 """
 
 import functools
